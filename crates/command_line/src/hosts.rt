@@ -1,14 +1,14 @@
 // Where roots and trees are opened.
 ghost use Rattle.std.specs.Prelude.{◌≡◌, ◌≤◌, ◌<◌, ℕ, List, IfOk, IsErrOf, OnErr};
 ghost use Rattle.host_core.specs.Host.{State};
-ghost use Rattle.host_core.specs.declared.fault.HostFault.TheVariants.{Device};
+ghost use Rattle.host_core.specs.declared.fault.HostFault.TheVariants.{Declined, Device};
 ghost use Rattle.command_line.specs.declared.fault.RootFault.TheVariants.{Host as OfHost, Locked};
 
 use crate::fault::RootFault;
 use command_words::{ScriptStreams, TreeOwners};
 use host_core::{Host, HostFault};
 
-/// Opens the root and the trees that words name, and takes them back.
+/// Opens the root and the trees that words name, and takes them back. To open is no step, and isn't declined.
 pub trait Hosts {
     type Opened: Host;
 
@@ -47,6 +47,7 @@ pub trait Hosts {
         ensures seen { (s : State) → seen self.old s → seen self.new s }
         ensures faults { faults self.old ≤ faults self.new }
         ensures cause { IsErrOf result (OfHost Device) → faults self.old < faults self.new }
+        ensures undeclined { IsErrOf result (OfHost Declined) → ⊥ }
         ensures locked { IsErrOf result Locked → locked self.old directory.now };
 
     /// The host for a TREE as it was given. It shows the tree's own owners, whatever they become.
@@ -56,7 +57,8 @@ pub trait Hosts {
         ensures trees { (word : List ℕ) (s : State) → tree self.new word s → tree self.old word s }
         ensures seen { (s : State) → seen self.old s → seen self.new s }
         ensures faults { faults self.old ≤ faults self.new }
-        ensures cause { IsErrOf result Device → faults self.old < faults self.new };
+        ensures cause { IsErrOf result Device → faults self.old < faults self.new }
+        ensures undeclined { IsErrOf result Declined → ⊥ };
 
     /// Takes the host of a root back.
     fn close_root(&mut self, host: Self::Opened)

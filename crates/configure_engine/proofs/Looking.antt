@@ -3,7 +3,7 @@ use Rattle.std.proofs.Common.{◌≡◌, ℕ, IsTrue, true, List, [], ◌∷◌,
 use Rattle.std.specs.Prelude.{Result, Ok, Err, IfOk}
 use Rattle.host_core.specs.World.{World}
 use Rattle.host_core.proofs.Counted.{faults_of-append}
-use Rattle.host_core.specs.Events.{Event, Ran, Did, Finished, Cut, Failed, faults_of, scripts_of}
+use Rattle.host_core.specs.Events.{Event, Ran, Did, Finished, Cut, Failed, Denied, faults_of, scripts_of}
 use Rattle.host_core.specs.Host.{State, AllFailed, AtEachMomentOf, Reads, Silent, faults, finished}
 use Rattle.host_core.specs.Loss.{IsLater}
 use Rattle.host_core.proofs.Moments.{since_reads, since_then, since_weaker_if, silent_then}
@@ -26,6 +26,7 @@ none_failed (Did step ∷ es) all none = absurd all
 none_failed (Finished ran ∷ es) all none = absurd all
 none_failed (Cut call change ∷ es) all none = absurd all
 none_failed (Failed ∷ es) all none = absurd (omega (arith, none))
+none_failed (Denied path ∷ es) all none = absurd all
 
 quiet_failed : (es : List Event) → AllFailed es → scripts_of es ≡ []
 quiet_failed [] all = refl
@@ -33,6 +34,7 @@ quiet_failed (Did step ∷ es) all = absurd all
 quiet_failed (Finished ran ∷ es) all = absurd all
 quiet_failed (Cut call change ∷ es) all = absurd all
 quiet_failed (Failed ∷ es) all = quiet_failed es all
+quiet_failed (Denied path ∷ es) all = absurd all
 
 begun_behind : (P : List Ran → Type 0) (a b c : State) (told now : List Called) → Silent a b → Begun P b c told now → Begun P a c told now
 begun_behind P a b c told now silent begun = record {

@@ -1,16 +1,13 @@
 -- How what holds at each moment of a unit goes on, and a barrier behind it.
-use Rattle.std.proofs.Common.{◌≡◌, inl, inr, ℕ, IsTrue, List, [], ◌∷◌, ◌++◌, Result, Ok, Err, refl, sym, ap, subst, ◌∙◌, append_assoc}
+use Rattle.std.proofs.Common.{◌≡◌, inl, inr, ℕ, List, [], ◌∷◌, ◌++◌, refl, sym, ap, subst, ◌∙◌, append_assoc}
 use Rattle.std.proofs.lemmas.List.{append-nil}
 use Rattle.conffiles.specs.declared.decisions.ConfPolicy.{ConfPolicy}
 use Rattle.configure_engine.specs.Units.{IsAmidUnit as IsAmidConfiguring}
-use Rattle.host_core.specs.Events.{Event, Did, Failed, follow, scripts_of}
-use Rattle.host_core.specs.Host.{State, AllFailed, Does, Happens, Needs, Reads, Silent, Since, Stops}
-use Rattle.host_core.specs.Loss.{IsAnswered, IsOnDisk}
-use Rattle.host_core.proofs.Moments.{ThroughEvent, faults_then, reads_then, scripts_of-append, since_failed, since_fails, since_goes, since_now, since_reads, since_start, since_then, since_weaker}
+use Rattle.host_core.specs.Events.{Event, Did, Failed, scripts_of}
+use Rattle.host_core.specs.Host.{State, AllFailed, Happens, Needs, Reads, Silent, Since}
+use Rattle.host_core.proofs.Moments.{scripts_of-append, since_reads, since_start, since_then, since_weaker}
 use Rattle.host_core.proofs.Scripts.{silent_added}
-use Rattle.host_core.specs.World.{World, Step, Barrier}
-use Rattle.host_core.specs.declared.fault.HostFault.{HostFault}
-use Rattle.host_core.specs.declared.fault.HostFault.TheVariants.{Device, NoMemory, Declined}
+use Rattle.host_core.specs.World.{World, Barrier}
 use Rattle.held_administration.specs.Order.{IsInOrder}
 use Rattle.unit_reports.specs.Held.{Held}
 use Rattle.unit_runs.specs.Turns.{IsStill}
@@ -54,6 +51,7 @@ faults_quiet (Did s ∷ es) all = absurd all
 faults_quiet (Event.Finished ran ∷ es) all = absurd all
 faults_quiet (Event.Cut call change ∷ es) all = absurd all
 faults_quiet (Failed ∷ es) all = faults_quiet es all
+faults_quiet (Event.Denied path ∷ es) all = absurd all
 
 -- only looked
 pub since_still : (s t : State) → Reads s t → Since (IsStill s.world) s t

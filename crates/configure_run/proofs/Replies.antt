@@ -1,18 +1,18 @@
 -- Answers of units, and the faults they count.
 use Rattle.std.specs.Prelude.{MatchBool}
-use Rattle.std.proofs.Common.{◌≡◌, ◌⊎◌, inl, inr, ℕ, ◌+◌, Bool, true, false, List, Option, Some, None, Result, Err, sym, ap, subst, ◌∙◌}
+use Rattle.std.proofs.Common.{◌≡◌, ◌⊎◌, inl, inr, ℕ, Bool, true, false, List, Option, Some, None, Result, Err, sym, subst, ◌∙◌}
 use Rattle.std.proofs.lemmas.Bool.{true≢false}
-use Rattle.host_core.specs.Host.{State, Counts, faults, NoFault}
+use Rattle.host_core.specs.Host.{State, Counts, NoFault}
 use Rattle.host_core.specs.declared.call.Call.{Call}
 use Rattle.host_core.specs.declared.fault.HostFault.{HostFault}
-use Rattle.host_core.specs.declared.fault.HostFault.TheVariants as host
 use Rattle.status_records.specs.declared.record.Record.{Record}
+use Rattle.unit_reports.proofs.Counting.{counts_broken, counts_no_memory, no_memory_not_closed}
 use Rattle.unit_reports.specs.Units.{CountsReply, IsBroken, IsBrokenBy, IsRefusedUnit, breakage_of}
 use Rattle.unit_reports.specs.declared.refusal.Rule.{Rule}
 use Rattle.unit_reports.specs.declared.report.Breakage.{Breakage}
-use Rattle.unit_reports.specs.declared.report.Breakage.TheVariants.{Device, NoMemory, Declined, Closed}
+use Rattle.unit_reports.specs.declared.report.Breakage.TheVariants.{NoMemory, Closed}
 use Rattle.unit_reports.specs.declared.report.Reply.{Reply}
-use Rattle.unit_reports.specs.declared.report.Reply.TheVariants.{Done, Refused, Failed, Broken}
+use Rattle.unit_reports.specs.declared.report.Reply.TheVariants.{Refused, Broken}
 use Rattle.unit_reports.specs.declared.report.Unit.{Unit as AUnit}
 use Rattle.configure_run.specs.Turns.{Answers, reply_to}
 
@@ -44,37 +44,23 @@ either_so so (inr q) = inr (so q)
 
 -- nor is it one that is closed
 
-pub not_closed_by : (reply : Reply) → IsBrokenBy NoMemory reply → IsBrokenBy Closed reply → ⊥
-not_closed_by reply broken closed = let e : Broken NoMemory ≡ Broken Closed = sym broken ∙ closed in cc
-
 reply_not_closed : (name : List ℕ) (failed : Option Call) → IsBrokenBy Closed (reply_to name failed) → ⊥
 reply_not_closed name None closed = cc
 reply_not_closed name (Some call) closed = cc
 
 pub answer_not_closed : (name : List ℕ) (records : List Record) (failed : Option Call) (u : AUnit) → IsBrokenBy NoMemory u.reply ⊎ Answers name records failed u → IsBrokenBy Closed u.reply → ⊥
-answer_not_closed name records failed u (inl broken) closed = not_closed_by u.reply broken closed
+answer_not_closed name records failed u (inl broken) closed = no_memory_not_closed u.reply broken closed
 answer_not_closed name records failed u (inr answers) closed = reply_not_closed name failed (sym answers.replied ∙ closed)
 
 pub refused_not_closed : (rule : Rule) (name : List ℕ) (u : AUnit) → IsBrokenBy NoMemory u.reply ⊎ IsRefusedUnit rule name u → IsBrokenBy Closed u.reply → ⊥
-refused_not_closed rule name u (inl broken) closed = not_closed_by u.reply broken closed
+refused_not_closed rule name u (inl broken) closed = no_memory_not_closed u.reply broken closed
 refused_not_closed rule name u (inr refused) closed = let e : Refused (record { rule = rule; «package» = name }) ≡ Broken Closed = sym refused.reply ∙ closed in cc
-
-breakage_not_closed : (fault : HostFault) → breakage_of fault ≡ Closed → ⊥
-breakage_not_closed host.Device e = cc
-breakage_not_closed host.NoMemory e = cc
-breakage_not_closed host.Declined e = cc
-
-pub fault_not_closed : (fault : HostFault) (reply : Reply) → IsBrokenBy (breakage_of fault) reply → IsBrokenBy Closed reply → ⊥
-fault_not_closed fault reply broken closed = breakage_not_closed fault (let e : Broken (breakage_of fault) ≡ Broken Closed = sym broken ∙ closed in cc)
 
 -- the faults of a unit
 
 counts_reply : (name : List ℕ) (failed : Option Call) (a b : State) → NoFault a b → CountsReply a b (reply_to name failed)
 counts_reply name None a b same = same
 counts_reply name (Some call) a b same = same
-
-pub counts_no_memory : (reply : Reply) (a b : State) → NoFault a b → IsBrokenBy NoMemory reply → CountsReply a b reply
-counts_no_memory reply a b same broken = subst (CountsReply a b) (sym broken) same
 
 pub counts_answered : (name : List ℕ) (records : List Record) (failed : Option Call) (u : AUnit) (a b : State) → NoFault a b → IsBrokenBy NoMemory u.reply ⊎ Answers name records failed u → CountsReply a b u.reply
 counts_answered name records failed u a b same (inl broken) = counts_no_memory u.reply a b same broken
@@ -83,20 +69,6 @@ counts_answered name records failed u a b same (inr answers) = subst (CountsRepl
 pub counts_refused : (rule : Rule) (name : List ℕ) (u : AUnit) (a b : State) → NoFault a b → IsBrokenBy NoMemory u.reply ⊎ IsRefusedUnit rule name u → CountsReply a b u.reply
 counts_refused rule name u a b same (inl broken) = counts_no_memory u.reply a b same broken
 counts_refused rule name u a b same (inr refused) = subst (CountsReply a b) (sym refused.reply) same
-
-counts_fault : (T : Type 0) (fault : HostFault) (a b : State) → Counts {T = T} a b (Err fault) → CountsReply a b (Broken (breakage_of fault))
-counts_fault T host.Device a b counts = counts
-counts_fault T host.NoMemory a b counts = counts
-counts_fault T host.Declined a b counts = counts
-
-pub counts_broken : (T : Type 0) (fault : HostFault) (reply : Reply) (a b : State) → IsBrokenBy (breakage_of fault) reply → Counts {T = T} a b (Err fault) → CountsReply a b reply
-counts_broken T fault reply a b broken counts = subst (CountsReply a b) (sym broken) (counts_fault T fault a b counts)
-
-pub counts_whole : (reply : Reply) (a b : State) → (IsBroken reply → ⊥) → CountsReply a b reply → NoFault a b
-counts_whole (Broken breakage) a b whole counts = absurd (whole tt)
-counts_whole Done a b whole counts = counts
-counts_whole (Refused refusal) a b whole counts = counts
-counts_whole (Failed failure) a b whole counts = counts
 
 pub reply_whole : (name : List ℕ) (failed : Option Call) → IsBroken (reply_to name failed) → ⊥
 reply_whole name None broken = broken

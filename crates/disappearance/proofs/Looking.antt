@@ -3,7 +3,7 @@ use Rattle.std.proofs.Common.{◌≡◌, inl, inr, IsTrue, ℕ, Bool, true, fals
 use Rattle.std.specs.Prelude.{Result, Ok, Err, IfOk, OnOk}
 use Rattle.std.proofs.lemmas.List.{append-nil, append_cancel_left}
 use Rattle.host_core.proofs.Counted.{faults_of-append}
-use Rattle.host_core.specs.Events.{Event, Did, Finished, Cut, Failed, faults_of, scripts_of}
+use Rattle.host_core.specs.Events.{Event, Did, Finished, Cut, Failed, Denied, faults_of, scripts_of}
 use Rattle.host_core.specs.Host.{State, AllFailed, Reads, Silent, Since, faults}
 use Rattle.host_core.specs.Loss.{IsLater}
 use Rattle.host_core.proofs.Moments.{since_reads, since_then, since_weaker_if, silent_then}
@@ -38,6 +38,7 @@ none_failed (Did step ∷ es) all none = absurd all
 none_failed (Finished ran ∷ es) all none = absurd all
 none_failed (Cut call change ∷ es) all none = absurd all
 none_failed (Failed ∷ es) all none = absurd (omega (arith, none))
+none_failed (Denied path ∷ es) all none = absurd all
 
 quiet_failed : (es : List Event) → AllFailed es → scripts_of es ≡ []
 quiet_failed [] all = refl
@@ -45,6 +46,7 @@ quiet_failed (Did step ∷ es) all = absurd all
 quiet_failed (Finished ran ∷ es) all = absurd all
 quiet_failed (Cut call change ∷ es) all = absurd all
 quiet_failed (Failed ∷ es) all = quiet_failed es all
+quiet_failed (Denied path ∷ es) all = absurd all
 
 pub if_ok_both : {T E : Type 0} (result : Result T E) (P R : T → Type 0) (Q : Type 0) → ((x : T) → P x → Q → R x) → IfOk result P → OnOk result Q → IfOk result R
 if_ok_both (Ok x) P R Q so p q = so x p q

@@ -1,19 +1,16 @@
 -- A barrier behind what was done.
 use Rattle.std.specs.Prelude.{OnOk}
-use Rattle.std.proofs.Common.{◌≡◌, ◌⊎◌, inl, inr, true, false, IsTrue, ℕ, nat_eq, arith, length, List, [], ◌∷◌, ◌++◌, Option, Result, Ok, Err, refl, sym, subst, ◌∙◌}
+use Rattle.std.proofs.Common.{◌≡◌, ◌⊎◌, inl, inr, true, false, ℕ, nat_eq, arith, length, List, [], ◌∷◌, ◌++◌, Option, Result, Ok, Err, refl, sym, subst, ◌∙◌}
 use Rattle.std.proofs.lemmas.Bool.{and_parts, eqb-true, true≢false}
-use Rattle.std.proofs.lemmas.List.{append-nil}
 use Rattle.disappearance.specs.declared.losing.Losing.{Losing}
 use Rattle.diversions.specs.declared.entry.Diversion.{Diversion}
 use Rattle.file_lists.specs.declared.paths.PackageList.{PackageList}
-use Rattle.host_core.specs.World.{World, Step, Barrier}
-use Rattle.host_core.specs.Events.{Event, Did, Failed, scripts_of, follow}
-use Rattle.host_core.specs.Host.{State, Does, Happens, Needs, Since, Stops}
+use Rattle.host_core.specs.World.{World, Barrier}
+use Rattle.host_core.specs.Events.{Event, Did, scripts_of}
+use Rattle.host_core.specs.Host.{State, Does, Happens, Needs, Since}
 use Rattle.host_core.specs.Loss.{IsAnswered}
-use Rattle.host_core.proofs.Moments.{ThroughEvent, since_failed, since_fails, since_goes, since_now, since_then}
 use Rattle.host_core.specs.declared.call.Call.{Call}
 use Rattle.host_core.specs.declared.fault.HostFault.{HostFault}
-use Rattle.host_core.specs.declared.fault.HostFault.TheVariants.{Device, NoMemory, Declined}
 use Rattle.status_db.specs.Recorded.{Recorded}
 use Rattle.held_administration.specs.Order.{IsInOrder}
 use Rattle.unit_stages.specs.Holding.{Holding}

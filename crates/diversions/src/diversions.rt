@@ -5,7 +5,7 @@ ghost use Rattle.host_core.specs.Host.{AtEachMoment, Needs, Reads, Silent, Tells
 ghost use Rattle.administration.specs.Fault.{CountsAdministration};
 ghost use Rattle.administration.specs.Files.{NoDirectory};
 ghost use Rattle.administration.specs.Places.{diversions_path};
-ghost use Rattle.administration.specs.declared.fault.AdministrationFault.TheVariants.{Device};
+ghost use Rattle.administration.specs.declared.fault.AdministrationFault.TheVariants.{Device, Declined};
 ghost use Rattle.std.specs.Prelude.{IsErrOf};
 ghost use Rattle.diversions.specs.declared.entry.Diversion.{Diversion as ADiversion};
 ghost use Rattle.diversions.specs.Entries.{IsTable, is_owner, without};
@@ -51,6 +51,7 @@ fn read_file(alloc: Global, path: RootPath, bytes: &[u8]) -> Result<Table, Admin
     ensures reads { IfOk result (λ table. ReadsAs bytes.now table) }
     ensures damage { IfErr result (IsFileDamage bytes.now) }
     ensures device { IsErrOf result Device → ⊥ }
+    ensures declined { IsErrOf result Declined → ⊥ }
 {
     match read_text(alloc, bytes) {
         Ok(table) => Ok(table),
@@ -70,6 +71,7 @@ fn read_node(
     ensures damage { IfErr result (IsNodeDamage node) }
     ensures loose { IfOk result (λ table. NoDirectory node) }
     ensures device { IsErrOf result Device → ⊥ }
+    ensures declined { IsErrOf result Declined → ⊥ }
 {
     match node {
         None => Ok(Table::new(alloc)),

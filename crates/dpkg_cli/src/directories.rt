@@ -1,6 +1,6 @@
 // The directories of the real file system as hosts.
 ghost use Rattle.std.specs.Prelude.{◌≡◌, ◌≤◌, ◌<◌, [], ⊤, IfOk, IsErrOf, OnOk, is_some, true};
-ghost use Rattle.host_core.specs.declared.fault.HostFault.TheVariants.{Device};
+ghost use Rattle.host_core.specs.declared.fault.HostFault.TheVariants.{Declined, Device};
 ghost use Rattle.command_line.specs.declared.fault.RootFault.TheVariants.{Host as OfHost};
 
 use crate::architectures::Architectures;
@@ -29,7 +29,7 @@ pub(crate) struct Directories<'a, D: Disk> {
     line: Line<'a>,
     /// How many trees were opened.
     trees: usize,
-    /// Of the root that was given back, if the device failed there.
+    /// Of the root that was given back, if the device failed there or a step was declined.
     failure: Option<Failure>,
     disk: PhantomData<D>,
 }
@@ -116,13 +116,13 @@ impl<'a, D: Disk> Directories<'a, D> {
         }
     }
 
-    // Tells a person of a fault of the device.
+    // Tells a person of a fault of the device, or of a step that was declined.
     fn tell(&self, failure: &Failure) {
         self.line.clear();
         tell_line(&self.rt, format!(in self.rt.alloc(); "{failure}"));
     }
 
-    /// Tells a person of a fault of the root, behind the program's own lines.
+    /// Tells a person what failed or was declined in the root, behind the program's own lines.
     pub(crate) fn tell_failure(&self) {
         if let Some(failure) = &self.failure {
             self.tell(failure);
@@ -144,20 +144,20 @@ impl<'a, D: Disk> Directories<'a, D> {
         ensures fresh { IfOk result (λ host. host.told.log.notes ≡ []) }
         ensures faults { self.old.faults ≤ self.new.faults }
         ensures cause { IsErrOf result Device → self.old.faults < self.new.faults }
+        ensures undeclined { IsErrOf result Declined → ⊥ }
     {
         if self.faults == u64::MAX {
             return Err(HostFault::NoMemory);
         }
         match FilesHost::open(self.rt, directory) {
             Ok(host) => Ok(host),
-            Err(HostFault::Device) => {
+            Err(HostFault::Device) | Err(HostFault::Declined) => {
                 self.line.clear();
                 tell_why(&self.rt, directory);
                 self.faults += 1;
                 Err(HostFault::Device)
             }
             Err(HostFault::NoMemory) => Err(HostFault::NoMemory),
-            Err(HostFault::Declined) => Err(HostFault::Declined),
         }
     }
 
@@ -166,6 +166,7 @@ impl<'a, D: Disk> Directories<'a, D> {
         ensures locked { OnOk result (is_some self.new.lock ≡ true) }
         ensures faults { self.old.faults ≤ self.new.faults }
         ensures cause { IsErrOf result (OfHost Device) → self.old.faults < self.new.faults }
+        ensures undeclined { IsErrOf result (OfHost Declined) → ⊥ }
     {
         if self.faults == u64::MAX {
             return Err(RootFault::Host(HostFault::NoMemory));
@@ -175,12 +176,15 @@ impl<'a, D: Disk> Directories<'a, D> {
                 self.lock = Some(lock);
                 Ok(())
             }
-            Err(RootFault::Host(HostFault::Device)) => {
+            Err(RootFault::Host(HostFault::Device)) | Err(RootFault::Host(HostFault::Declined)) => {
                 self.faults += 1;
                 Err(RootFault::Host(HostFault::Device))
             }
             Err(RootFault::Host(HostFault::NoMemory)) => {
                 Err(RootFault::Host(HostFault::NoMemory))
+            }
+            Err(RootFault::Host(HostFault::Declined)) => {
+                Err(RootFault::Host(HostFault::Declined))
             }
             Err(RootFault::Locked) => Err(RootFault::Locked),
         }
@@ -192,6 +196,7 @@ impl<'a, D: Disk> Directories<'a, D> {
         ensures fresh { IfOk result (λ host. host.told.log.notes ≡ []) }
         ensures faults { self.old.faults ≤ self.new.faults }
         ensures cause { IsErrOf result Device → self.old.faults < self.new.faults }
+        ensures undeclined { IsErrOf result Declined → ⊥ }
     {
         self.open(directory)
     }

@@ -1,15 +1,14 @@
 -- A barrier behind what was done.
-use Rattle.std.proofs.Common.{◌≡◌, inl, inr, IsTrue, List, [], ◌∷◌, ◌++◌, Option, Some, None, Result, Ok, Err, length, refl, sym, ap, subst, ◌∙◌}
-use Rattle.std.proofs.lemmas.List.{append-nil}
+use Rattle.std.proofs.Common.{◌≡◌, List, [], ◌∷◌, Option, Some, None, Result, length, sym, subst, ◌∙◌}
 use Rattle.administration.specs.Fault.{fault_of}
 use Rattle.administration.specs.declared.fault.AdministrationFault.{AdministrationFault}
 use Rattle.undo_rows.specs.Telling.{Begun}
 use Rattle.host_core.specs.Paths.{Path}
-use Rattle.host_core.specs.World.{World, Step, Barrier}
-use Rattle.host_core.specs.Events.{Event, Ran, Did, Failed, scripts_of, follow, follow_all}
-use Rattle.host_core.specs.Host.{State, Does, Falls, Happens, Needs, Silent, Since, Stops}
-use Rattle.host_core.specs.Loss.{IsAnswered, IsLater, IsOnDisk}
-use Rattle.host_core.proofs.Moments.{ThroughEvent, since_failed, since_fails, since_goes, since_now, since_then, silent_then}
+use Rattle.host_core.specs.World.{World, Barrier}
+use Rattle.host_core.specs.Events.{Ran, Did}
+use Rattle.host_core.specs.Host.{State, Does, Falls, Happens, Needs, Silent, Since}
+use Rattle.host_core.specs.Loss.{IsLater}
+use Rattle.host_core.proofs.Moments.{since_then, silent_then}
 use Rattle.host_core.specs.declared.fault.HostFault.{HostFault}
 use Rattle.host_core.specs.declared.fault.HostFault.TheVariants.{Device, NoMemory, Declined}
 use Rattle.undo_rows.specs.Transcripts.{Ended, MayRun}

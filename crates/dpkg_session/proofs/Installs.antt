@@ -16,7 +16,7 @@ use Rattle.dpkg_session.specs.Installs.{HasGoneOn, HasInstalled, HasInstalledThr
 use Rattle.dpkg_session.specs.Run.{HasRun, HasRunThrough, IsAmidRun, IsRun}
 use Rattle.dpkg_session.specs.declared.report.Candidate.{Candidate}
 use Rattle.dpkg_session.proofs.Outlasting.{answered_then, loses_like, run_answered}
-use Rattle.dpkg_session.proofs.Runs.{counts_from}
+use Rattle.unit_reports.proofs.Counting.{last_from}
 
 -- the moments
 
@@ -46,8 +46,7 @@ tells_first s t first second told empty = tells_both s t t first second told (te
 -- the faults
 
 pub counts_both : (s m t : State) (last : Option AUnit) → CountsLast s m None → CountsLast m t last → CountsLast s t last
-counts_both s m t None first second = second ∙ first
-counts_both s m t (Some u) first second = counts_from u.reply s m t first second
+counts_both s m t last first second = last_from last s m t first second
 
 -- the last unit of the reports
 

@@ -5,7 +5,7 @@ use Rattle.undo_rows.specs.Transcripts.{Ended}
 use Rattle.file_lists.specs.declared.paths.PackageList.{PackageList}
 use Rattle.host_core.specs.Paths.{Path}
 use Rattle.host_core.specs.World.{World}
-use Rattle.host_core.specs.Events.{Event, Did, Finished, Cut, Failed, scripts_of}
+use Rattle.host_core.specs.Events.{Event, Did, Finished, Cut, Failed, Denied, scripts_of}
 use Rattle.host_core.specs.Host.{State, AllFailed, Reads, Silent, Since}
 use Rattle.host_core.proofs.Moments.{scripts_of-append, since_reads, since_then, since_weaker_if, silent_then}
 use Rattle.host_core.proofs.Scripts.{silent_added}
@@ -33,6 +33,7 @@ none_failed (Did step ∷ es) all = elim all [ ]
 none_failed (Finished ran ∷ es) all = elim all [ ]
 none_failed (Cut call change ∷ es) all = elim all [ ]
 none_failed (Failed ∷ es) all = none_failed es all
+none_failed (Denied path ∷ es) all = elim all [ ]
 
 module _ (g : Given) (places : List Path) (s m : State) (reads : Reads s m) (silent : Silent s m) where
   plan_from : (honest : Bool) (plan : Planned) → IsPlanFor g m.world honest plan → IsPlanFor g s.world honest plan

@@ -3,10 +3,8 @@ use Rattle.std.specs.Prelude.{MatchBool, IfSome, length, map, take, drop}
 use Rattle.std.proofs.Common.{◌≡◌, ◌⊎◌, inl, inr, ℕ, Bool, true, false, List, [], ◌∷◌, ◌++◌, Option, Some, None, Result, Ok, Err, IsTrue, refl, sym, ap, subst, ◌∙◌, ◌+◌}
 use Rattle.std.proofs.Math.Seq.{take-append_seam, drop-append_seam}
 use Rattle.std.proofs.lemmas.Bool.{true≢false}
-use Rattle.host_core.specs.Host.{State, Counts, Needs, Since, faults, NoFault}
+use Rattle.host_core.specs.Host.{State, Needs, Since, NoFault}
 use Rattle.host_core.specs.declared.call.Call.{Call}
-use Rattle.host_core.specs.declared.fault.HostFault.{HostFault}
-use Rattle.host_core.specs.declared.fault.HostFault.TheVariants as host
 use Rattle.package_tree.specs.declared.package.Package.{Package}
 use Rattle.package_tree.specs.declared.fault.TreeFault.{TreeFault}
 use Rattle.undo_rows.specs.declared.unwinding.Unwinding.{Unwinding}
@@ -19,14 +17,15 @@ use Rattle.undo_rows.specs.declared.rows.Called.{Called}
 use Rattle.unit_reports.specs.declared.refusal.Rule.{Rule}
 use Rattle.unit_reports.specs.declared.refusal.Rule.TheVariants.{Tree}
 use Rattle.unit_reports.specs.declared.report.Breakage.{Breakage}
-use Rattle.unit_reports.specs.declared.report.Breakage.TheVariants.{Device, NoMemory, Declined, Closed}
+use Rattle.unit_reports.specs.declared.report.Breakage.TheVariants.{NoMemory, Closed}
 use Rattle.dpkg_session.specs.declared.report.Candidate.{Candidate}
 use Rattle.unit_reports.specs.declared.report.Reply.{Reply}
-use Rattle.unit_reports.specs.declared.report.Reply.TheVariants.{Done, Refused, Failed, Broken}
+use Rattle.unit_reports.specs.declared.report.Reply.TheVariants.{Refused, Broken}
 use Rattle.unit_reports.specs.declared.report.Unit.{Unit as AUnit}
 use Rattle.unit_reports.specs.Held.{Held}
 use Rattle.dpkg_session.specs.Run.{HasRun, IsAmidNext, IsBrokenNext, IsRun, RunsUnit}
-use Rattle.unit_reports.specs.Units.{CountsReply, IsRefused, IsRefusedUnit, IsBroken, IsBrokenBy, breakage_of, touched_at}
+use Rattle.unit_reports.proofs.Counting.{no_fault_here}
+use Rattle.unit_reports.specs.Units.{CountsCause, CountsReply, IsRefused, IsRefusedUnit, IsBroken, IsBrokenBy, touched_at}
 use Rattle.unit_reports.specs.declared.report.Touched.{Touched}
 use Rattle.dpkg_session.specs.Refusals.{IsDecisionFor}
 use Rattle.dpkg_session.specs.Touched.{AreDeconfigured, AreOfBoth, AreUnchanged, IsTouchedBeside, deconfigured_among, told_among}
@@ -176,40 +175,15 @@ answer_not_closed name records copies half unwinding failed touched displaced u 
 
 -- the faults of a unit
 
-counts_reply : (name : List ℕ) (unwinding : Option Unwinding) (failed : Option Call) (a b : State) → NoFault a b → CountsReply a b (reply_to name unwinding failed)
-counts_reply name None None a b same = same
-counts_reply name None (Some call) a b same = same
-counts_reply name (Some u) failed a b same = same
+counts_reply : (name : List ℕ) (unwinding : Option Unwinding) (failed : Option Call) (a b : State) → NoFault a b → IfSome unwinding (λ one. CountsCause a b one.failure) → CountsReply a b (reply_to name unwinding failed)
+counts_reply name None None a b same counts = same
+counts_reply name None (Some call) a b same counts = same
+counts_reply name (Some u) failed a b same counts = counts
 
-pub counts_answered : (name : List ℕ) (records : List Record) (copies : List Touched) (half : List (List ℕ)) (unwinding : Option Unwinding) (failed : Option Call) (touched displaced : List (List ℕ)) (u : AUnit) (a b : State) → NoFault a b → IsBrokenBy NoMemory u.reply ⊎ AnswersBoth name records copies half unwinding failed touched displaced u → CountsReply a b u.reply
-counts_answered name records copies half unwinding failed touched displaced u a b same (inl broken) = subst (CountsReply a b) (sym broken) same
-counts_answered name records copies half unwinding failed touched displaced u a b same (inr answers) = subst (CountsReply a b) (sym answers.replied) (counts_reply name unwinding failed a b same)
-
-counts_fault : (T : Type 0) (fault : HostFault) (a b : State) → Counts {T = T} a b (Err fault) → CountsReply a b (Broken (breakage_of fault))
-counts_fault T host.Device a b counts = counts
-counts_fault T host.NoMemory a b counts = counts
-counts_fault T host.Declined a b counts = counts
-
-pub counts_broken : (T : Type 0) (fault : HostFault) (reply : Reply) (a b : State) → IsBrokenBy (breakage_of fault) reply → Counts {T = T} a b (Err fault) → CountsReply a b reply
-counts_broken T fault reply a b broken counts = subst (CountsReply a b) (sym broken) (counts_fault T fault a b counts)
+pub counts_answered : (name : List ℕ) (records : List Record) (copies : List Touched) (half : List (List ℕ)) (unwinding : Option Unwinding) (failed : Option Call) (touched displaced : List (List ℕ)) (u : AUnit) (a b : State) → NoFault a b → IfSome unwinding (λ one. CountsCause a b one.failure) → IsBrokenBy NoMemory u.reply ⊎ AnswersBoth name records copies half unwinding failed touched displaced u → CountsReply a b u.reply
+counts_answered name records copies half unwinding failed touched displaced u a b same counts (inl broken) = subst (CountsReply a b) (sym broken) same
+counts_answered name records copies half unwinding failed touched displaced u a b same counts (inr answers) = subst (CountsReply a b) (sym answers.replied) (counts_reply name unwinding failed a b same counts)
 
 pub counts_refused : (rule : Rule) (name : List ℕ) (u : AUnit) (a : State) → IsRefusedUnit rule name u → CountsReply a a u.reply
-counts_refused rule name u a refused = subst (CountsReply a a) (sym refused.reply) refl
+counts_refused rule name u a refused = subst (CountsReply a a) (sym refused.reply) (no_fault_here a)
 
-pub counts_no_memory : (reply : Reply) (a : State) → IsBrokenBy NoMemory reply → CountsReply a a reply
-counts_no_memory reply a broken = subst (CountsReply a a) (sym broken) refl
-
-pub counts_whole : (reply : Reply) (a b : State) → (IsBroken reply → ⊥) → CountsReply a b reply → NoFault a b
-counts_whole (Broken breakage) a b whole counts = absurd (whole tt)
-counts_whole Done a b whole counts = counts
-counts_whole (Refused refusal) a b whole counts = counts
-counts_whole (Failed failure) a b whole counts = counts
-
-pub counts_from : (reply : Reply) (a m b : State) → NoFault a m → CountsReply m b reply → CountsReply a b reply
-counts_from (Broken Device) a m b same counts = record { once = counts.once ∙ ap (λ n. n + 1) same; last = counts.last }
-counts_from (Broken NoMemory) a m b same counts = counts ∙ same
-counts_from (Broken Declined) a m b same counts = counts ∙ same
-counts_from (Broken Closed) a m b same counts = counts ∙ same
-counts_from Done a m b same counts = counts ∙ same
-counts_from (Refused refusal) a m b same counts = counts ∙ same
-counts_from (Failed failure) a m b same counts = counts ∙ same

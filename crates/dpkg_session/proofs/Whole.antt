@@ -6,7 +6,8 @@ use Rattle.displaced_packages.specs.Displacing.{HasCalled as HasCalledDisplacing
 use Rattle.displaced_packages.specs.Losing.{losing_beside}
 use Rattle.disappearance.specs.declared.losing.Losing.{Losing}
 use Rattle.file_lists.specs.declared.paths.PackageList.{PackageList}
-use Rattle.host_core.specs.Host.{Counts, Needs, Since, State, faults, NoFault}
+use Rattle.host_core.proofs.Counted.{declined_then, no_fault_then}
+use Rattle.host_core.specs.Host.{Counts, Needs, Since, State, NoFault}
 use Rattle.host_core.specs.Paths.{Path}
 use Rattle.host_core.specs.declared.call.Call.{Call}
 use Rattle.host_core.specs.declared.fault.HostFault.{HostFault}
@@ -102,6 +103,6 @@ module _ (p : Package) (beside : Beside) (before : Held) (places : List Path) (r
 -- the faults of both
 
 pub counts_behind : (T U : Type 0) (fault : HostFault) (s m t : State) → NoFault s m → Counts {T = T} m t (Err fault) → Counts {T = U} s t (Err fault)
-counts_behind T U Device s m t same counts = record { once = counts.once ∙ ap (λ n. n + 1) same; last = counts.last }
-counts_behind T U NoMemory s m t same counts = counts ∙ same
-counts_behind T U Declined s m t same counts = counts ∙ same
+counts_behind T U Device s m t same counts = record { once = counts.once ∙ ap (λ n. n + 1) same.faults; last = counts.last }
+counts_behind T U NoMemory s m t same counts = no_fault_then s m t same counts
+counts_behind T U Declined s m t same counts = declined_then s m t same counts

@@ -26,7 +26,7 @@ use Rattle.dpkg_session.specs.declared.asked.Diverting.{Diverting}
 use Rattle.dpkg_session.specs.declared.asked.Undiverting.{Undiverting}
 use Rattle.unit_reports.specs.declared.refusal.Rule.TheVariants.{Divert}
 use Rattle.unit_reports.specs.declared.report.Breakage.{Breakage}
-use Rattle.unit_reports.specs.declared.report.Breakage.TheVariants.{Device, NoMemory, Closed}
+use Rattle.unit_reports.specs.declared.report.Breakage.TheVariants.{Device, NoMemory, Declined, Closed}
 use Rattle.unit_reports.specs.declared.report.Reply.{Reply}
 use Rattle.unit_reports.specs.declared.report.Reply.TheVariants.{Done, Refused}
 use Rattle.unit_reports.specs.declared.report.Report.{Report}
@@ -119,4 +119,5 @@ pub record IsReportOf (u : AUnit) (report : Report) : Type 0 where
 abbrev pub table_breakage : DiversionFault → Breakage
 table_breakage fault.Device = Device
 table_breakage fault.NoMemory = NoMemory
+table_breakage fault.Declined = Declined
 table_breakage fault.Closed = Closed

@@ -10,6 +10,7 @@ use Rattle.host_core.specs.Paths.{Path}
 use Rattle.host_core.specs.World.{World}
 use Rattle.package_tree.specs.declared.fault.TreeFault.{TreeFault}
 use Rattle.package_tree.specs.declared.package.Package.{Package}
+use Rattle.unit_reports.specs.Units.{CountsReply}
 use Rattle.removal_run.specs.Units.{holding_of}
 use Rattle.status_db.specs.Recorded.{Recorded}
 use Rattle.unpack_engine.specs.Units.{IsAmidUnit}
@@ -72,11 +73,12 @@ IsAmidUnitOf auto_deconfigure (Err fault) before old so_far now = now ≡ old
 IsAmidUnitOf auto_deconfigure (Ok p) before old so_far now = IsAmidPackage auto_deconfigure p before old so_far now
 
 -- a unit as the tables say, from one moment of the host to a later one; at each moment between them it is under way, and in
--- the end all of it is on the disk
+-- the end all of it is on the disk; it fails for a declined step of its files only where one was declined in it
 pub record RunsUnit (auto_deconfigure : Bool) (c : Candidate) (before after : Held) (u : AUnit) (s t : State) : Type 0 where
   pub is : IsUnit auto_deconfigure c before after u s t
   pub moments : AtEachMomentOf (IsAmidUnitOf auto_deconfigure c.tree before) s t
   pub answered : IsAnswered s t
+  pub counts : CountsReply s t u.reply
 
 -- unit after unit, each from what the one before it left
 abbrev pub IsRun : Bool → List Candidate → List AUnit → Held → Held → State → State → Type 0

@@ -1,5 +1,5 @@
 // What an unpack displaces behind its commit.
-ghost use Rattle.std.specs.Prelude.{◌≡◌, ℕ, List, [], None, IfOk, OnOk, map};
+ghost use Rattle.std.specs.Prelude.{◌≡◌, ℕ, List, [], None, IfOk, IfSome, OnOk, map};
 ghost use Rattle.host_core.specs.Host.{AtEachMomentOf, Counts, Needs};
 ghost use Rattle.host_core.specs.Loss.{IsOnDisk};
 ghost use Rattle.file_lists.specs.Owners.{places_in};
@@ -12,7 +12,7 @@ ghost use Rattle.held_administration.specs.Order.{IsInOrder};
 ghost use Rattle.unpack_engine.specs.Units.{IsTouched};
 ghost use Rattle.unpack_relations.specs.Checks.{AreApart};
 ghost use Rattle.unit_reports.specs.Held.{held_by};
-ghost use Rattle.unit_reports.specs.Units.{touched_at};
+ghost use Rattle.unit_reports.specs.Units.{CountsCause, touched_at};
 ghost use Rattle.dpkg_session.specs.Run.{IsAmidBeside, IsAmidUnpack};
 ghost use Rattle.dpkg_session.specs.Touched.{AreOfBoth, AreUnchanged, IsTouchedBeside, told_among};
 ghost use Rattle.dpkg_session.specs.Units.{HasCalledBeside, HasCalledWhole, HasUnpackedBeside, HasUnpackedWhole, IsBehind, KnowsRecords, yielding};
@@ -156,6 +156,8 @@ fn unpack_refreshed<H: Host>(
     ensures any_moment { AtEachMomentOf (IsAmidBeside incoming beside.now
         (held_by administration.old diversions.now) administration.old.places) (H.state host.old)
         (H.state host.new) }
+    ensures denied { IfOk result (λ u. IfSome u.unwinding (λ one. CountsCause (H.state host.old)
+        (H.state host.new) one.failure)) }
     ensures counts { Counts (H.state host.old) (H.state host.new) result }
 {
     administration.database.law();
@@ -213,6 +215,8 @@ pub(crate) fn unpack_whole<H: Host>(
         (H.state host.old) (H.state host.new) told.old.items told.new.items }
     ensures any_moment { AtEachMomentOf (IsAmidUnpack incoming beside.now
         (held_by administration.old diversions.now)) (H.state host.old) (H.state host.new) }
+    ensures denied { IfOk result (λ e. IfSome e.unpacked.unwinding (λ one. CountsCause
+        (H.state host.old) (H.state host.new) one.failure)) }
     ensures counts { Counts (H.state host.old) (H.state host.new) result }
 {
     match unpack_refreshed(

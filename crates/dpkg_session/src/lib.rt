@@ -32,7 +32,8 @@
 //! and no other session answers that it is closed (`not_closed`).
 //!
 //! A unit is broken off for a device fault exactly where the device failed, once and as the last
-//! thing done (`counts`). A unit that was carried out, and an opening, are brought to the disk
+//! thing done; where it is broken off by a declined step, or fails for one of its files, a step was
+//! declined in it (`counts`). A unit that was carried out, and an opening, are brought to the disk
 //! before they are answered, by the host's barrier as the last thing done (`on_disk`; in a run each
 //! unit only looked or is on the disk, `RunsUnit.answered`).
 //!

@@ -1,5 +1,5 @@
 // The unpack of a package beside others, brought to the disk.
-ghost use Rattle.std.specs.Prelude.{◌≡◌, IfOk, OnOk};
+ghost use Rattle.std.specs.Prelude.{◌≡◌, IfOk, IfSome, OnOk};
 ghost use Rattle.host_core.specs.Host.{AtEachMomentOf, Counts, Needs, Reads, Silent};
 ghost use Rattle.host_core.specs.Loss.{IsOnDisk};
 ghost use Rattle.held_administration.specs.Open.{CanWrite};
@@ -9,6 +9,7 @@ ghost use Rattle.unpack_engine.specs.Others.{AreOthers};
 ghost use Rattle.unpack_engine.specs.Units.{HasCalled, HasFailedFor, HasUnpacked, IsAmidUnit, IsTouched};
 ghost use Rattle.unpack_relations.specs.Checks.{AreApart};
 ghost use Rattle.unit_reports.specs.Held.{held_by};
+ghost use Rattle.unit_reports.specs.Units.{CountsCause};
 ghost use Rattle.dpkg_session.specs.Run.{IsAmidBeside};
 ghost use Rattle.dpkg_session.specs.Units.{HasCalledBeside, HasUnpackedBeside, HaveRows, given_by, yielding};
 
@@ -82,6 +83,8 @@ fn unpack_to_disk<H: Host>(
     ensures any_moment { AtEachMomentOf (IsAmidUnit
         (given_by incoming (held_by administration.old diversions.now) others.packages.items
         others.yields) administration.old.places) (H.state host.old) (H.state host.new) }
+    ensures denied { IfOk result (λ u. IfSome u.unwinding (λ one. CountsCause (H.state host.old)
+        (H.state host.new) one.failure)) }
     ensures counts { Counts (H.state host.old) (H.state host.new) result }
 {
     match unpack(host, administration, diversions, incoming, others, told) {
@@ -121,6 +124,8 @@ pub(crate) fn unpack_beside<H: Host>(
     ensures any_moment { AtEachMomentOf (IsAmidBeside incoming beside.now
         (held_by administration.old diversions.now) administration.old.places) (H.state host.old)
         (H.state host.new) }
+    ensures denied { IfOk result (λ u. IfSome u.unwinding (λ one. CountsCause (H.state host.old)
+        (H.state host.new) one.failure)) }
     ensures counts { Counts (H.state host.old) (H.state host.new) result }
 {
     match others_beside(

@@ -5,6 +5,7 @@ ghost use Rattle.host_core.specs.Host.{Needs};
 ghost use Rattle.host_core.specs.Looks.{Looks};
 ghost use Rattle.package_files.specs.Files.{Each};
 ghost use Rattle.package_files.specs.Free.{IsSeen};
+ghost use Rattle.undo_rows.specs.Place.{is_declined};
 ghost use Rattle.file_check.specs.Index.{AllOutside};
 ghost use Rattle.file_check.specs.Sound.{AreSound, IsFaultOf, IsFirstOf, IsSound};
 
@@ -36,6 +37,7 @@ fn check_one<H: Host>(
         (H.state host.old) (H.state host.new) }
     ensures apart { IfOk result
         (λ found. IfNone found (contains_text index.now.twice shipped.now.place ≡ false)) }
+    ensures undeclined { IfOk result (λ found. is_declined found ≡ false) }
 {
     shipped.place.law();
     let above = look_above(alloc, host, &index.made, shipped.place.as_str())?;
@@ -61,6 +63,7 @@ pub(crate) fn check_each<H: Host>(
         (H.state host.old) (H.state host.new) }
     ensures apart { IfOk result
         (λ found. IfNone found (AllOutside (contains_text index.now.twice) works.now)) }
+    ensures undeclined { IfOk result (λ found. is_declined found ≡ false) }
 {
     for one in works {
         if let Some(fault) = check_one(alloc, host, owning, index, one)? {

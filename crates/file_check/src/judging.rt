@@ -1,6 +1,7 @@
 // The first fault of a path, by what was seen.
-ghost use Rattle.std.specs.Prelude.{◌≡◌, IfOk, option_copied};
+ghost use Rattle.std.specs.Prelude.{◌≡◌, false, IfOk, option_copied};
 ghost use Rattle.std.specs.BTreeSet.{contains_text};
+ghost use Rattle.undo_rows.specs.Place.{is_declined};
 ghost use Rattle.file_check.specs.Clashes.{clash_by};
 ghost use Rattle.file_check.specs.Sound.{fault_by};
 ghost use Rattle.file_check.specs.Targets.{diversion_to};
@@ -26,8 +27,9 @@ fn first_fault(
     clash: Option<Text>,
     diversion: Option<&Diversion>,
 ) -> Result<Option<StepFault>, AllocError>
-    ensures { IfOk result
+    ensures first { IfOk result
         (λ found. found ≡ fault_by path.now above way clash (option_copied diversion.entry)) }
+    ensures undeclined { IfOk result (λ found. is_declined found ≡ false) }
 {
     match (above, way, clash, diversion) {
         (Above::Link, _, _, _) => Ok(Some(StepFault::LinkParent(path.copy()?))),
@@ -53,11 +55,12 @@ pub(crate) fn judge(
     above: Above,
     sight: Sight,
 ) -> Result<Option<StepFault>, AllocError>
-    ensures { IfOk result
+    ensures first { IfOk result
         (λ found. found
         ≡ fault_by shipped.now.path above (in_way_by shipped.now shipped.now.had sight)
         (clash_by owning.now (contains_text twice.now) shipped.now sight.place)
         (diversion_to owning.now shipped.now)) }
+    ensures undeclined { IfOk result (λ found. is_declined found ≡ false) }
 {
     let clash = clash_of(alloc, owning, twice, shipped, sight.place)?;
     let way = is_in_way(shipped, sight);

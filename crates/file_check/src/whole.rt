@@ -1,11 +1,12 @@
 // The first step fault of the files of a package, or none.
-ghost use Rattle.std.specs.Prelude.{◌≡◌, IfOk, IfNone, IfSome, MatchOption};
+ghost use Rattle.std.specs.Prelude.{◌≡◌, false, IfOk, IfNone, IfSome, MatchOption};
 ghost use Rattle.std.specs.List.{IsDistinct};
 ghost use Rattle.host_core.specs.Host.{Needs, Tells};
 ghost use Rattle.host_core.specs.Looks.{Looks};
 ghost use Rattle.package_files.specs.Files.{Each};
 ghost use Rattle.package_files.specs.Free.{IsFreeIn, IsSeen};
 ghost use Rattle.package_files.specs.Names.{IsHomed, IsNamed};
+ghost use Rattle.undo_rows.specs.Place.{is_declined};
 ghost use Rattle.file_check.specs.Clashes.{owning};
 ghost use Rattle.file_check.specs.Ready.{is_one_place, IsFitting, IsSameBut};
 ghost use Rattle.file_check.specs.Sound.{AllSound, IsFirstFault};
@@ -35,6 +36,7 @@ fn check_seen<H: Host>(
         MatchOption found (AllSound owning.now works.now w) (IsFirstFault owning.now works.now w))
         (H.state host.old) (H.state host.new) }
     ensures distinct { IfOk result (λ found. IfNone found (IsDistinct is_one_place works.now)) }
+    ensures undeclined { IfOk result (λ found. is_declined found ≡ false) }
 {
     let index = Index::of_works(alloc, works)?;
     check_each(alloc, host, owning, &index, works)
@@ -65,6 +67,7 @@ pub fn check<H: Host>(
         w))
         (H.state host.old) (H.state host.new) }
     ensures distinct { IfOk result (λ found. IfNone found (IsDistinct is_one_place works.new)) }
+    ensures undeclined { IfOk result (λ found. is_declined found ≡ false) }
     ensures looks { Looks result
         (λ found w. IfSome found
         (IsFirstFault (owning diversions.now.entries lists.now.lists yields.now incoming.now)

@@ -1,5 +1,5 @@
 -- What the calls of the system that were made so far say of a step's answer.
-use Rattle.std.proofs.Common.{◌≡◌, ◌≢◌, ℕ, inr, Option, Some, None, List, [], ◌∷◌, ◌++◌, Result, Ok, Err, IfErr, sym, ap, subst, ◌∙◌}
+use Rattle.std.proofs.Common.{◌≡◌, ◌≢◌, ◌⊎◌, ℕ, inl, inr, Option, Some, None, List, [], ◌∷◌, ◌++◌, Result, Ok, Err, IfErr, refl, sym, ap, subst, ◌∙◌, append_assoc}
 use Rattle.std.proofs.lemmas.Bool.{false≢true}
 use Rattle.std.proofs.lemmas.List.{append-nil}
 use Rattle.std.specs.Fs.{metadata_mode}
@@ -7,37 +7,97 @@ use Rattle.std.specs.Option.{IsSome}
 use Rattle.std.specs.Result.{IsErr}
 use Rattle.std.specs.declared.fs.Metadata.{Metadata}
 use Rattle.host_core.specs.declared.fault.HostFault.{HostFault}
-use Rattle.host_core.specs.declared.fault.HostFault.TheVariants.{Device, NoMemory}
+use Rattle.host_core.specs.declared.fault.HostFault.TheVariants.{Device, NoMemory, Declined}
+use Rattle.host_files.specs.Faults.{IsOfStep, IsUndeclined}
 use Rattle.host_files.specs.SystemCalls.{changes_in, look_call}
-use Rattle.host_files.specs.Shown.{Adds, IsAnsweredBy, HasRenamed, IsRenaming}
+use Rattle.host_files.specs.Shown.{Adds, AddsFirst, IsAnsweredBy, IsAsked, IsBegun, IsMakingBy, IsNotMade, IsTakenAway, IsUnmade, HasRenamed, IsRenamedBy, IsRenaming}
 use Rattle.host_files.specs.declared.trace.SystemCall.{SystemCall}
 use Rattle.host_files.specs.declared.trace.SystemCall.TheVariants.{Unlink}
 
-abbrev IsDevice : HostFault → Type 0
-IsDevice Device = Unit {0}
-IsDevice NoMemory = ⊥
+-- nothing was changed, so that all the changes are to come
+begun_none : (changing : List SystemCall → Type 0) (later made : List SystemCall) → changing later → changes_in made ≡ [] → IsBegun changing made
+begun_none changing later made changes none = (later, subst changing (sym (ap (λ (l : List SystemCall). later ++ l) none ∙ append-nil later)) changes)
 
 -- a step that failed before it changed anything
-pub not_begun : {T : Type 0} (done changing : List SystemCall → Type 0) (later made : List SystemCall) (result : Result T HostFault) → IsErr result → changing later → changes_in made ≡ [] → IsAnsweredBy done changing made result
-not_begun done changing later made (Ok x) failed changes none = absurd (false≢true failed)
-not_begun done changing later made (Err Device) failed changes none = (later, subst changing (sym (ap (λ (l : List SystemCall). later ++ l) none ∙ append-nil later)) changes)
-not_begun done changing later made (Err NoMemory) failed changes none = none
+pub not_begun : {T : Type 0} (done changing declined : List SystemCall → Type 0) (later made : List SystemCall) (result : Result T HostFault) → IsErr result → IfErr result IsUndeclined → changing later → changes_in made ≡ []
+    → IsAnsweredBy done (IsBegun changing) declined made result
+not_begun done changing declined later made (Ok x) failed look changes none = absurd (false≢true failed)
+not_begun done changing declined later made (Err Device) failed look changes none = begun_none changing later made changes none
+not_begun done changing declined later made (Err NoMemory) failed look changes none = none
+not_begun done changing declined later made (Err Declined) failed look changes none = absurd look
+
+-- the same of something that is made
+pub not_made : {T : Type 0} (first undo : SystemCall) (changes made : List SystemCall) (result : Result T HostFault) → IsErr result → IfErr result IsUndeclined → changes_in made ≡ [] → IsMakingBy first undo changes made result
+not_made first undo changes made (Ok x) failed look none = absurd (false≢true failed)
+not_made first undo changes made (Err Device) failed look none = inl (begun_none (λ all. all ≡ changes) changes made refl none)
+not_made first undo changes made (Err NoMemory) failed look none = none
+not_made first undo changes made (Err Declined) failed look none = absurd look
 
 -- one that asked for all that it changes, whose last call ended so
-pub all_asked : {T : Type 0} (done changing : List SystemCall → Type 0) (made : List SystemCall) (result : Result T HostFault) → IfErr result (λ fault. fault ≡ Device) → done made → changing (changes_in made) → IsAnsweredBy done changing made result
-all_asked done changing made (Ok x) device is changes = is
-all_asked done changing made (Err Device) device is changes = ([], changes)
-all_asked done changing made (Err NoMemory) device is changes = absurd (subst IsDevice (sym device) tt)
+pub all_asked : {T : Type 0} (done changing : List SystemCall → Type 0) (made : List SystemCall) (result : Result T HostFault) → IfErr result IsOfStep → done made → changing (changes_in made)
+    → IsAnsweredBy done (IsBegun changing) (IsAsked changing) made result
+all_asked done changing made (Ok x) step is changes = is
+all_asked done changing made (Err Device) step is changes = ([], changes)
+all_asked done changing made (Err NoMemory) step is changes = absurd step
+all_asked done changing made (Err Declined) step is changes = changes
 
--- some of the changes were made, and then the device failed
-pub adds_some : {T : Type 0} (later changes old new : List SystemCall) (result : Result T HostFault) → IsErr result → IfErr result (λ fault. fault ≡ Device) → later ++ changes_in new ≡ changes ++ changes_in old → Adds changes old new result
-adds_some later changes old new (Ok x) failed device some = absurd (false≢true failed)
-adds_some later changes old new (Err Device) failed device some = (later, some)
-adds_some later changes old new (Err NoMemory) failed device some = absurd (subst IsDevice (sym device) tt)
+-- what makes it was asked for, and ended so
+pub first_asked : {T : Type 0} (first undo : SystemCall) (rest made : List SystemCall) (result : Result T HostFault) → IsErr result → IfErr result IsOfStep → changes_in made ≡ first ∷ []
+    → IsMakingBy first undo (rest ++ first ∷ []) made result
+first_asked first undo rest made (Ok x) failed step is = absurd (false≢true failed)
+first_asked first undo rest made (Err Device) failed step is = inl (rest, ap (λ (l : List SystemCall). rest ++ l) is)
+first_asked first undo rest made (Err NoMemory) failed step is = absurd step
+first_asked first undo rest made (Err Declined) failed step is = inl is
+
+-- some of the changes were made, and then one failed or was declined
+pub adds_some : {T : Type 0} (later more changes old new : List SystemCall) (result : Result T HostFault) → IsErr result → IfErr result IsOfStep → changes ≡ later ++ more → changes_in new ≡ more ++ changes_in old → Adds changes old new result
+adds_some later more changes old new (Ok x) failed step all some = absurd (false≢true failed)
+adds_some later more changes old new (Err Device) failed step all some = (later, more, all, some)
+adds_some later more changes old new (Err NoMemory) failed step all some = absurd step
+adds_some later more changes old new (Err Declined) failed step all some = (later, more, all, some)
+
+-- Something was made, and then this was added.
+
+more_made : (first : SystemCall) (rest later more : List SystemCall) → rest ≡ later ++ more → rest ++ first ∷ [] ≡ later ++ (more ++ first ∷ [])
+more_made first rest later more is = ap (λ (l : List SystemCall). l ++ first ∷ []) is ∙ append_assoc later more (first ∷ [])
+
+first_behind : (call : SystemCall) (rest older old new : List SystemCall) → changes_in old ≡ call ∷ changes_in older → AddsFirst rest old new → AddsFirst (rest ++ call ∷ []) older new
+first_behind call rest older old new is adds =
+    (adds.0, adds.1 ++ call ∷ [], more_made call rest adds.0 adds.1 adds.2, adds.3 ∙ ap (λ (l : List SystemCall). adds.1 ++ l) is ∙ sym (append_assoc adds.1 (call ∷ []) (changes_in older)))
+
+-- what was added behind one call was added with it
+pub adds_behind : {T : Type 0} (call : SystemCall) (rest older old new : List SystemCall) (result : Result T HostFault) → changes_in old ≡ call ∷ changes_in older → IfErr result IsOfStep → Adds rest old new result → Adds (rest ++ call ∷ []) older new result
+adds_behind call rest older old new (Ok x) is step adds = adds ∙ ap (λ (l : List SystemCall). rest ++ l) is ∙ sym (append_assoc rest (call ∷ []) (changes_in older))
+adds_behind call rest older old new (Err Device) is step adds = first_behind call rest older old new is adds
+adds_behind call rest older old new (Err NoMemory) is step adds = absurd step
+adds_behind call rest older old new (Err Declined) is step adds = first_behind call rest older old new is adds
+
+-- the first of them were made where one failed or was declined
+pub adds_first : {T : Type 0} (rest old new : List SystemCall) (fault : HostFault) → IsOfStep fault → Adds {T = T} rest old new (Err fault) → AddsFirst rest old new
+adds_first rest old new Device step adds = adds
+adds_first rest old new NoMemory step adds = absurd step
+adds_first rest old new Declined step adds = adds
+
+-- a part of it failed
+pub made_some : (first undo : SystemCall) (rest old new : List SystemCall) → changes_in old ≡ first ∷ [] → AddsFirst rest old new → IsUnmade first undo (rest ++ first ∷ []) new
+made_some first undo rest old new is adds =
+    inl (adds.0, sym (more_made first rest adds.0 adds.1 adds.2 ∙ ap (λ (l : List SystemCall). adds.0 ++ l) (sym (adds.3 ∙ ap (λ (l : List SystemCall). adds.1 ++ l) is))))
+
+-- it was taken away
+pub taken_away : (first undo : SystemCall) (rest old new made : List SystemCall) → changes_in old ≡ first ∷ [] → AddsFirst rest old new → changes_in made ≡ undo ∷ changes_in new → IsTakenAway first undo (rest ++ first ∷ []) made
+taken_away first undo rest old new made is adds taken =
+    (adds.0, adds.1, ap (λ (l : List SystemCall). l ++ first ∷ []) adds.2, taken ∙ ap (λ (l : List SystemCall). undo ∷ l) (adds.3 ∙ ap (λ (l : List SystemCall). adds.1 ++ l) is))
+
+-- and the last call of that ended so
+pub unmade : {T : Type 0} (first undo : SystemCall) (rest old new made : List SystemCall) (fault : HostFault) → IsOfStep fault → changes_in old ≡ first ∷ [] → AddsFirst rest old new → changes_in made ≡ undo ∷ changes_in new
+    → IsMakingBy first undo (rest ++ first ∷ []) {T = T} made (Err fault)
+unmade first undo rest old new made Device step is adds taken = inr (taken_away first undo rest old new made is adds taken)
+unmade first undo rest old new made NoMemory step is adds taken = absurd step
+unmade first undo rest old new made Declined step is adds taken = inr (taken_away first undo rest old new made is adds taken)
 
 -- the former of two names of one file was removed
 pub former_removed : {T : Type 0} (from to : List ℕ) (over : Option Metadata) (before made : List SystemCall) (result : Result T HostFault) → from ≢ to → IsSome over → changes_in before ≡ []
-    → made ≡ Unlink from ∷ look_call to over ∷ before → IfErr result (λ fault. fault ≡ Device) → IsAnsweredBy (HasRenamed from to) (IsRenaming from to) made result
-former_removed from to (Some found) before made result apart there none is device = all_asked (HasRenamed from to) (IsRenaming from to) made result device
+    → made ≡ Unlink from ∷ look_call to over ∷ before → IfErr result IsOfStep → IsRenamedBy from to made result
+former_removed from to (Some found) before made result apart there none is step = all_asked (HasRenamed from to) (IsRenaming from to) made result step
     (inr (apart, (metadata_mode found, (before, none, is)))) (inr (ap changes_in is ∙ ap (λ (l : List SystemCall). Unlink from ∷ l) none, apart))
-former_removed from to None before made result apart there none is device = absurd (false≢true there)
+former_removed from to None before made result apart there none is step = absurd (false≢true there)

@@ -2,20 +2,22 @@
 use Rattle.std.proofs.Common.{◌≡◌, ◌⊎◌, inl, inr, Bool, true, false, ◌&&◌, IsTrue, List, [], ◌∷◌, ◌++◌, Option, Some, None, Result, Ok, Err, OnOk, refl, sym, ap, subst, ◌∙◌, append_assoc}
 use Rattle.std.proofs.lemmas.Bool.{false≢true}
 use Rattle.std.proofs.lemmas.List.{append-nil}
-use Rattle.host_core.specs.World.{Step, IsPart, is_kept}
-use Rattle.host_core.specs.Events.{Event, Did, Finished, Cut, Failed}
+use Rattle.host_core.specs.World.{Step, Write, Move, Take, MakeDir, RemoveDir, HardLink, MakeLink, Sync, Barrier, IsPart, is_kept, undo_of}
+use Rattle.host_core.specs.Events.{Event, Did, Finished, Cut, Failed, Denied}
 use Rattle.host_core.specs.Unsynced.{IsSettled, KeepsSettled}
 use Rattle.host_core.proofs.Losses.{settled_none, settled_event, keeps_part}
-use Rattle.host_core.specs.Host.{Same, Happens, Reads, Silent, Counts, Stops, Does, Runs, faults}
-use Rattle.host_core.proofs.Counted.{has_failed, silent_failed, silent_same}
+use Rattle.host_core.specs.Host.{Same, Happens, Reads, Silent, Counts, Stops, Declines, Does, Runs, faults}
+use Rattle.host_core.proofs.Counted.{has_failed, no_fault_same, silent_failed, silent_same}
 use Rattle.host_core.specs.declared.call.Call.{Call}
 use Rattle.host_core.specs.declared.call.Outcome.{Outcome}
 use Rattle.host_core.specs.declared.fault.HostFault.{HostFault}
 use Rattle.host_core.specs.declared.fault.HostFault.TheVariants.{Device, NoMemory}
+use Rattle.host_core.specs.declared.fault.HostFault.TheVariants as fault
+use Rattle.host_files.specs.Faults.{IsUndeclined}
 use Rattle.host_files.specs.declared.record.Asked.{Asked}
 use Rattle.host_files.specs.declared.record.Noted.{Noted}
-use Rattle.host_files.specs.declared.record.Noted.TheVariants.{Looked, Seen, Listed, Done, Undone, Ended, Broke, Missed}
-use Rattle.host_files.specs.Replay.{Model, IsSound, IsLeftOf, IsOwed, replay, events_of, failing, step_of}
+use Rattle.host_files.specs.declared.record.Noted.TheVariants.{Looked, Seen, Listed, Done, Undone, Declined, Ended, Broke, Missed}
+use Rattle.host_files.specs.Replay.{Model, IsSound, IsLeftOf, IsTakenBack, IsOwed, replay, events_of, failing, declining, step_of, path_of}
 use Rattle.host_core.specs.Host.{ran_of}
 
 pub honest_before : (a b : Bool) → IsTrue (a && b) → IsTrue b
@@ -35,17 +37,20 @@ module _ (m : Model) where
 
   -- looking at something that failed
 
-  pub silent_missed : (fault : HostFault) (old new : List Noted) → (fault ≡ Device → new ≡ Missed ∷ old) → (fault ≡ NoMemory → new ≡ old) → Silent (replay m old) (replay m new)
-  silent_missed Device old new device memory = silent_failed (replay m old) (replay m new) (one Missed old new (device refl))
-  silent_missed NoMemory old new device memory = silent_same (replay m old) (replay m new) (none old new (memory refl))
+  pub silent_missed : (fault : HostFault) (old new : List Noted) → IsUndeclined fault → (fault ≡ Device → new ≡ Missed ∷ old) → (fault ≡ NoMemory → new ≡ old) → Silent (replay m old) (replay m new)
+  silent_missed Device old new is device memory = silent_failed (replay m old) (replay m new) (one Missed old new (device refl))
+  silent_missed NoMemory old new is device memory = silent_same (replay m old) (replay m new) (none old new (memory refl))
+  silent_missed fault.Declined old new is device memory = absurd is
 
-  pub counts_missed : (T : Type 0) (fault : HostFault) (old new : List Noted) → (fault ≡ Device → new ≡ Missed ∷ old) → (fault ≡ NoMemory → new ≡ old) → Counts {T = T} (replay m old) (replay m new) (Err fault)
-  counts_missed T Device old new device memory = has_failed [] (replay m old) (replay m new) refl (one Missed old new (device refl))
-  counts_missed T NoMemory old new device memory = ap (λ l. faults (replay m l)) (memory refl)
+  pub counts_missed : (T : Type 0) (fault : HostFault) (old new : List Noted) → IsUndeclined fault → (fault ≡ Device → new ≡ Missed ∷ old) → (fault ≡ NoMemory → new ≡ old) → Counts {T = T} (replay m old) (replay m new) (Err fault)
+  counts_missed T Device old new is device memory = has_failed [] (replay m old) (replay m new) refl (one Missed old new (device refl))
+  counts_missed T NoMemory old new is device memory = no_fault_same (replay m old) (replay m new) (ap (λ l. (replay m l).events) (memory refl))
+  counts_missed T fault.Declined old new is device memory = absurd is
 
-  pub reads_missed : (fault : HostFault) (old new : List Noted) → (fault ≡ Device → new ≡ Missed ∷ old) → (fault ≡ NoMemory → new ≡ old) → Reads (replay m old) (replay m new)
-  reads_missed Device old new device memory = let goes = one Missed old new (device refl) in record { honest = goes.honest; world = goes.world; added = Failed ∷ []; failed = tt; events = goes.events }
-  reads_missed NoMemory old new device memory = let same = none old new (memory refl) in record { honest = same.honest; world = same.world; added = []; failed = tt; events = same.events ∙ sym (append-nil (replay m old).events) }
+  pub reads_missed : (fault : HostFault) (old new : List Noted) → IsUndeclined fault → (fault ≡ Device → new ≡ Missed ∷ old) → (fault ≡ NoMemory → new ≡ old) → Reads (replay m old) (replay m new)
+  reads_missed Device old new is device memory = let goes = one Missed old new (device refl) in record { honest = goes.honest; world = goes.world; added = Failed ∷ []; failed = tt; events = goes.events }
+  reads_missed NoMemory old new is device memory = let same = none old new (memory refl) in record { honest = same.honest; world = same.world; added = []; failed = tt; events = same.events ∙ sym (append-nil (replay m old).events) }
+  reads_missed fault.Declined old new is device memory = absurd is
 
   module _ (sound : IsSound m) where
     -- a step of which Device was told
@@ -55,19 +60,29 @@ module _ (m : Model) where
         (λ h. subst (IsLeftOf (step_of a)) is (sound.answers (Undone a) old (subst (λ l. IsTrue (replay m l).honest) noted h)))
         (subst (λ o. Happens (failing o) (replay m old) (replay m new)) is (one (Undone a) old new noted))
 
+    -- a step that was declined
+    declines : (a : Asked) (old new : List Noted) (left : Option _) → m.left old ≡ left → new ≡ Declined a ∷ old → Declines (step_of a) (replay m old) (replay m new)
+    declines a old new None is noted =
+        Declines.nothing (path_of a) (subst (λ o. Happens (declining a o) (replay m old) (replay m new)) is (one (Declined a) old new noted))
+    declines a old new (Some t) is noted = Declines.undone (path_of a) t
+        (λ h. subst (IsTakenBack (step_of a) (replay m old).world) is (sound.answers (Declined a) old (subst (λ l. IsTrue (replay m l).honest) noted h)))
+        (subst (λ o. Happens (declining a o) (replay m old) (replay m new)) is (one (Declined a) old new noted))
+
     pub does_by : {T : Type 0} (result : Result T HostFault) (a : Asked) (old new : List Noted) → OnOk result (new ≡ Done a ∷ old) → (result ≡ Err Device → new ≡ Undone a ∷ old) → (result ≡ Err NoMemory → new ≡ old)
-        → Does (step_of a) (replay m old) (replay m new) result
-    does_by (Ok x) a old new done device memory = one (Done a) old new done
-    does_by (Err Device) a old new done device memory = stops a old new (m.left old) refl (device refl)
-    does_by (Err NoMemory) a old new done device memory = none old new (memory refl)
+        → (result ≡ Err fault.Declined → new ≡ Declined a ∷ old) → Does (step_of a) (replay m old) (replay m new) result
+    does_by (Ok x) a old new done device memory declined = one (Done a) old new done
+    does_by (Err Device) a old new done device memory declined = stops a old new (m.left old) refl (device refl)
+    does_by (Err NoMemory) a old new done device memory declined = none old new (memory refl)
+    does_by (Err fault.Declined) a old new done device memory declined = declines a old new (m.left old) refl (declined refl)
 
     pub ended : (call : Call) (keep : _) (o : Outcome) (old new : List Noted) → new ≡ Ended call keep o ∷ old → Runs (is_kept keep) call (replay m old) (replay m new) (Ok o)
     ended call keep o old new noted = (m.change old, λ h. sound.answers (Ended call keep o) old (subst (λ l. IsTrue (replay m l).honest) noted h), one (Ended call keep o) old new noted)
 
-    pub broken : (call : Call) (keep : _) (fault : HostFault) (old new : List Noted) → (fault ≡ Device → new ≡ Broke call keep ∷ old) → (fault ≡ NoMemory → new ≡ old) → Runs (is_kept keep) call (replay m old) (replay m new) (Err fault)
-    broken call keep Device old new device memory =
+    pub broken : (call : Call) (keep : _) (fault : HostFault) (old new : List Noted) → IsUndeclined fault → (fault ≡ Device → new ≡ Broke call keep ∷ old) → (fault ≡ NoMemory → new ≡ old) → Runs (is_kept keep) call (replay m old) (replay m new) (Err fault)
+    broken call keep Device old new is device memory =
         inr (m.change old, λ h. sound.answers (Broke call keep) old (subst (λ l. IsTrue (replay m l).honest) (device refl) h), one (Broke call keep) old new (device refl))
-    broken call keep NoMemory old new device memory = none old new (memory refl)
+    broken call keep NoMemory old new is device memory = none old new (memory refl)
+    broken call keep fault.Declined old new is device memory = absurd is
 
     -- what is owed for the step is owed for what was done of it
     left_keeps : (events : List Event) (s t : Step) → (t ≡ s) ⊎ IsPart s t → KeepsSettled events s → KeepsSettled events t
@@ -81,6 +96,30 @@ module _ (m : Model) where
         subst IsSettled (append_assoc events (Did t ∷ []) (Failed ∷ []))
         (settled_event (events ++ Did t ∷ []) Failed tt (settled_event events (Did t) (left_keeps events (step_of a) t is owed) settled))
 
+    -- nothing is owed for what takes a part away
+    undo_owed : (events : List Event) (s : Step) → KeepsSettled events (undo_of s)
+    undo_owed events (Write p n) = tt
+    undo_owed events (Move a b) = tt
+    undo_owed events (Take p) = tt
+    undo_owed events (MakeDir p m) = tt
+    undo_owed events (RemoveDir p) = tt
+    undo_owed events (HardLink a b) = tt
+    undo_owed events (MakeLink p t) = tt
+    undo_owed events (Sync p) = tt
+    undo_owed events Barrier = tt
+
+    -- a step that was declined, at the end
+    settled_declining : (a : Asked) (events : List Event) (w : _) (left : Option Step) → IsTakenBack (step_of a) w left → KeepsSettled events (step_of a) → IsSettled events → IsSettled (events ++ declining a left)
+    settled_declining a events w None is owed settled = settled_event events (Denied (path_of a)) tt settled
+    settled_declining a events w (Some t) is owed settled =
+        let some : List Event = events ++ Did t ∷ [] in
+        let undo : Event = Did (undo_of (step_of a)) in
+        let denied : Event = Denied (path_of a) in
+        subst IsSettled (append_assoc some (undo ∷ []) (denied ∷ []) ∙ append_assoc events (Did t ∷ []) (undo ∷ denied ∷ []))
+        (settled_event (some ++ undo ∷ []) denied tt
+        (settled_event some undo (undo_owed some (step_of a))
+        (settled_event events (Did t) (keeps_part events (step_of a) t is.0 owed) settled)))
+
     unmoved_events : (events : List Event) → IsSettled events → IsSettled (events ++ [])
     unmoved_events events settled = subst IsSettled (sym (append-nil events)) settled
 
@@ -91,6 +130,7 @@ module _ (m : Model) where
     settled_more (Listed p l) old owed settled h = unmoved_events (replay m old).events settled
     settled_more (Done a) old owed settled h = settled_event (replay m old).events (Did (step_of a)) owed settled
     settled_more (Undone a) old owed settled h = settled_failing a (replay m old).events (m.left old) (sound.answers (Undone a) old h) owed settled
+    settled_more (Declined a) old owed settled h = settled_declining a (replay m old).events (replay m old).world (m.left old) (sound.answers (Declined a) old h) owed settled
     settled_more (Ended c k o) old owed settled h = settled_event (replay m old).events (Finished (ran_of c o (m.change old))) tt settled
     settled_more (Broke c k) old owed settled h =
         subst IsSettled (append_assoc (replay m old).events (Cut c (m.change old) ∷ []) (Failed ∷ []))

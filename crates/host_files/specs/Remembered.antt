@@ -21,13 +21,14 @@ IsKnownByStep d (asked.MakeLink p target) before = (p ≢ d) × before
 IsKnownByStep d (asked.Sync p) before = before
 IsKnownByStep d asked.Barrier before = before
 
--- It is known by a call: it was seen, or something below it, or it was known before. After a script and after a fault nothing is.
+-- It is known by a call: it was seen, or something below it, or it was known before. After a script, a fault and a step that was declined nothing is.
 abbrev pub IsKnownBy : Path → Noted → Type 0 → Type 0
 IsKnownBy d (was.Looked p found) before = (IsSome found × (IsBelow d p ⊎ ((d ≡ p) × IsDirectory found))) ⊎ before
 IsKnownBy d (was.Seen p found) before = (IsSome found × (IsBelow d p ⊎ ((d ≡ p) × (found ≡ Some kind.Directory)))) ⊎ before
 IsKnownBy d (was.Listed p listing) before = before
 IsKnownBy d (was.Done a) before = IsKnownByStep d a before
 IsKnownBy d (was.Undone a) before = ⊥
+IsKnownBy d (was.Declined a) before = ⊥
 IsKnownBy d (was.Ended call kept outcome) before = ⊥
 IsKnownBy d (was.Broke call kept) before = ⊥
 IsKnownBy d was.Missed before = ⊥
@@ -49,13 +50,14 @@ IsNewByStep f (asked.MakeLink p target) before = (p ≢ f) × before
 IsNewByStep f (asked.Sync p) before = before
 IsNewByStep f asked.Barrier before = before
 
--- It is new by a call. After a script and after a fault none is.
+-- It is new by a call. After a script, a fault and a step that was declined none is.
 abbrev pub IsNewBy : Path → Noted → Type 0 → Type 0
 IsNewBy f (was.Looked p found) before = before
 IsNewBy f (was.Seen p found) before = before
 IsNewBy f (was.Listed p listing) before = before
 IsNewBy f (was.Done a) before = IsNewByStep f a before
 IsNewBy f (was.Undone a) before = ⊥
+IsNewBy f (was.Declined a) before = ⊥
 IsNewBy f (was.Ended call kept outcome) before = ⊥
 IsNewBy f (was.Broke call kept) before = ⊥
 IsNewBy f was.Missed before = ⊥

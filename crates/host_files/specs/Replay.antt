@@ -1,21 +1,22 @@
 -- What the calls of a real directory and their answers say of it.
 use Rattle.std.specs.Prelude.{◌≡◌, ◌⊎◌, Bool, false, ◌&&◌, IsTrue, List, [], ◌∷◌, ◌++◌, Option, Some, None}
 use Rattle.std.proofs.lemmas.Bool.{false≢true}
-use Rattle.host_core.specs.World.{World, Change, Avoids, Step, Write, Move, Take, MakeDir, RemoveDir, HardLink, MakeLink, Sync, Barrier, kind_of, IsPart, is_kept}
-use Rattle.host_core.specs.Events.{Event, Did, Finished, Cut, Failed, follow_all}
+use Rattle.host_core.specs.World.{World, Change, Avoids, Step, Write, Move, Take, MakeDir, RemoveDir, HardLink, MakeLink, Sync, Barrier, after, kind_of, undo_of, IsPart, is_kept}
+use Rattle.host_core.specs.Paths.{Path}
+use Rattle.host_core.specs.Events.{Event, Did, Finished, Cut, Failed, Denied, follow_all}
 use Rattle.host_core.specs.Unsynced.{KeepsSettled}
 use Rattle.host_core.specs.Host.{State, ran_of}
 use Rattle.host_core.specs.Tree.{IsTree, IsListing}
 use Rattle.host_files.specs.declared.record.Asked.{Asked}
 use Rattle.host_files.specs.declared.record.Asked.TheVariants as asked
 use Rattle.host_files.specs.declared.record.Noted.{Noted}
-use Rattle.host_files.specs.declared.record.Noted.TheVariants.{Looked, Seen, Listed, Done, Undone, Ended, Broke, Missed}
+use Rattle.host_files.specs.declared.record.Noted.TheVariants.{Looked, Seen, Listed, Done, Undone, Declined, Ended, Broke, Missed}
 
 -- What no call tells: it is supposed.
 pub record Model : Type 0 where
   -- what the directory held as it was opened
   pub start : World
-  -- what was done of a step of which Device was told, after these calls
+  -- what was done of a step of which Device was told, or that was declined, after these calls
   pub left : List Noted → Option Step
   -- what a script changed that was called after these calls
   pub change : List Noted → Change
@@ -37,6 +38,23 @@ abbrev pub failing : Option Step → List Event
 failing None = Failed ∷ []
 failing (Some t) = Did t ∷ Failed ∷ []
 
+-- the path of which a person is told where a step was declined
+abbrev pub path_of : Asked → Path
+path_of (asked.Write p n) = p
+path_of (asked.Move a b) = a
+path_of (asked.Take p) = p
+path_of (asked.MakeDir p m) = p
+path_of (asked.RemoveDir p) = p
+path_of (asked.HardLink a b) = a
+path_of (asked.MakeLink p t) = p
+path_of (asked.Sync p) = p
+path_of asked.Barrier = []
+
+-- nothing was done of a step that was declined, or a part, which was taken away
+abbrev pub declining : Asked → Option Step → List Event
+declining a None = Denied (path_of a) ∷ []
+declining a (Some t) = Did t ∷ Did (undo_of (step_of a)) ∷ Denied (path_of a) ∷ []
+
 -- what happened in a call, after these calls
 abbrev pub events_of : Model → List Noted → Noted → List Event
 events_of m earlier (Looked p n) = []
@@ -44,6 +62,7 @@ events_of m earlier (Seen p k) = []
 events_of m earlier (Listed p l) = []
 events_of m earlier (Done a) = Did (step_of a) ∷ []
 events_of m earlier (Undone a) = failing (m.left earlier)
+events_of m earlier (Declined a) = declining a (m.left earlier)
 events_of m earlier (Ended c k o) = Finished (ran_of c o (m.change earlier)) ∷ []
 events_of m earlier (Broke c k) = Cut c (m.change earlier) ∷ Failed ∷ []
 events_of m earlier Missed = Failed ∷ []
@@ -60,6 +79,11 @@ abbrev pub IsLeftOf : Step → Option Step → Type 0
 IsLeftOf s None = Unit {0}
 IsLeftOf s (Some t) = (t ≡ s) ⊎ IsPart s t
 
+-- what there was of a step that was declined is a part of it, and taking that away gives back this world
+abbrev pub IsTakenBack : Step → World → Option Step → Type 0
+IsTakenBack s w None = Unit {0}
+IsTakenBack s w (Some t) = IsPart s t × (after (undo_of s) (after t w) ≡ w)
+
 -- the answer is that of a directory which holds this
 abbrev pub Answers : Model → List Noted → World → Noted → Type 0
 Answers m earlier w (Looked p n) = n ≡ w p
@@ -67,6 +91,7 @@ Answers m earlier w (Seen p k) = k ≡ kind_of (w p)
 Answers m earlier w (Listed p l) = IsListing w p l.names l.bad
 Answers m earlier w (Done a) = Unit {0}
 Answers m earlier w (Undone a) = IsLeftOf (step_of a) (m.left earlier)
+Answers m earlier w (Declined a) = IsTakenBack (step_of a) w (m.left earlier)
 Answers m earlier w (Ended c k o) = Avoids (is_kept k) (m.change earlier)
 Answers m earlier w (Broke c k) = Avoids (is_kept k) (m.change earlier)
 Answers m earlier w Missed = Unit {0}
@@ -83,6 +108,7 @@ IsOwed events (Seen p k) = Unit {0}
 IsOwed events (Listed p l) = Unit {0}
 IsOwed events (Done a) = KeepsSettled events (step_of a)
 IsOwed events (Undone a) = KeepsSettled events (step_of a)
+IsOwed events (Declined a) = KeepsSettled events (step_of a)
 IsOwed events (Ended c k o) = Unit {0}
 IsOwed events (Broke c k) = Unit {0}
 IsOwed events Missed = Unit {0}

@@ -10,7 +10,7 @@ use Rattle.host_core.specs.declared.call.Call.{Call}
 use Rattle.host_core.specs.declared.call.Outcome.{Outcome}
 use Rattle.host_core.specs.declared.call.Outcome.TheVariants.{NotStarted}
 use Rattle.host_core.specs.declared.fault.HostFault.{HostFault}
-use Rattle.host_core.specs.declared.fault.HostFault.TheVariants.{Device, NoMemory}
+use Rattle.host_core.specs.declared.fault.HostFault.TheVariants.{Device, NoMemory, Declined}
 use Rattle.host_core.specs.declared.node.Access.{Access}
 use Rattle.host_core.specs.declared.node.Kind.{Kind}
 use Rattle.host_core.specs.declared.node.Node.{Node}
@@ -33,19 +33,28 @@ abbrev pub access_calls : Bool → List ℕ → Access → List SystemCall
 access_calls true place access = ask.SetMode place access.mode ∷ ask.SetOwner place access.user access.group ∷ []
 access_calls false place access = ask.SetMode place access.mode ∷ []
 
+-- what gives a new file its bytes and its access
+abbrev pub fill_calls : Bool → List ℕ → List ℕ → Access → List SystemCall
+fill_calls owners place bytes access = access_calls owners place access ++ ask.Append bytes ∷ []
+
 -- what writes a file where nothing stands
 abbrev pub write_calls : Bool → List ℕ → List ℕ → Access → List SystemCall
-write_calls owners place bytes access = access_calls owners place access ++ ask.Append bytes ∷ ask.Create place ∷ []
+write_calls owners place bytes access = fill_calls owners place bytes access ++ ask.Create place ∷ []
 
 -- what makes a directory where nothing stands
 abbrev pub directory_calls : Bool → List ℕ → Access → List SystemCall
 directory_calls owners place access = access_calls owners place access ++ ask.MakeDirectory place ∷ []
 
--- these changes more were made; where the device failed the first of them, where memory was refused none
+-- of some changes more the first were made
+abbrev pub AddsFirst : List SystemCall → List SystemCall → List SystemCall → Type 0
+AddsFirst changes old new = (later more : List SystemCall) × (changes ≡ later ++ more) × (changes_in new ≡ more ++ changes_in old)
+
+-- these changes more were made; where one failed or was declined the first of them, where memory was refused none
 abbrev pub Adds : {T : Type 0} → List SystemCall → List SystemCall → List SystemCall → Result T HostFault → Type 0
 Adds changes old new (Ok x) = changes_in new ≡ changes ++ changes_in old
-Adds changes old new (Err Device) = (later : List SystemCall) × (later ++ changes_in new ≡ changes ++ changes_in old)
+Adds changes old new (Err Device) = AddsFirst changes old new
 Adds changes old new (Err NoMemory) = changes_in new ≡ changes_in old
+Adds changes old new (Err Declined) = AddsFirst changes old new
 
 -- something stands at a place of which this holds
 abbrev pub LooksAt : (Metadata → Type 0) → List ℕ → List SystemCall → List SystemCall → Type 0
@@ -67,11 +76,46 @@ HasSynced place made =
     ⊎ ((looked : List SystemCall) × LooksAt (λ found. IsFile (file_type found)) place [] looked × (made ≡ ask.SyncFile place ∷ looked))
     ⊎ (made ≡ ask.SyncMade ∷ [])
 
--- what is done is done; where the device failed no more than the first changes were made, and none where memory was refused
-abbrev pub IsAnsweredBy : {T : Type 0} → (List SystemCall → Type 0) → (List SystemCall → Type 0) → List SystemCall → Result T HostFault → Type 0
-IsAnsweredBy done changing made (Ok x) = done made
-IsAnsweredBy done changing made (Err Device) = (later : List SystemCall) × changing (later ++ changes_in made)
-IsAnsweredBy done changing made (Err NoMemory) = changes_in made ≡ []
+-- what is done is done, what failed and what was declined left this, and where memory was refused nothing was changed
+abbrev pub IsAnsweredBy : {T : Type 0} → (done failed declined : List SystemCall → Type 0) → List SystemCall → Result T HostFault → Type 0
+IsAnsweredBy done failed declined made (Ok x) = done made
+IsAnsweredBy done failed declined made (Err Device) = failed made
+IsAnsweredBy done failed declined made (Err NoMemory) = changes_in made ≡ []
+IsAnsweredBy done failed declined made (Err Declined) = declined made
+
+-- no more than the first of some changes were made
+abbrev pub IsBegun : (List SystemCall → Type 0) → List SystemCall → Type 0
+IsBegun changing made = (later : List SystemCall) × changing (later ++ changes_in made)
+
+-- some changes were all asked for
+abbrev pub IsAsked : (List SystemCall → Type 0) → List SystemCall → Type 0
+IsAsked changing made = changing (changes_in made)
+
+-- of some changes the first and maybe more were made, and then what they made was to be taken away
+abbrev pub IsTakenAway : (first undo : SystemCall) → (changes made : List SystemCall) → Type 0
+IsTakenAway first undo changes made =
+    (later more : List SystemCall) × (changes ≡ later ++ more ++ first ∷ []) × (changes_in made ≡ undo ∷ more ++ first ∷ [])
+
+-- Something is made by these changes, the first of them makes it, and the last of these calls takes it away. Where that fails too
+-- the device has failed.
+module _ (first undo : SystemCall) (changes : List SystemCall) where
+  abbrev pub IsUnmade : List SystemCall → Type 0
+  IsUnmade made = IsBegun (λ all. all ≡ changes) made ⊎ IsTakenAway first undo changes made
+
+  -- declined at once, or taken away
+  abbrev pub IsNotMade : List SystemCall → Type 0
+  IsNotMade made = (changes_in made ≡ first ∷ []) ⊎ IsTakenAway first undo changes made
+
+  abbrev pub IsMakingBy : {T : Type 0} → List SystemCall → Result T HostFault → Type 0
+  IsMakingBy made result = IsAnsweredBy (λ m. changes_in m ≡ changes) IsUnmade IsNotMade made result
+
+-- a rename that was answered so
+abbrev pub IsRenamedBy : {T : Type 0} → (from to : List ℕ) → List SystemCall → Result T HostFault → Type 0
+IsRenamedBy from to made result = IsAnsweredBy (HasRenamed from to) (IsBegun (IsRenaming from to)) (IsAsked (IsRenaming from to)) made result
+
+-- a sync that was answered so
+abbrev pub IsSyncedBy : {T : Type 0} → List ℕ → List SystemCall → Result T HostFault → Type 0
+IsSyncedBy place made result = IsAnsweredBy (HasSynced place) (IsBegun (λ all. all ≡ [])) (IsAsked (λ all. all ≡ [])) made result
 
 -- the syncs of directories, one after another
 abbrev pub sync_calls : List ℕ → List (String Global) → List SystemCall
@@ -146,11 +190,39 @@ module _ (front : List ℕ) (owners : Bool) where
 
   -- a step that failed
   abbrev pub IsBegunBy : Asked → List SystemCall → Type 0
-  IsBegunBy a made = (later : List SystemCall) × IsChanging a (later ++ changes_in made)
+  IsBegunBy (asked.Write p (File bytes access)) made =
+      IsUnmade (ask.Create (place_of front p)) (ask.Unlink (place_of front p)) (write_calls owners (place_of front p) bytes access) made
+  IsBegunBy (asked.Write p (Dir access)) made = ⊥
+  IsBegunBy (asked.Write p (Link target)) made = ⊥
+  IsBegunBy (asked.Move a b) made = IsBegun (IsChanging (asked.Move a b)) made
+  IsBegunBy (asked.Take p) made = IsBegun (IsChanging (asked.Take p)) made
+  IsBegunBy (asked.MakeDir p access) made =
+      IsUnmade (ask.MakeDirectory (place_of front p)) (ask.RemoveDirectory (place_of front p)) (directory_calls owners (place_of front p) access) made
+  IsBegunBy (asked.RemoveDir p) made = IsBegun (IsChanging (asked.RemoveDir p)) made
+  IsBegunBy (asked.HardLink a b) made = IsBegun (IsChanging (asked.HardLink a b)) made
+  IsBegunBy (asked.MakeLink p target) made = IsBegun (IsChanging (asked.MakeLink p target)) made
+  IsBegunBy (asked.Sync p) made = IsBegun (IsChanging (asked.Sync p)) made
+  IsBegunBy asked.Barrier made = IsBegun (IsChanging asked.Barrier) made
+
+  -- a step that was declined; a barrier is never
+  abbrev pub IsDeclinedBy : Asked → List SystemCall → Type 0
+  IsDeclinedBy (asked.Write p (File bytes access)) made =
+      IsNotMade (ask.Create (place_of front p)) (ask.Unlink (place_of front p)) (write_calls owners (place_of front p) bytes access) made
+  IsDeclinedBy (asked.Write p (Dir access)) made = ⊥
+  IsDeclinedBy (asked.Write p (Link target)) made = ⊥
+  IsDeclinedBy (asked.Move a b) made = IsAsked (IsChanging (asked.Move a b)) made
+  IsDeclinedBy (asked.Take p) made = IsAsked (IsChanging (asked.Take p)) made
+  IsDeclinedBy (asked.MakeDir p access) made =
+      IsNotMade (ask.MakeDirectory (place_of front p)) (ask.RemoveDirectory (place_of front p)) (directory_calls owners (place_of front p) access) made
+  IsDeclinedBy (asked.RemoveDir p) made = IsAsked (IsChanging (asked.RemoveDir p)) made
+  IsDeclinedBy (asked.HardLink a b) made = IsAsked (IsChanging (asked.HardLink a b)) made
+  IsDeclinedBy (asked.MakeLink p target) made = IsAsked (IsChanging (asked.MakeLink p target)) made
+  IsDeclinedBy (asked.Sync p) made = IsAsked (IsChanging (asked.Sync p)) made
+  IsDeclinedBy asked.Barrier made = ⊥
 
   -- a step that was answered so
   abbrev pub IsStepBy : {T : Type 0} → Asked → List SystemCall → Result T HostFault → Type 0
-  IsStepBy a made result = IsAnsweredBy (IsDoneBy a) (IsChanging a) made result
+  IsStepBy a made result = IsAnsweredBy (IsDoneBy a) (IsBegunBy a) (IsDeclinedBy a) made result
 
   -- the kind that a look told; nothing also where a name above is no directory's
   abbrev pub IsSeenBy : Path → Option Kind → List SystemCall → Type 0
@@ -166,6 +238,7 @@ module _ (front : List ℕ) (owners : Bool) where
 abbrev pub IsNotBegun : Command Global → List SystemCall → List SystemCall → HostFault → Type 0
 IsNotBegun c old new Device = new ≡ start_call c ∷ old
 IsNotBegun c old new NoMemory = new ≡ old
+IsNotBegun c old new Declined = ⊥
 
 -- a command was started, and ended so, or couldn't be started
 abbrev pub Starts : Command Global → List SystemCall → List SystemCall → Result Outcome HostFault → Type 0
@@ -199,6 +272,7 @@ abbrev pub IsRunBy : List ℕ → List ℕ → Call → List SystemCall → Resu
 IsRunBy directory front call made (Ok outcome) = IsEndedBy directory front call outcome made
 IsRunBy directory front call made (Err Device) = IsTried directory front call made
 IsRunBy directory front call made (Err NoMemory) = changes_in made ≡ []
+IsRunBy directory front call made (Err Declined) = ⊥
 
 -- what stands behind a note
 abbrev pub IsShownBy : List ℕ → List ℕ → Bool → Noted → List SystemCall → Type 0
@@ -207,6 +281,7 @@ IsShownBy directory front owners (was.Seen p kind) made = IsSeenBy front owners 
 IsShownBy directory front owners (was.Listed p listing) made = changes_in made ≡ []
 IsShownBy directory front owners (was.Done a) made = IsDoneBy front owners a made
 IsShownBy directory front owners (was.Undone a) made = IsBegunBy front owners a made
+IsShownBy directory front owners (was.Declined a) made = IsDeclinedBy front owners a made
 IsShownBy directory front owners (was.Ended call kept outcome) made = IsEndedBy directory front call outcome made
 IsShownBy directory front owners (was.Broke call kept) made = IsTried directory front call made
 IsShownBy directory front owners was.Missed made = changes_in made ≡ []

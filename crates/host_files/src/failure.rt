@@ -1,11 +1,11 @@
-// What a person is told of a fault of the device: the path, and the system's words.
+// What a person is told of a fault of the device, or of a step that was declined: the path, and the system's words.
 use crate::disk::stat;
 use crate::root::Root;
 use std::alloc::AllocError;
 use std::fmt::{self, Display, Formatter, Write};
 use std::io::{Error, ErrorKind};
 
-/// The device's last fault. It is told as `PATH: ERROR`, the path as the system was told it.
+/// The last step or call that failed or was declined. It is told as `PATH: ERROR`, the path as the system was told it.
 #[derive(Drop)]
 pub struct Failure {
     // none where memory was wanting for it

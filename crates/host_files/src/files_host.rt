@@ -50,7 +50,7 @@ pub fn is_superuser() -> bool {
     libc::geteuid() == 0
 }
 
-// The path of a step, which a person is told where it fails; a barrier's own is kept by the system's call.
+// The path of a step, which a person is told where it fails or is declined; a barrier's own is kept by the system's call.
 fn path_of<'a>(asked: Asks<'a>) -> &'a str {
     match asked {
         Asks::Write(path, _)
@@ -81,11 +81,13 @@ fn places_of<'a>(keep: &'a Keep<'_>) -> &'a Places
 impl<D: Disk> FilesHost<D> {
     ghost use Rattle.std.specs.Prelude.{◌≡◌, ◌∷◌, [], ◌<◌, ◌^◌, ◌-◌, true, is_some, map, vec_len, vec_capacity, Err, OnOk, IfOk, length, string_bytes};
     ghost use Rattle.host_core.specs.declared.fault.HostFault.TheVariants.{Device, NoMemory};
+    ghost use Rattle.host_core.specs.declared.fault.HostFault.TheVariants as fault;
+    ghost use Rattle.host_files.specs.Faults.{IsUndeclined};
     ghost use Rattle.host_files.specs.FilesState.{directory_of};
     ghost use Rattle.host_files.specs.Notes.{noted, asked_by, told_of, calls_in, faults_in, IsPlain, IsNotedFault};
-    ghost use Rattle.host_files.specs.Shown.{IsBrought, IsEndedBy, IsRemembered, IsShownBy, IsStepBy, IsSure};
+    ghost use Rattle.host_files.specs.Shown.{IsBrought, IsDeclinedBy, IsEndedBy, IsRemembered, IsShownBy, IsStepBy, IsSure};
     ghost use Rattle.host_files.specs.SystemCalls.{changes_in};
-    ghost use Rattle.host_files.specs.declared.record.Noted.TheVariants.{Done, Undone, Ended};
+    ghost use Rattle.host_files.specs.declared.record.Noted.TheVariants.{Done, Undone, Declined, Ended};
     ghost use Rattle.host_core.specs.Unsynced.{KeepsSettled};
     ghost use Rattle.host_files.specs.Replay.{IsOwed, step_of};
 
@@ -129,7 +131,7 @@ impl<D: Disk> FilesHost<D> {
         self.system.architecture = architecture;
     }
 
-    /// Of its last fault, if the device has failed.
+    /// Of its last fault, or of the last step that was declined, whichever came later.
     pub fn failure(&self) -> Option<&Failure>
         ensures { 0 < faults_in self.now.told.log.notes → is_some result ≡ true }
     {
@@ -173,6 +175,7 @@ impl<D: Disk> FilesHost<D> {
 
     // Notes a call at a path that failed with Device; want of memory is no event.
     fn fail(&mut self, fault: HostFault, path: &str, note: &Note<'_>) -> HostFault
+        requires undeclined { IsUndeclined fault }
         requires fault { IsNotedFault (noted note.now) }
         requires shown { fault ≡ Device → IsShownBy (string_bytes self.old.root.directory)
             (string_bytes self.old.root.front) self.old.root.owners (noted note.now)
@@ -181,6 +184,7 @@ impl<D: Disk> FilesHost<D> {
         requires owed { IsTrue (replay D.Disk.model self.old.told.log.notes).honest
             → IsOwed (replay D.Disk.model self.old.told.log.notes).events (noted note.now) }
         requires countable { self.old.told.faults < 2 ^ 64 - 1 }
+        ensures undeclined { IsUndeclined result }
         ensures device { result ≡ Device → self.new.told.log.notes ≡ noted note.now
             ∷ self.old.told.log.notes }
         ensures memory { result ≡ NoMemory → self.new.told.log.notes ≡ self.old.told.log.notes }
@@ -192,8 +196,22 @@ impl<D: Disk> FilesHost<D> {
                 self.told.fail(note);
                 HostFault::Device
             }
-            HostFault::NoMemory => HostFault::NoMemory,
+            HostFault::NoMemory | HostFault::Declined => fault,
         }
+    }
+
+    // Notes a step that was declined, and keeps what a person is told of it.
+    fn decline(&mut self, asked: Asks<'_>)
+        requires shown { IsDeclinedBy (string_bytes self.old.root.front) self.old.root.owners
+            (asked_by asked) self.old.system.trace.calls }
+        requires owed { IsTrue (replay D.Disk.model self.old.told.log.notes).honest
+            → KeepsSettled (replay D.Disk.model self.old.told.log.notes).events
+            (step_of (asked_by asked)) }
+        ensures { self.new.told.log.notes ≡ Declined (asked_by asked.entry)
+            ∷ self.old.told.log.notes }
+    {
+        self.note(&Note::Declined(asked));
+        self.failure = Some(failure_of(&mut self.system, &self.root, path_of(asked)));
     }
 
     // Notes how a step ended.
@@ -215,11 +233,17 @@ impl<D: Disk> FilesHost<D> {
         ensures device { result ≡ Err Device → self.new.told.log.notes
             ≡ Undone (asked_by asked.entry) ∷ self.old.told.log.notes }
         ensures memory { result ≡ Err NoMemory → self.new.told.log.notes ≡ self.old.told.log.notes }
+        ensures declined { result ≡ Err fault.Declined → self.new.told.log.notes
+            ≡ Declined (asked_by asked.entry) ∷ self.old.told.log.notes }
     {
         match ended {
             Ok(()) => {
                 self.note(&Note::Done(asked));
                 Ok(())
+            }
+            Err(HostFault::Declined) => {
+                self.decline(asked);
+                Err(HostFault::Declined)
             }
             Err(fault) => Err(self.fail(fault, path_of(asked), &Note::Undone(asked))),
         }

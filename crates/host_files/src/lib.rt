@@ -24,6 +24,7 @@ mod changed;
 mod command;
 mod disk;
 mod disk_model;
+mod errors;
 mod failure;
 mod files_host;
 mod looking;

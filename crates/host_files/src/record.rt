@@ -21,8 +21,9 @@ pub enum Asked {
     Barrier,
 }
 
-/// A call with its answer: what was found; a step that was done, or of which Device was told; a
-/// script call that ended, or of which Device was told; a fault of looking at something.
+/// A call with its answer: what was found; a step that was done, of which Device was told, or that
+/// was declined; a script call that ended, or of which Device was told; a fault of looking at
+/// something.
 #[derive(Drop)]
 pub enum Noted {
     Looked(RootPath, Option<Node>),
@@ -30,6 +31,7 @@ pub enum Noted {
     Listed(RootPath, Listing),
     Done(Asked),
     Undone(Asked),
+    Declined(Asked),
     Ended(Call, Places, Outcome),
     Broke(Call, Places),
     Missed,
@@ -57,6 +59,7 @@ pub(crate) enum Note<'a> {
     Listed(&'a RootPath, &'a Listing),
     Done(Asks<'a>),
     Undone(Asks<'a>),
+    Declined(Asks<'a>),
     Ended(&'a Call, &'a Places, Outcome),
     Broke(&'a Call, &'a Places),
     Missed,

@@ -58,7 +58,7 @@ impl Remembered {
         }
     }
 
-    // After a script or a fault anything may have changed.
+    // After a script or a fault anything may have changed, and a step that was declined says that not all is as it was thought.
     fn forget(&mut self)
         ensures directory { self.new.directory ≡ None }
         ensures file { self.new.file ≡ None }
@@ -101,6 +101,7 @@ impl Remembered {
             Note::Listed(_, _) => {}
             Note::Done(asked) => self.take_step(asked),
             Note::Undone(_) => self.forget(),
+            Note::Declined(_) => self.forget(),
             Note::Ended(_, _, _) => self.forget(),
             Note::Broke(_, _) => self.forget(),
             Note::Missed => self.forget(),

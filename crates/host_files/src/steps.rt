@@ -1,13 +1,15 @@
 // The steps of the device. Each makes its calls of the system once it has seen that the names above its paths are those
-// of directories, and of no link; all memory that it takes is taken before.
-ghost use Rattle.std.specs.Prelude.{◌≡◌, ◌⊎◌, [], true, IfErr, IfOk, IsSome, IsTrue, OnErr, OnOk, Some, string_bytes};
+// of directories, and of no link; all memory that it takes is taken before. What was begun of a step that is declined is taken away.
+ghost use Rattle.std.specs.Prelude.{◌≡◌, ◌⊎◌, ◌∷◌, [], true, IfErr, IfOk, IsSome, IsTrue, OnErr, OnOk, Some, string_bytes};
 ghost use Rattle.host_core.specs.World.{IsFile};
 ghost use Rattle.host_core.specs.declared.fault.HostFault.TheVariants.{Device};
 ghost use Rattle.host_files.specs.Entries.{IsSettable};
+ghost use Rattle.host_files.specs.Faults.{IsOfStep, IsUndeclined};
 ghost use Rattle.host_files.specs.Places.{place_of};
-ghost use Rattle.host_files.specs.Shown.{Adds, HasRenamed, HasSynced, IsAnsweredBy, IsBrought, IsLookedAt, IsRenaming, IsStepBy, access_calls, directory_calls, write_calls};
+ghost use Rattle.host_files.specs.Shown.{Adds, IsBrought, IsLookedAt, IsMakingBy, IsRenamedBy, IsStepBy, IsSyncedBy, access_calls, directory_calls, fill_calls, write_calls};
 ghost use Rattle.host_files.specs.SystemCalls.{changes_in, Looks};
 ghost use Rattle.host_files.specs.declared.record.Asked.TheVariants.{Barrier, HardLink, MakeDir, MakeLink, Move, RemoveDir, Sync, Take, Write};
+ghost use Rattle.host_files.specs.declared.trace.SystemCall.TheVariants.{Create, MakeDirectory, RemoveDirectory, Unlink};
 
 use crate::changed::Changed;
 use crate::disk::access_of;
@@ -23,8 +25,9 @@ const NO_FILE: &str = "no file or link stands there";
 
 // The place of a step.
 fn place_of_step(system: &System, root: &Root, path: &RootPath) -> Result<String, HostFault>
-    ensures { IfOk result (λ place. string_bytes place ≡ place_of (string_bytes root.now.front)
+    ensures place { IfOk result (λ place. string_bytes place ≡ place_of (string_bytes root.now.front)
         path.now) }
+    ensures fault { IfErr result IsUndeclined }
 {
     match root.place_at(&system.rt, path)? {
         Some(place) => Ok(place),
@@ -70,13 +73,51 @@ fn set_access(
 ) -> Result<(), HostFault>
     ensures made { Adds (access_calls owners place.now access) system.old.trace.calls
         system.new.trace.calls result }
-    ensures err { IfErr result (λ fault. fault ≡ Device) }
+    ensures err { IfErr result IsOfStep }
 {
     if owners {
         system.set_owner(place, access.user, access.group)?;
     }
     system.set_mode(place, access.mode)?;
     check_access(system, owners, place, access)
+}
+
+// Gives a file that was created its bytes, and then its access.
+fn fill_file(
+    system: &mut System,
+    owners: bool,
+    place: &str,
+    bytes: &[u8],
+    access: Access,
+) -> Result<(), HostFault>
+    ensures made { Adds (fill_calls owners place.now bytes.now access) system.old.trace.calls
+        system.new.trace.calls result }
+    ensures err { IfErr result IsOfStep }
+{
+    system.append(bytes)?;
+    set_access(system, owners, place, access)
+}
+
+// Takes away a file that was created before its step was declined. Where that can't be done either the device has failed.
+fn take_away_file(system: &mut System, place: &str) -> HostFault
+    ensures made { system.new.trace.calls ≡ Unlink place.now ∷ system.old.trace.calls }
+    ensures fault { IsOfStep result }
+{
+    match system.unlink(place) {
+        Ok(()) => HostFault::Declined,
+        Err(_) => HostFault::Device,
+    }
+}
+
+// The same of a directory.
+fn take_away_directory(system: &mut System, place: &str) -> HostFault
+    ensures made { system.new.trace.calls ≡ RemoveDirectory place.now ∷ system.old.trace.calls }
+    ensures fault { IsOfStep result }
+{
+    match system.remove_directory(place) {
+        Ok(()) => HostFault::Declined,
+        Err(_) => HostFault::Device,
+    }
 }
 
 fn write_bytes(
@@ -86,13 +127,17 @@ fn write_bytes(
     bytes: &[u8],
     access: Access,
 ) -> Result<(), HostFault>
-    ensures { Adds (write_calls owners place.now bytes.now access) system.old.trace.calls
-        system.new.trace.calls result }
+    requires begun { system.old.trace.calls ≡ [] }
+    ensures { IsMakingBy (Create place.now) (Unlink place.now) (write_calls owners place.now
+        bytes.now access) system.new.trace.calls result }
 {
     check_settable(owners, access)?;
     system.create(place)?;
-    system.append(bytes)?;
-    set_access(system, owners, place, access)
+    match fill_file(system, owners, place, bytes, access) {
+        Ok(()) => Ok(()),
+        Err(HostFault::Declined) => Err(take_away_file(system, place)),
+        Err(fault) => Err(fault),
+    }
 }
 
 fn create_directory(
@@ -101,12 +146,17 @@ fn create_directory(
     place: &str,
     access: Access,
 ) -> Result<(), HostFault>
-    ensures { Adds (directory_calls owners place.now access) system.old.trace.calls
-        system.new.trace.calls result }
+    requires begun { system.old.trace.calls ≡ [] }
+    ensures { IsMakingBy (MakeDirectory place.now) (RemoveDirectory place.now) (directory_calls
+        owners place.now access) system.new.trace.calls result }
 {
     check_settable(owners, access)?;
     system.make_directory(place)?;
-    set_access(system, owners, place, access)
+    match set_access(system, owners, place, access) {
+        Ok(()) => Ok(()),
+        Err(HostFault::Declined) => Err(take_away_directory(system, place)),
+        Err(fault) => Err(fault),
+    }
 }
 
 /// Writes a file where nothing stands.
@@ -165,6 +215,7 @@ fn look_at_loose(system: &mut System, place: &str) -> Result<Metadata, HostFault
         system.new.trace.calls) }
     ensures err { OnErr result (changes_in system.new.trace.calls ≡ changes_in
         system.old.trace.calls) }
+    ensures fault { IfErr result IsUndeclined }
 {
     match system.look(place)? {
         Some(found) if !found.is_dir() => Ok(found),
@@ -175,8 +226,7 @@ fn look_at_loose(system: &mut System, place: &str) -> Result<Metadata, HostFault
 // The system does nothing where both are names of one file.
 fn rename_file(system: &mut System, from: &str, to: &str) -> Result<(), HostFault>
     requires begun { system.old.trace.calls ≡ [] }
-    ensures step { IsAnsweredBy (HasRenamed from.now to.now) (IsRenaming from.now to.now)
-        system.new.trace.calls result }
+    ensures step { IsRenamedBy from.now to.now system.new.trace.calls result }
     ensures sure { OnOk result (IsLookedAt from.now system.new.trace.calls) }
 {
     let moved = look_at_loose(system, from)?;
@@ -191,8 +241,7 @@ fn rename_file(system: &mut System, from: &str, to: &str) -> Result<(), HostFaul
 // The file that was written last has no other name, so that nothing has to be looked at.
 fn rename_at(system: &mut System, is_new: bool, from: &str, to: &str) -> Result<(), HostFault>
     requires begun { system.old.trace.calls ≡ [] }
-    ensures step { IsAnsweredBy (HasRenamed from.now to.now) (IsRenaming from.now to.now)
-        system.new.trace.calls result }
+    ensures step { IsRenamedBy from.now to.now system.new.trace.calls result }
     ensures sure { OnOk result (IsLookedAt from.now system.new.trace.calls ⊎ IsTrue is_new) }
 {
     if is_new {
@@ -255,8 +304,7 @@ pub(crate) fn hard_link(
 // Looks what stands at a place, and brings it to the disk.
 fn flush_at(system: &mut System, place: &str) -> Result<(), HostFault>
     requires begun { system.old.trace.calls ≡ [] }
-    ensures step { IsAnsweredBy (HasSynced place.now) (λ made. made ≡ []) system.new.trace.calls
-        result }
+    ensures step { IsSyncedBy place.now system.new.trace.calls result }
     ensures sure { OnOk result (IsLookedAt place.now system.new.trace.calls) }
 {
     match system.look(place)? {

@@ -1,17 +1,17 @@
 // The calls of the operating system that change something, start a program or look at a path. Each function makes one
-// and keeps it in the trace; an error of one that changes something is a fault of the device.
-ghost use Rattle.std.specs.Prelude.{◌≡◌, ◌∷◌, [], None, is_some, IfErr, IfOk, OnOk, OnErr, string_bytes};
+// and keeps it in the trace; an error of one that a step makes is one by which it was declined, or a fault of the device.
+ghost use Rattle.std.specs.Prelude.{◌≡◌, ◌∷◌, [], Err, None, is_some, IfErr, IfOk, OnOk, OnErr, string_bytes};
 ghost use Rattle.std.specs.IoError.{raw_os_error};
 ghost use Rattle.std.specs.Process.{exit_code};
 ghost use Rattle.host_core.specs.declared.fault.HostFault.TheVariants.{Device, NoMemory};
-ghost use Rattle.host_files.specs.Commands.{is_start_error};
-ghost use Rattle.host_files.specs.Faults.{IsFaultOf};
+ghost use Rattle.host_files.specs.Faults.{IsFaultOf, IsOfStep, IsUndeclined, step_fault_of};
 ghost use Rattle.host_files.specs.declared.trace.SystemCall.TheVariants.{Create, Append, SetOwner, SetMode, MakeDirectory, Rename, Link, MakeLink, Unlink, RemoveDirectory, SyncFile, SyncMade, SyncDirectory, End};
 ghost use Rattle.host_files.specs.Shown.{IsNotBegun};
 ghost use Rattle.host_files.specs.SystemCalls.{changes_in, Looks, start_call};
 ghost use Rattle.host_files.specs.Places.{place_of};
 
 use crate::disk::{fault_of, stat};
+use crate::errors::{is_declined, is_start_error};
 use crate::root::Root;
 use crate::trace::{Request, Trace};
 use host_core::HostFault;
@@ -43,27 +43,15 @@ pub(crate) struct System {
     error_place: Option<String>,
 }
 
-// the system's numbers for a file that can't be started
-const ENOENT: i32 = 2;
-
-const ENOEXEC: i32 = 8;
-
-const EACCES: i32 = 13;
-
-const ENOTDIR: i32 = 20;
-
-const ETXTBSY: i32 = 26;
-
-const ELOOP: i32 = 40;
-
-// Whether the script is one that can't be started, or is missing.
-fn is_start_error(error: &Error) -> bool
-    ensures { result ≡ is_start_error (raw_os_error error.now) }
+// The fault of a step that ended with an error.
+fn step_fault_of(error: &Error) -> HostFault
+    ensures { result ≡ step_fault_of (raw_os_error error.now) }
 {
-    matches!(
-        error.raw_os_error(),
-        Some(ENOENT | ENOEXEC | EACCES | ENOTDIR | ETXTBSY | ELOOP)
-    )
+    if is_declined(error) {
+        HostFault::Declined
+    } else {
+        HostFault::Device
+    }
 }
 
 // Makes a file where nothing stands.
@@ -140,17 +128,19 @@ impl System {
         (self.error_place.take(), self.error.take())
     }
 
-    // How a call ended that was made.
+    // How a call ended that was made for a step.
     fn ended(&mut self, answer: io::Result<()>) -> Result<(), HostFault>
-        ensures err { IfErr result (λ fault. fault ≡ Device) }
+        ensures fault { IfErr answer (λ error. result ≡ Err (step_fault_of (raw_os_error error))) }
+        ensures err { IfErr result IsOfStep }
         ensures trace { self.new.trace ≡ self.old.trace }
         ensures made { self.new.made ≡ self.old.made }
     {
         match answer {
             Ok(()) => Ok(()),
             Err(error) => {
+                let fault = step_fault_of(&error);
                 self.error = Some(error);
-                Err(HostFault::Device)
+                Err(fault)
             }
         }
     }
@@ -160,6 +150,7 @@ impl System {
         ensures ok { IfOk result (λ found. Looks place.now found self.old.trace.calls
             self.new.trace.calls) }
         ensures err { OnErr result (self.new.trace.calls ≡ self.old.trace.calls) }
+        ensures fault { IfErr result IsUndeclined }
     {
         match stat(&self.rt, place) {
             Ok(found) => {
@@ -173,7 +164,7 @@ impl System {
     /// The file stays open until another is made or a program is started.
     pub(crate) fn create(&mut self, place: &str) -> Result<(), HostFault>
         ensures made { self.new.trace.calls ≡ Create place.now ∷ self.old.trace.calls }
-        ensures err { IfErr result (λ fault. fault ≡ Device) }
+        ensures err { IfErr result IsOfStep }
     {
         self.trace = self.trace.with(&Request::Create(place));
         let (made, answer) = match create_new(&self.rt, place) {
@@ -186,7 +177,7 @@ impl System {
 
     pub(crate) fn append(&mut self, bytes: &[u8]) -> Result<(), HostFault>
         ensures made { self.new.trace.calls ≡ Append bytes.now ∷ self.old.trace.calls }
-        ensures err { IfErr result (λ fault. fault ≡ Device) }
+        ensures err { IfErr result IsOfStep }
     {
         self.trace = self.trace.with(&Request::Append(bytes));
         let answer = match &mut self.made {
@@ -198,7 +189,7 @@ impl System {
 
     pub(crate) fn set_owner(&mut self, place: &str, user: u32, group: u32) -> Result<(), HostFault>
         ensures made { self.new.trace.calls ≡ SetOwner place.now user group ∷ self.old.trace.calls }
-        ensures err { IfErr result (λ fault. fault ≡ Device) }
+        ensures err { IfErr result IsOfStep }
     {
         self.trace = self.trace.with(&Request::SetOwner(place, user, group));
         let answer = lchown(&self.rt, place, Some(user), Some(group));
@@ -208,7 +199,7 @@ impl System {
     /// Of what this program has just made there, so that no link stands there.
     pub(crate) fn set_mode(&mut self, place: &str, mode: u16) -> Result<(), HostFault>
         ensures made { self.new.trace.calls ≡ SetMode place.now mode ∷ self.old.trace.calls }
-        ensures err { IfErr result (λ fault. fault ≡ Device) }
+        ensures err { IfErr result IsOfStep }
     {
         self.trace = self.trace.with(&Request::SetMode(place, mode));
         let answer = fs::set_permissions(&self.rt, place, Permissions::from_mode(u32::from(mode)));
@@ -217,7 +208,7 @@ impl System {
 
     pub(crate) fn make_directory(&mut self, place: &str) -> Result<(), HostFault>
         ensures made { self.new.trace.calls ≡ MakeDirectory place.now ∷ self.old.trace.calls }
-        ensures err { IfErr result (λ fault. fault ≡ Device) }
+        ensures err { IfErr result IsOfStep }
     {
         self.trace = self.trace.with(&Request::MakeDirectory(place));
         let answer = DirBuilder::new().mode(0o700).create(&self.rt, place);
@@ -226,7 +217,7 @@ impl System {
 
     pub(crate) fn rename(&mut self, from: &str, to: &str) -> Result<(), HostFault>
         ensures made { self.new.trace.calls ≡ Rename from.now to.now ∷ self.old.trace.calls }
-        ensures err { IfErr result (λ fault. fault ≡ Device) }
+        ensures err { IfErr result IsOfStep }
     {
         self.trace = self.trace.with(&Request::Rename(from, to));
         let answer = fs::rename(&self.rt, from, to);
@@ -236,7 +227,7 @@ impl System {
     /// The system follows no link here.
     pub(crate) fn link(&mut self, from: &str, to: &str) -> Result<(), HostFault>
         ensures made { self.new.trace.calls ≡ Link from.now to.now ∷ self.old.trace.calls }
-        ensures err { IfErr result (λ fault. fault ≡ Device) }
+        ensures err { IfErr result IsOfStep }
     {
         self.trace = self.trace.with(&Request::Link(from, to));
         let answer = fs::hard_link(&self.rt, from, to);
@@ -245,7 +236,7 @@ impl System {
 
     pub(crate) fn make_link(&mut self, target: &str, place: &str) -> Result<(), HostFault>
         ensures made { self.new.trace.calls ≡ MakeLink target.now place.now ∷ self.old.trace.calls }
-        ensures err { IfErr result (λ fault. fault ≡ Device) }
+        ensures err { IfErr result IsOfStep }
     {
         self.trace = self.trace.with(&Request::MakeLink(target, place));
         let answer = symlink(&self.rt, target, place);
@@ -254,7 +245,7 @@ impl System {
 
     pub(crate) fn unlink(&mut self, place: &str) -> Result<(), HostFault>
         ensures made { self.new.trace.calls ≡ Unlink place.now ∷ self.old.trace.calls }
-        ensures err { IfErr result (λ fault. fault ≡ Device) }
+        ensures err { IfErr result IsOfStep }
     {
         self.trace = self.trace.with(&Request::Unlink(place));
         let answer = fs::remove_file(&self.rt, place);
@@ -263,7 +254,7 @@ impl System {
 
     pub(crate) fn remove_directory(&mut self, place: &str) -> Result<(), HostFault>
         ensures made { self.new.trace.calls ≡ RemoveDirectory place.now ∷ self.old.trace.calls }
-        ensures err { IfErr result (λ fault. fault ≡ Device) }
+        ensures err { IfErr result IsOfStep }
     {
         self.trace = self.trace.with(&Request::RemoveDirectory(place));
         let answer = fs::remove_dir(&self.rt, place);
@@ -272,7 +263,7 @@ impl System {
 
     pub(crate) fn sync_file(&mut self, place: &str) -> Result<(), HostFault>
         ensures made { self.new.trace.calls ≡ SyncFile place.now ∷ self.old.trace.calls }
-        ensures err { IfErr result (λ fault. fault ≡ Device) }
+        ensures err { IfErr result IsOfStep }
     {
         self.trace = self.trace.with(&Request::SyncFile(place));
         let answer = sync(&self.rt, place);
@@ -288,7 +279,7 @@ impl System {
 
     pub(crate) fn sync_made(&mut self) -> Result<(), HostFault>
         ensures made { self.new.trace.calls ≡ SyncMade ∷ self.old.trace.calls }
-        ensures err { IfErr result (λ fault. fault ≡ Device) }
+        ensures err { IfErr result IsOfStep }
     {
         self.trace = self.trace.with(&Request::SyncMade);
         let answer = match &self.made {
@@ -304,6 +295,7 @@ impl System {
         ensures made { OnOk result (self.new.trace.calls ≡ SyncDirectory
             (place_of (string_bytes root.now.front) directory.now) ∷ self.old.trace.calls) }
         ensures same { changes_in self.new.trace.calls ≡ changes_in self.old.trace.calls }
+        ensures fault { IfErr result IsUndeclined }
     {
         let place = root.place(directory)?;
         self.trace = self.trace.with(&Request::SyncDirectory(place.as_str()));

@@ -18,7 +18,7 @@ use Rattle.file_removal.specs.Removal.{Goes, Removed, IsRemoving}
 use Rattle.file_removal.specs.Clearing.{cleared, is_among}
 use Rattle.listed_files.specs.Areas.{is_leaving_place, is_list_place, is_listing_place, is_renewed_place, is_work_name}
 use Rattle.listed_files.specs.Closing.{HasReleased, HasRenewed, MayRelease, MayRenew}
-use Rattle.listed_files.specs.Listing.{HasListed, HasUnlisted, MayList, MayUnlist}
+use Rattle.listed_files.specs.Listing.{HasListed, HasTurnedBack, HasUnlisted, MayList, MayTurnBack, MayUnlist}
 
 neither : (a b : Bool) → a || b ≡ false → (a ≡ false) × (b ≡ false)
 neither true b is = absurd (true≢false is)
@@ -62,6 +62,14 @@ module _ (list : Path) (node : Node) (works : List Work) (old : World) where
   pub unlisting_keeps : (now : World) → CanGoBack works old → MayUnlist list node works old now → KeepsBut (is_listing_place list works) old now
   unlisting_keeps now can (inl is) q out = let o = outside q out in (is can.0 can.1).rest q o.2
   unlisting_keeps now can (inr m) q out = let o = outside q out in m.2.rest q o.0 o.1 ∙ (m.1 can.0 can.1).rest q o.2
+
+module _ (list : Path) (union listed : Node) (works : List Work) (old : World) where
+  pub turned_back_keeps : (new : World) → HasTurnedBack list union listed works old new → KeepsBut (is_listing_place list works) old new
+  turned_back_keeps new has q out = let o = outside list union works old q out in has.unlisted.rest q o.0 o.1 ∙ has.undone.rest q o.2 ∙ has.replaced.rest q o.0 o.1
+
+  pub turning_back_keeps : (now : World) → MayTurnBack list union listed works old now → KeepsBut (is_listing_place list works) old now
+  turning_back_keeps now (inl is) q out = listing_keeps list union works old now is q out
+  turning_back_keeps now (inr m) q out = let o = outside list union works old q out in m.4.rest q o.0 o.1 ∙ m.3.rest q o.2 ∙ m.2.rest q o.0 o.1
 
 no_leaving : (xs : List Leaving) (old : World) (q : Path) → is_leaving_place xs q ≡ false → Goes old xs q → ⊥
 no_leaving [] old q out goes = goes

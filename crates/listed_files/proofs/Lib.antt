@@ -4,3 +4,4 @@ pub mod Moments
 pub mod Closings
 pub mod Areas
 pub mod Concludings
+pub mod Turning

@@ -1,14 +1,14 @@
 -- A list and the files of works leave one another alone.
-use Rattle.std.proofs.Common.{◌≡◌, inl, inr, IsTrue, List, [], ◌∷◌, sym, subst, true}
+use Rattle.std.proofs.Common.{◌≡◌, inl, inr, IsTrue, List, [], ◌∷◌, Some, None, refl, sym, ap, subst, ◌∙◌, true}
 use Rattle.host_core.specs.Paths.{Path, is_below_administration}
-use Rattle.host_core.specs.World.{World, IsDirectory}
+use Rattle.host_core.specs.World.{World, IsDirectory, kind_of}
 use Rattle.administration.specs.Places.{info_path, list_path, temporary}
-use Rattle.administration.specs.Files.{KeepsBesideFile}
-use Rattle.administration.proofs.WholeFiles.{no_directory_at}
-use Rattle.file_lists.specs.Writing.{IsListReady}
+use Rattle.administration.specs.Files.{IsReplaced, KeepsBesideFile}
+use Rattle.administration.proofs.WholeFiles.{no_directory_at, no_directory_file, no_directory_none}
+use Rattle.file_lists.specs.Writing.{list_file, list_text, IsListReady}
 use Rattle.package_files.specs.declared.work.Work.{Work}
-use Rattle.package_files.specs.Files.{Each, Misses, is_written}
-use Rattle.package_files.specs.Free.{IsFreeIn}
+use Rattle.package_files.specs.Files.{Each, Misses, Undone, is_written}
+use Rattle.package_files.specs.Free.{IsFreeIn, IsSeen}
 use Rattle.package_files.specs.Names.{HasMaker, IsHomed, IsNamed}
 use Rattle.package_files.specs.Back.{CanGoBack, GoesBack}
 use Rattle.package_files.proofs.WorkLists.{Agree, each_map, each_of, free_agree}
@@ -31,6 +31,9 @@ module _ (name : Path) (v w : World) (rest : KeepsBesideFile (list_path name) v 
 
   pub free_still : (works : List Work) → Each IsNamed works → Each (IsFreeIn v) works → Each (IsFreeIn w) works
   free_still works named free = each_map IsNamed (IsFreeIn v) (IsFreeIn w) (λ x is f. free_agree w v x (agree x is) f) works named free
+
+  pub seen_still : (works : List Work) → Each IsNamed works → Each (IsSeen v) works → Each (IsSeen w) works
+  seen_still works named seen = each_map IsNamed (IsSeen v) (IsSeen w) (λ x is s. s ∙ ap kind_of (sym (agree x is).target)) works named seen
 
   maker_still : (ys : List Work) (front : Path) → Each IsNamed ys → HasMaker ys v front → HasMaker ys w front
   maker_still [] front named maker = absurd maker
@@ -55,6 +58,14 @@ module _ (name : Path) (v w : World) (rest : KeepsBesideFile (list_path name) v 
   pub homed_still : (works : List Work) → Each IsNamed works → IsListReady name v → Each (IsHomed works v) works → Each (IsHomed works w) works
   homed_still works named ready homed = each_of (IsHomed works v) (IsHomed works w) (λ x home. homed_at works x named ready home) works homed
 
+-- a list that was written finds its place again
+pub ready_replaced : (name : Path) (paths : List Path) (v w : World) → IsReplaced (list_path name) (list_file paths) v w → IsListReady name v → IsListReady name w
+ready_replaced name paths v w replaced ready = record {
+  info = directory_still name v w replaced.rest info_path ready ready.info;
+  target = no_directory_at (w (list_path name)) (Some (list_file paths)) replaced.target (no_directory_file (list_file paths) (list_text paths, _, refl));
+  spare = no_directory_at (w (temporary (list_path name))) None replaced.spare no_directory_none;
+}
+
 -- all below the administration's directory is as before, and a list finds its place
 pub ready_still : (name : Path) (v w : World) → ((q : Path) → is_below_administration q ≡ true → w q ≡ v q) → IsListReady name v → IsListReady name w
 ready_still name v w same ready = record {
@@ -65,3 +76,6 @@ ready_still name v w same ready = record {
 
 pub ready_back : (name : Path) (works : List Work) (v w : World) → Each IsNamed works → CanGoBack works v → GoesBack works v w → IsListReady name v → IsListReady name w
 ready_back name works v w named can back ready = ready_still name v w (λ q below. (back can.0 can.1).rest q (all_miss works q named below)) ready
+
+pub ready_undone : (name : Path) (works : List Work) (v w : World) → Each IsNamed works → Undone works v w → IsListReady name v → IsListReady name w
+ready_undone name works v w named undone ready = ready_still name v w (λ q below. undone.rest q (all_miss works q named below)) ready

@@ -14,7 +14,7 @@ ghost use Rattle.file_removal.specs.declared.leaving.Leaving.{Leaving};
 ghost use Rattle.file_removal.specs.Clearing.{is_among};
 ghost use Rattle.listed_files.specs.Areas.{is_listing_place, is_renewed_place};
 ghost use Rattle.listed_files.specs.Closing.{HasReleased, HasRenewed, MayRelease, MayRenew};
-ghost use Rattle.listed_files.specs.Listing.{HasListed, HasUnlisted, MayList, MayUnlist};
+ghost use Rattle.listed_files.specs.Listing.{HasListed, HasTurnedBack, HasUnlisted, MayList, MayTurnBack, MayUnlist};
 
 /// No name of a shipped path's work lies below the directory of the administration.
 pub fn works_are_apart_from_the_administration()
@@ -28,6 +28,12 @@ pub fn what_a_move_leaves()
         → HasListed list node works old new → KeepsBut (is_listing_place list works) old new }
     ensures listing { (list : Path) (node : Node) (works : List Work) (old now : World)
         → MayList list node works old now → KeepsBut (is_listing_place list works) old now }
+    ensures turned_back { (list : Path) (union listed : Node) (works : List Work)
+        (old new : World) → HasTurnedBack list union listed works old new
+        → KeepsBut (is_listing_place list works) old new }
+    ensures turning_back { (list : Path) (union listed : Node) (works : List Work)
+        (old now : World) → MayTurnBack list union listed works old now
+        → KeepsBut (is_listing_place list works) old now }
     ensures unlisted { (list : Path) (node : Node) (works : List Work) (old new : World)
         → CanGoBack works old → HasUnlisted list node works old new
         → KeepsBut (is_listing_place list works) old new }

@@ -7,3 +7,5 @@ pub mod WriteMoments
 pub mod Bareness
 pub mod BackOne
 pub mod BackLists
+pub mod Tried
+pub mod Undoing

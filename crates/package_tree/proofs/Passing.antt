@@ -4,6 +4,7 @@ use Rattle.std.specs.Prelude.{IfErr, IsErrAnd}
 use Rattle.control_fields.specs.Grammar.{ReadsOne, lines_of}
 use Rattle.control_fields.specs.declared.field.Field.{Field}
 use Rattle.host_core.specs.Host.{State, NoFault}
+use Rattle.host_core.proofs.Counted.{declined_then, no_fault_then}
 use Rattle.package_tree.specs.Fault.{CountsTree}
 use Rattle.package_tree.specs.ControlFile.{IsFieldFault, IsTextFault}
 use Rattle.package_tree.specs.declared.fault.TreeFault.{TreeFault}
@@ -29,24 +30,24 @@ told_fields text paragraph (ConffileFlag line) reads is = absurd is
 told_fields text paragraph (TooLarge path) reads is = absurd is
 told_fields text paragraph Device reads is = absurd is
 told_fields text paragraph NoMemory reads is = tt
-told_fields text paragraph Declined reads is = tt
+told_fields text paragraph Declined reads is = absurd is
 
 -- The counts of a fault are those since an earlier state from which none was counted.
 counts_since : (T U : Type 0) (a b c : State) (fault : TreeFault) → NoFault a b → CountsTree {T = T} b c (Err fault) → CountsTree {T = U} a c (Err fault)
-counts_since T U a b c Twice same told = told ∙ same
-counts_since T U a b c NoControl same told = told ∙ same
-counts_since T U a b c (Control fault) same told = told ∙ same
-counts_since T U a b c (FieldMissing name) same told = told ∙ same
-counts_since T U a b c (FieldBad name) same told = told ∙ same
-counts_since T U a b c (PathBad path) same told = told ∙ same
-counts_since T U a b c (Reserved path) same told = told ∙ same
-counts_since T U a b c (ConffileNotShipped name) same told = told ∙ same
-counts_since T U a b c (ConffileShipped path) same told = told ∙ same
-counts_since T U a b c (ConffileFlag line) same told = told ∙ same
-counts_since T U a b c (TooLarge path) same told = told ∙ same
-counts_since T U a b c Device same told = record { once = told.once ∙ ap (λ n. n + 1) same; last = told.last }
-counts_since T U a b c NoMemory same told = told ∙ same
-counts_since T U a b c Declined same told = told ∙ same
+counts_since T U a b c Twice same told = no_fault_then a b c same told
+counts_since T U a b c NoControl same told = no_fault_then a b c same told
+counts_since T U a b c (Control fault) same told = no_fault_then a b c same told
+counts_since T U a b c (FieldMissing name) same told = no_fault_then a b c same told
+counts_since T U a b c (FieldBad name) same told = no_fault_then a b c same told
+counts_since T U a b c (PathBad path) same told = no_fault_then a b c same told
+counts_since T U a b c (Reserved path) same told = no_fault_then a b c same told
+counts_since T U a b c (ConffileNotShipped name) same told = no_fault_then a b c same told
+counts_since T U a b c (ConffileShipped path) same told = no_fault_then a b c same told
+counts_since T U a b c (ConffileFlag line) same told = no_fault_then a b c same told
+counts_since T U a b c (TooLarge path) same told = no_fault_then a b c same told
+counts_since T U a b c Device same told = record { once = told.once ∙ ap (λ n. n + 1) same.faults; last = told.last }
+counts_since T U a b c NoMemory same told = no_fault_then a b c same told
+counts_since T U a b c Declined same told = declined_then a b c same told
 
 pub passed_counts : (T U : Type 0) (a b c : State) (fault : TreeFault) (r : Result U TreeFault) → IsErrAnd r (λ e. e ≡ fault) → NoFault a b → CountsTree {T = T} b c (Err fault) → CountsTree {T = U} a c r
 passed_counts T U a b c fault (Ok x) passed same told = absurd passed

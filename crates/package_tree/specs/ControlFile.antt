@@ -111,6 +111,7 @@ IsFieldFault paragraph (tree.ConffileFlag line) = ⊥
 IsFieldFault paragraph (tree.TooLarge path) = ⊥
 IsFieldFault paragraph tree.Device = ⊥
 IsFieldFault paragraph tree.NoMemory = Unit {0}
+IsFieldFault paragraph tree.Declined = ⊥
 
 -- the text of a control file is this paragraph, with this Package and Version
 pub record IsControlText (text : List ℕ) (paragraph : List Field) (name version : List ℕ) : Type 0 where
@@ -132,3 +133,4 @@ IsTextFault text (tree.ConffileFlag line) = ⊥
 IsTextFault text (tree.TooLarge path) = ⊥
 IsTextFault text tree.Device = ⊥
 IsTextFault text tree.NoMemory = Unit {0}
+IsTextFault text tree.Declined = ⊥

@@ -15,7 +15,7 @@ use Rattle.status_records.specs.declared.words.State.{State}
 use Rattle.status_records.specs.declared.words.State.TheVariants as state
 use Rattle.unpack_rows.specs.Kinds.{own_of, state_of}
 use Rattle.unpack_rows.specs.Notes.{half_configured, half_installed, unpacked}
-use Rattle.unpack_rows.specs.Stages.{Stage, Unwritten, Wrote, Restored}
+use Rattle.unpack_rows.specs.Stages.{Stage, Unwritten, Wrote, Restored, failed_at}
 use Rattle.policy_page.specs.Answers.{Answer, Way, fails, goes, works}
 use Rattle.policy_page.specs.Lines.{End, Line, ◌⇒◌}
 
@@ -61,6 +61,10 @@ row n = record { row = n; fault = None }
 -- it is that of the files, which couldn't be written for this
 abbrev pub files_row : ℕ → StepFault → Fall
 files_row n fault = record { row = n; fault = Some fault }
+
+-- how it leaves them: as they were before it, or put back where a step was declined
+abbrev files_after : StepFault → Stage
+files_after fault = failed_at (Some fault)
 
 module _ (start : Option Record) (incoming : Record) where
   abbrev own : Record
@@ -159,13 +163,13 @@ module _ (start : Option Record) (incoming : Record) where
       ⇒ undo_fails (row 1) Unwritten 0 (unpacked own)
   upgrade (Upgrade.FilesFail prerm fault) =
       prerm_goes prerm ++ works new_preinst_upgrade ∷ works new_postrm_abort_upgrade ∷ works old_postinst_abort_upgrade ∷ []
-      ⇒ undone (files_row 2 fault) Unwritten
+      ⇒ undone (files_row 2 fault) (files_after fault)
   upgrade (Upgrade.FilesFailThenPostrm prerm fault) =
       prerm_goes prerm ++ works new_preinst_upgrade ∷ fails new_postrm_abort_upgrade ∷ []
-      ⇒ undo_fails (files_row 2 fault) Unwritten 1 (half_installed own)
+      ⇒ undo_fails (files_row 2 fault) (files_after fault) 1 (half_installed own)
   upgrade (Upgrade.FilesFailThenPostinst prerm fault) =
       prerm_goes prerm ++ works new_preinst_upgrade ∷ works new_postrm_abort_upgrade ∷ fails old_postinst_abort_upgrade ∷ []
-      ⇒ undo_fails (files_row 2 fault) Unwritten 0 (unpacked own)
+      ⇒ undo_fails (files_row 2 fault) (files_after fault) 0 (unpacked own)
   upgrade (Upgrade.PostrmFails prerm) =
       prerm_goes prerm ++ works new_preinst_upgrade ∷ fails old_postrm_upgrade ∷ fails new_postrm_failed_upgrade
       ∷ works old_preinst_abort_upgrade ∷ works new_postrm_abort_upgrade ∷ works old_postinst_abort_upgrade ∷ []
@@ -196,10 +200,10 @@ module _ (start : Option Record) (incoming : Record) where
       ⇒ undo_fails (row 0) Unwritten 0 (half_installed own)
   upgrade_unconfigured (Unconfigured.FilesFail fault) =
       works new_preinst_upgrade ∷ works new_postrm_abort_upgrade ∷ []
-      ⇒ undone (files_row 1 fault) Unwritten
+      ⇒ undone (files_row 1 fault) (files_after fault)
   upgrade_unconfigured (Unconfigured.FilesFailThenPostrm fault) =
       works new_preinst_upgrade ∷ fails new_postrm_abort_upgrade ∷ []
-      ⇒ undo_fails (files_row 1 fault) Unwritten 0 (half_installed own)
+      ⇒ undo_fails (files_row 1 fault) (files_after fault) 0 (half_installed own)
   upgrade_unconfigured Unconfigured.PostrmFails =
       works new_preinst_upgrade ∷ fails old_postrm_upgrade ∷ fails new_postrm_failed_upgrade
       ∷ works old_preinst_abort_upgrade ∷ works new_postrm_abort_upgrade ∷ []
@@ -226,7 +230,7 @@ module _ (start : Option Record) (incoming : Record) where
       ⇒ undo_fails (row 0) Unwritten 0 (half_installed own)
   install (Install.FilesFail fault) =
       works new_preinst_install ∷ works new_postrm_abort_install ∷ []
-      ⇒ undone (files_row 1 fault) Unwritten
+      ⇒ undone (files_row 1 fault) (files_after fault)
   install (Install.FilesFailThenPostrm fault) =
       works new_preinst_install ∷ fails new_postrm_abort_install ∷ []
-      ⇒ undo_fails (files_row 1 fault) Unwritten 0 (half_installed own)
+      ⇒ undo_fails (files_row 1 fault) (files_after fault) 0 (half_installed own)

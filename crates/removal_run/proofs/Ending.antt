@@ -1,5 +1,5 @@
 -- Those that are left over are told behind the others.
-use Rattle.std.proofs.Common.{◌≡◌, inl, inr, ℕ, Bool, List, [], ◌∷◌, ◌++◌, Option, Some, None, refl, sym, ap, subst, ◌∙◌, append_assoc}
+use Rattle.std.proofs.Common.{◌≡◌, inl, inr, ℕ, Bool, List, [], ◌++◌, Option, Some, None, refl, sym, ap, subst, ◌∙◌, append_assoc}
 use Rattle.std.proofs.lemmas.List.{append-nil}
 use Rattle.std.specs.Prelude.{IfSome, IsNone}
 use Rattle.std.proofs.lemmas.Bool.{true≢false}
@@ -22,8 +22,9 @@ use Rattle.removal_run.specs.Run.{EndsWith, IsAmidRun, IsIdle, RunsThrough, Runs
 use Rattle.removal_run.specs.Turns.{HasStopped, HasTurned, IsAmidTurns, IsBrokenNext}
 use Rattle.removal_run.proofs.Overleft.{depended_calls}
 use Rattle.removal_run.proofs.Removals.{silent_here}
-use Rattle.removal_run.proofs.Replies.{broken_by, counts_no_memory, no_memory_not_closed}
+use Rattle.removal_run.proofs.Replies.{broken_by}
 use Rattle.removal_run.proofs.Turning.{since_next_start}
+use Rattle.unit_reports.proofs.Counting.{counts_no_memory, no_memory_not_closed}
 
 left_over : (packages : List Package) (now : List Record) (waiting : List (List ℕ)) (q : Waiting) (us : List AUnit) → IsNothing packages now waiting q → AreAllTold q us → AreLeftOver packages now waiting us
 left_over packages now waiting q us nothing told = record { queue = q; is = nothing.queue; none = nothing.none; told = told }

@@ -1,5 +1,5 @@
 -- The removal of one package: its moments, its calls and its unit.
-use Rattle.std.proofs.Common.{◌≡◌, ◌⊎◌, inl, ℕ, Bool, List, [], ◌∷◌, ◌++◌, Option, Result, refl, sym, ap, subst, ◌∙◌, append_assoc}
+use Rattle.std.proofs.Common.{◌≡◌, ◌⊎◌, inl, ℕ, Bool, List, [], ◌++◌, Option, Result, refl, sym, ap, subst, ◌∙◌, append_assoc}
 use Rattle.std.proofs.lemmas.List.{append-nil}
 use Rattle.host_core.specs.Events.{Event, scripts_of, calls_of as calls_in}
 use Rattle.host_core.specs.Host.{State, Does, Needs, Silent, Since, calls}
@@ -12,11 +12,9 @@ use Rattle.removal_engine.specs.Units.{HasCalled, IsAmidUnit, given}
 use Rattle.removal_engine.specs.declared.extent.Extent.{Extent}
 use Rattle.held_administration.specs.Order.{IsInOrder}
 use Rattle.unit_reports.specs.Held.{Held}
-use Rattle.unit_reports.specs.Units.{IsBroken, IsBrokenBy, calls_of}
+use Rattle.unit_reports.specs.Units.{IsBroken, IsBrokenBy}
 use Rattle.unit_reports.specs.declared.report.Breakage.TheVariants.{NoMemory}
 use Rattle.unit_reports.specs.declared.report.Unit.{Unit as AUnit}
-use Rattle.undo_rows.proofs.Makes.{tells_then}
-use Rattle.undo_rows.specs.Transcript.{TellsAll}
 use Rattle.undo_rows.specs.declared.rows.Called.{Called}
 use Rattle.removal_run.specs.Units.{Answers, HasCalledRemoving, IsAmidRemoval, IsBroughtToDisk, IsRemoval, extent_of, given_by, holding_of}
 use Rattle.removal_run.proofs.Replies.{broken_or}

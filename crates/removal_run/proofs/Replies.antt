@@ -1,18 +1,16 @@
 -- How units answer, and the faults of their hosts.
 use Rattle.std.specs.Prelude.{MatchBool}
-use Rattle.std.proofs.Common.{◌≡◌, ◌⊎◌, inl, inr, ℕ, ◌+◌, Bool, true, false, List, Option, Some, None, Err, sym, ap, subst, ◌∙◌}
+use Rattle.std.proofs.Common.{◌≡◌, ◌⊎◌, inl, inr, ℕ, Bool, true, false, List, Option, Some, None, sym, subst, ◌∙◌}
 use Rattle.std.proofs.lemmas.Bool.{true≢false}
-use Rattle.host_core.specs.Host.{State, Counts, faults, NoFault}
+use Rattle.host_core.specs.Host.{State, NoFault}
 use Rattle.host_core.specs.declared.call.Call.{Call}
-use Rattle.host_core.specs.declared.fault.HostFault.{HostFault}
-use Rattle.host_core.specs.declared.fault.HostFault.TheVariants as host
 use Rattle.status_records.specs.declared.record.Record.{Record}
 use Rattle.unit_reports.specs.declared.report.Breakage.{Breakage}
-use Rattle.unit_reports.specs.declared.report.Breakage.TheVariants.{Device, NoMemory, Declined, Closed}
+use Rattle.unit_reports.specs.declared.report.Breakage.TheVariants.{NoMemory, Closed}
 use Rattle.unit_reports.specs.declared.report.Reply.{Reply}
-use Rattle.unit_reports.specs.declared.report.Reply.TheVariants.{Done, Refused, Failed, Broken}
 use Rattle.unit_reports.specs.declared.report.Unit.{Unit as AUnit}
-use Rattle.unit_reports.specs.Units.{CountsReply, IsBroken, IsBrokenBy, breakage_of}
+use Rattle.unit_reports.proofs.Counting.{no_memory_not_closed}
+use Rattle.unit_reports.specs.Units.{CountsReply, IsBroken, IsBrokenBy}
 use Rattle.removal_run.specs.Units.{Answers, reply_to}
 
 -- a unit that wasn't broken off is as is said of it
@@ -36,9 +34,6 @@ pub broken_or : {Q R : Type 0} (breakage : Breakage) (reply : Reply) → (Q → 
 broken_or breakage reply so (inl broken) = inl (broken_by breakage reply broken)
 broken_or breakage reply so (inr holds) = inr (so holds)
 
-pub no_memory_not_closed : (reply : Reply) → IsBrokenBy NoMemory reply → IsBrokenBy Closed reply → ⊥
-no_memory_not_closed reply broken closed = let e : Broken NoMemory ≡ Broken Closed = sym broken ∙ closed in cc
-
 reply_not_closed : (name : List ℕ) (failed : Option Call) → IsBrokenBy Closed (reply_to name failed) → ⊥
 reply_not_closed name None closed = cc
 reply_not_closed name (Some call) closed = cc
@@ -46,11 +41,6 @@ reply_not_closed name (Some call) closed = cc
 pub answer_not_closed : (name : List ℕ) (records : List Record) (failed : Option Call) (u : AUnit) → IsBrokenBy NoMemory u.reply ⊎ Answers name records failed u → IsBrokenBy Closed u.reply → ⊥
 answer_not_closed name records failed u (inl broken) closed = no_memory_not_closed u.reply broken closed
 answer_not_closed name records failed u (inr answers) closed = reply_not_closed name failed (sym answers.replied ∙ closed)
-
-pub fault_not_closed : (fault : HostFault) (reply : Reply) → IsBrokenBy (breakage_of fault) reply → IsBrokenBy Closed reply → ⊥
-fault_not_closed host.Device reply is closed = let e : Broken Device ≡ Broken Closed = sym is ∙ closed in cc
-fault_not_closed host.NoMemory reply is closed = no_memory_not_closed reply is closed
-fault_not_closed host.Declined reply is closed = no_memory_not_closed reply is closed
 
 -- the faults of a unit
 
@@ -62,19 +52,3 @@ pub counts_answered : (name : List ℕ) (records : List Record) (failed : Option
 counts_answered name records failed u a b same (inl broken) = subst (CountsReply a b) (sym broken) same
 counts_answered name records failed u a b same (inr answers) = subst (CountsReply a b) (sym answers.replied) (counts_reply name failed a b same)
 
-counts_fault : (T : Type 0) (fault : HostFault) (a b : State) → Counts {T = T} a b (Err fault) → CountsReply a b (Broken (breakage_of fault))
-counts_fault T host.Device a b counts = counts
-counts_fault T host.NoMemory a b counts = counts
-counts_fault T host.Declined a b counts = counts
-
-pub counts_broken : (T : Type 0) (fault : HostFault) (reply : Reply) (a b : State) → IsBrokenBy (breakage_of fault) reply → Counts {T = T} a b (Err fault) → CountsReply a b reply
-counts_broken T fault reply a b broken counts = subst (CountsReply a b) (sym broken) (counts_fault T fault a b counts)
-
-pub counts_no_memory : (reply : Reply) (a b : State) → NoFault a b → IsBrokenBy NoMemory reply → CountsReply a b reply
-counts_no_memory reply a b same broken = subst (CountsReply a b) (sym broken) same
-
-pub counts_whole : (reply : Reply) (a b : State) → (IsBroken reply → ⊥) → CountsReply a b reply → NoFault a b
-counts_whole (Broken breakage) a b whole counts = absurd (whole tt)
-counts_whole Done a b whole counts = counts
-counts_whole (Refused refusal) a b whole counts = counts
-counts_whole (Failed failure) a b whole counts = counts

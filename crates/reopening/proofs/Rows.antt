@@ -18,9 +18,9 @@ use Rattle.package_files.specs.declared.work.Work.{Work}
 use Rattle.package_files.specs.Back.{CanGoBack}
 use Rattle.status_records.specs.declared.record.Record.{Record}
 use Rattle.unpack_commit.proofs.Left.{same_list}
-use Rattle.unpack_engine.proofs.Frames.{IsBeside, amid_same, come_same}
+use Rattle.unpack_engine.proofs.Frames.{IsBeside, amid_same, come_same, put_list}
 use Rattle.listed_files.proofs.Listings.{all_miss}
-use Rattle.listed_files.specs.Listing.{MayList, MayUnlist}
+use Rattle.listed_files.specs.Listing.{MayList, MayTurnBack, MayUnlist}
 use Rattle.unpack_rows.specs.Stages.{Stage, Unwritten, Wrote, Restored}
 use Rattle.unpack_steps.proofs.FileWorlds.{still_written}
 use Rattle.unpack_steps.proofs.Rearranged.{named_rearranged}
@@ -71,6 +71,10 @@ module _ (t : Task) (named : is_package_name (name t) ≡ true) (works_named : E
     can_go_back : (c : Change) (w : World) → HasFiles t works c w → CanGoBack works w
     can_go_back c w has = (has.listed.mid, still_written t works c w has moved all_named)
 
+    turning_list : (v w : World) → MayTurnBack list (list_file t.union) (list_file t.listed) works v w → IsReadable (v list) → IsReadable (w list)
+    turning_list v w (inl may) readable = listing_list v w may readable
+    turning_list v w (inr m) readable = one_written (m.1 list) (w list) t.listed listed m.4.target (subst IsReadable (sym (m.3.rest list miss ∙ m.2.target)) (good_readable t.union union))
+
     unlisting_list : (c : Change) (v w : World) → HasFiles t works c v → MayUnlist list (list_file t.listed) works v w → IsReadable (w list)
     unlisting_list c v w has (inl is) = let can = can_go_back c v has in subst IsReadable (sym ((is can.0 can.1).rest list miss)) (files_list c v has)
     unlisting_list c v w has (inr m) =
@@ -78,11 +82,11 @@ module _ (t : Task) (named : is_package_name (name t) ≡ true) (works_named : E
         one_written (m.0 list) (w list) t.listed listed m.2.target (subst IsReadable (sym ((m.1 can.0 can.1).rest list miss)) (files_list c v has))
 
     gone_back_list : (c : Change) (w : World) → HasGoneBack t works c w → IsReadable (w list)
-    gone_back_list c w has = subst IsReadable (sym (follows_list t.places has.late has.back w has.since ∙ has.unlisted.replaced.target)) (good_readable t.listed listed)
+    gone_back_list c w has = subst IsReadable (sym (follows_list t.places has.late has.back w has.since ∙ put_list t works has.early has.back has.put)) (good_readable t.listed listed)
 
   amid_list : (table : List Record) (c : Change) (w : World) → IsAmid t table c w → IsReadable (t.start.world list) → IsReadable (w list)
   amid_list table c w (IsAmid.untouched follows) readable = subst IsReadable (sym (follows_list t.places c t.start.world w follows)) readable
-  amid_list table c w (IsAmid.writing works found moved marked follows may) readable = listing_list works moved found w may (subst IsReadable (sym (follows_list t.places c t.start.world found follows)) readable)
+  amid_list table c w (IsAmid.writing works found moved marked follows may) readable = turning_list works moved found w may (subst IsReadable (sym (follows_list t.places c t.start.world found follows)) readable)
   amid_list table c w (IsAmid.written works moved marked has) readable = files_list works moved c w has
   amid_list table c w (IsAmid.going_back works last moved marked has may) readable = unlisting_list works moved c last w has may
   amid_list table c w (IsAmid.back works moved has) readable = gone_back_list works moved c w has

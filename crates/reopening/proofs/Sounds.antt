@@ -2,7 +2,7 @@
 use Rattle.std.proofs.Common.{◌≡◌, ℕ, IsTrue, List, [], ◌∷◌, Option, Some, refl, sym, subst, ◌∙◌}
 use Rattle.std.proofs.Math.Logic.{∥∥₁_map}
 use Rattle.std.proofs.lemmas.List.{append-nil}
-use Rattle.host_core.specs.Events.{Event, Did, Finished, Cut, Failed}
+use Rattle.host_core.specs.Events.{Event, Did, Finished, Cut, Failed, Denied}
 use Rattle.host_core.specs.Host.{AllFailed, Happens, Needs, Reads, Since, State, Throughout}
 use Rattle.host_core.proofs.Moments.{since_then, unmoved}
 use Rattle.host_core.specs.World.{Barrier, World}
@@ -121,6 +121,7 @@ opened_reads h s t sound reads = record {
     all_failed (Finished ran ∷ fs) failed w opens = absurd failed
     all_failed (Cut call change ∷ fs) failed w opens = absurd failed
     all_failed (Failed ∷ fs) failed w opens = (opens, (λ d cut. absurd cut), all_failed fs failed w opens)
+    all_failed (Denied path ∷ fs) failed w opens = absurd failed
 
 pub opened_here : (h : Held) (s : State) → (IsTrue s.honest → IsSound h s.world) → Opened s s
 opened_here h s sound = opened_reads h s s sound (record { honest = λ h. h; world = refl; added = []; failed = tt; events = sym (append-nil s.events) })

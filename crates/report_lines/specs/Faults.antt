@@ -100,10 +100,11 @@ abbrev pub target_text : List ℕ → Option (List ℕ) → List ℕ
 target_text path None = codes "DiversionTarget " ++ path_text path
 target_text path (Some diverter) = codes "DiversionTarget " ++ (path_text path ++ (codes " " ++ diverter))
 
--- the step fault of the files with its path, and the package with which the path clashes
+-- the step fault of the files with its path, and the package with which the path clashes; of a step that was declined its path
 abbrev pub step_text : StepFault → List ℕ
 step_text (step.LinkParent path) = codes "LinkParent " ++ path_text path
 step_text (step.NoParent path) = codes "NoParent " ++ path_text path
 step_text (step.DirInWay path) = codes "DirInWay " ++ path_text path
 step_text (step.Clash path owner) = codes "Clash " ++ (path_text path ++ (codes " " ++ owner))
 step_text (step.DiversionTarget path diverter) = target_text path diverter
+step_text (step.Declined path) = codes "Declined " ++ path_text path

@@ -28,7 +28,8 @@ expectation file line = if nat_eq line 0 then whole_expectation file else line_e
 abbrev pub damaged_line : List ℕ → ℕ → List ℕ
 damaged_line file at = line (codes "damaged " ++ (path_text file ++ (codes " " ++ decimal at)))
 
--- `damaged FILE LINE`, the file by its full path under the root, and what was expected there; `broken device` or `broken memory`
+-- `damaged FILE LINE`, the file by its full path under the root, and what was expected there; `broken device`, `broken memory` or
+-- `broken declined`
 abbrev pub opening_line : AdministrationFault → List ℕ
 opening_line (Damaged file at) = damaged_line file at ++ (codes "expected: " ++ (expectation file at ++ codes "\n"))
 opening_line Device = codes "broken device\n"

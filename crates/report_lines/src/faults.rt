@@ -205,6 +205,7 @@ pub(crate) fn step_text(alloc: Global, fault: &StepFault) -> Result<String, Allo
         StepFault::DirInWay(path) => at_path(alloc, "DirInWay", path),
         StepFault::Clash(path, owner) => at_path_of(alloc, "Clash", path, owner),
         StepFault::DiversionTarget(path, diverter) => target_text(alloc, path, diverter),
+        StepFault::Declined(path) => at_path(alloc, "Declined", path),
     }
 }
 

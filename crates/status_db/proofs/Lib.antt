@@ -9,3 +9,4 @@ pub mod NotesRead
 pub mod Marks
 pub mod NoteTexts
 pub mod Entered
+pub mod Barriered

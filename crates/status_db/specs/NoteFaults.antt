@@ -14,20 +14,18 @@ use Rattle.status_db.specs.NoteDamage.{IsFaultyRest, IsFaultyStart, IsNoteDamage
 abbrev pub IsStartFault : Located → Option ControlFault → StatusFault → Type 0
 IsStartFault begun fault (Line line) = IsFaultyStart begun fault line
 IsStartFault begun fault NoMemory = Unit {0}
-IsStartFault begun fault Declined = Unit {0}
 
 abbrev pub IsRestFault : List Located → Located → Option ControlFault → StatusFault → Type 0
 IsRestFault rest begun fault (Line line) = IsFaultyRest rest begun.line begun.paragraph fault line
 IsRestFault rest begun fault NoMemory = Unit {0}
-IsRestFault rest begun fault Declined = Unit {0}
 
 abbrev pub IsNoteTextFault : List ℕ → StatusFault → Type 0
 IsNoteTextFault text (Line line) = IsNoteFault text line
 IsNoteTextFault text NoMemory = Unit {0}
-IsNoteTextFault text Declined = Unit {0}
 
--- why no note is read of what stands at a path; the device has no part in it
+-- why no note is read of what stands at a path; the device has no part in it, and nothing was to be done that it could decline
 abbrev pub IsNoteFileFault : Path → Option Node → AdministrationFault → Type 0
 IsNoteFileFault path found (administration.Damaged file line) = (file ≡ path) × IsNoteDamage found line
 IsNoteFileFault path found administration.Device = ⊥
 IsNoteFileFault path found administration.NoMemory = Unit {0}
+IsNoteFileFault path found administration.Declined = ⊥

@@ -46,6 +46,20 @@ fn take_notes<H: Host>(alloc: Global, host: &mut H, count: u16) -> Result<(), Ho
     Ok(())
 }
 
+// Takes the notes below a number away, once what was written in their place is on the disk.
+fn take_merged<H: Host>(alloc: Global, host: &mut H, count: u16) -> Result<(), HostFault>
+    requires count { count ≤ 10000 }
+    requires files { Needs (H.state host.old) (λ w. (n : ℕ) → n < count
+        → NoDirectory (w (place.note_path n))) }
+    ensures taken { Leaves result (IsTaken count) (H.state host.old) (H.state host.new) }
+    ensures any_moment { AtEachMoment IsTakingNotes (H.state host.old) (H.state host.new) }
+    ensures silent { Silent (H.state host.old) (H.state host.new) }
+    ensures counts { Counts (H.state host.old) (H.state host.new) result }
+{
+    host.barrier()?;
+    take_notes(alloc, host, count)
+}
+
 // Writes the status file, and takes the notes away that it now has.
 fn replace_notes<H: Host>(
     alloc: Global,
@@ -68,7 +82,7 @@ fn replace_notes<H: Host>(
 {
     let path = RootPath::from_str(alloc, STATUS)?;
     replace(host, &path, status)?;
-    take_notes(alloc, host, count)
+    take_merged(alloc, host, count)
 }
 
 /// Writes the status file of a table, and takes the notes away, the smallest number first.

@@ -3,6 +3,7 @@ ghost use Rattle.std.specs.Prelude.{◌≡◌, ◌↔◌, ◌+◌, ◌≤◌, Li
 ghost use Rattle.std.specs.List.{list_any};
 ghost use Rattle.std.specs.Option.{option_copied};
 ghost use Rattle.host_core.specs.Host.{AtEachMoment, Leaves, Needs, Reads, Silent, Tells};
+ghost use Rattle.host_core.specs.Loss.{IsOnDisk};
 ghost use Rattle.administration.specs.Fault.{CountsAdministration};
 ghost use Rattle.status_records.specs.Conffiles.{has_conffile};
 ghost use Rattle.status_db.specs.Fault.{CountsRecord};
@@ -138,6 +139,8 @@ impl NotedDatabase {
             (H.state host.new) }
         ensures any_moment { AtEachMoment (IsNoting self.old.records
             (entered_in entry self.old.records)) (H.state host.old) (H.state host.new) }
+        ensures on_disk { writes_note entry self.old.records ≡ true
+            → OnOk result (IsOnDisk (H.state host.new).events) }
         ensures silent { Silent (H.state host.old) (H.state host.new) }
         ensures counts { CountsRecord (H.state host.old) (H.state host.new) result }
     {
@@ -177,6 +180,8 @@ impl NotedDatabase {
             (H.state host.new) }
         ensures any_moment { AtEachMoment (IsNoting self.old.records
             (drop_record name.now self.old.records)) (H.state host.old) (H.state host.new) }
+        ensures on_disk { is_some (record_in self.old.records name.now) ≡ true
+            → OnOk result (IsOnDisk (H.state host.new).events) }
         ensures silent { Silent (H.state host.old) (H.state host.new) }
         ensures counts { CountsRecord (H.state host.old) (H.state host.new) result }
     {

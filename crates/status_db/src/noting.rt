@@ -2,6 +2,7 @@
 ghost use Rattle.std.specs.Prelude.{◌≡◌, ◌+◌, ◌<◌, ◌≤◌, List, true, false, OnOk, OnErr, cond, is_some};
 ghost use Rattle.host_core.specs.World.{IsFile, World};
 ghost use Rattle.host_core.specs.Host.{AtEachMoment, Counts, Leaves, Needs, Silent};
+ghost use Rattle.host_core.specs.Loss.{IsOnDisk};
 ghost use Rattle.administration.specs.Files.{IsReplaced, IsReplacing, NoDirectory};
 ghost use Rattle.texts.specs.PackageNames.{is_package_name};
 ghost use Rattle.status_records.specs.declared.record.Record.{Record as ARecord};
@@ -26,7 +27,7 @@ use texts::Text;
 const MOST_NOTES: u16 = 250;
 
 // Writes the note of a number.
-fn write_note<H: Host>(
+fn replace_note<H: Host>(
     alloc: Global,
     host: &mut H,
     number: u16,
@@ -45,6 +46,31 @@ fn write_note<H: Host>(
 {
     let path = note_path(alloc, number)?;
     replace(host, &path, node)
+}
+
+// Writes the note of a number. All that was done is on the disk before the note says so, and the note
+// before anything more is done.
+fn write_note<H: Host>(
+    alloc: Global,
+    host: &mut H,
+    number: u16,
+    node: &Node,
+) -> Result<(), HostFault>
+    requires file { IsFile node.now }
+    requires number { number < 10000 }
+    requires unblocked { Needs (H.state host.old) IsUnblocked }
+    requires target { Needs (H.state host.old) (λ w. NoDirectory (w (place.note_path number))) }
+    ensures replaced { Leaves result (IsReplaced (place.note_path number) node.now)
+        (H.state host.old) (H.state host.new) }
+    ensures any_moment { AtEachMoment (IsReplacing (place.note_path number) node.now)
+        (H.state host.old) (H.state host.new) }
+    ensures on_disk { OnOk result (IsOnDisk (H.state host.new).events) }
+    ensures silent { Silent (H.state host.old) (H.state host.new) }
+    ensures counts { Counts (H.state host.old) (H.state host.new) result }
+{
+    host.barrier()?;
+    replace_note(alloc, host, number, node)?;
+    host.barrier()
 }
 
 // Merges the notes where as many as may be stand.
@@ -93,6 +119,7 @@ fn write_next<H: Host>(
     ensures any_moment { (note : Note) (after : List ARecord) → IsNoteFile node.now note
         → IsEntered note table.now after → AtEachMoment (IsNoting table.now after)
         (H.state host.old) (H.state host.new) }
+    ensures on_disk { OnOk result (IsOnDisk (H.state host.new).events) }
     ensures silent { Silent (H.state host.old) (H.state host.new) }
     ensures counts { Counts (H.state host.old) (H.state host.new) result }
 {
@@ -121,6 +148,7 @@ fn write_record<H: Host>(
         (H.state host.new) }
     ensures any_moment { AtEachMoment (IsNoting table.now (put_record entry.now table.now))
         (H.state host.old) (H.state host.new) }
+    ensures on_disk { OnOk result (IsOnDisk (H.state host.new).events) }
     ensures silent { Silent (H.state host.old) (H.state host.new) }
     ensures counts { Counts (H.state host.old) (H.state host.new) result }
 {
@@ -148,6 +176,7 @@ fn write_gone<H: Host>(
         (H.state host.new) }
     ensures any_moment { AtEachMoment (IsNoting table.now (drop_record name.now table.now))
         (H.state host.old) (H.state host.new) }
+    ensures on_disk { OnOk result (IsOnDisk (H.state host.new).events) }
     ensures silent { Silent (H.state host.old) (H.state host.new) }
     ensures counts { Counts (H.state host.old) (H.state host.new) result }
 {
@@ -177,6 +206,7 @@ fn note_record<H: Host>(
         (H.state host.new) }
     ensures any_moment { AtEachMoment (IsNoting table.old (put_record entry table.old))
         (H.state host.old) (H.state host.new) }
+    ensures on_disk { OnOk result (IsOnDisk (H.state host.new).events) }
     ensures silent { Silent (H.state host.old) (H.state host.new) }
     ensures counts { Counts (H.state host.old) (H.state host.new) result }
 {
@@ -207,6 +237,8 @@ pub(crate) fn forget_record<H: Host>(
         → Leaves result (IsPlaced table.old notes.old) (H.state host.old) (H.state host.new) }
     ensures any_moment { AtEachMoment (IsNoting table.old (drop_record name.now table.old))
         (H.state host.old) (H.state host.new) }
+    ensures on_disk { is_some (record_in table.old name.now) ≡ true
+        → OnOk result (IsOnDisk (H.state host.new).events) }
     ensures silent { Silent (H.state host.old) (H.state host.new) }
     ensures counts { Counts (H.state host.old) (H.state host.new) result }
 {
@@ -240,6 +272,8 @@ pub(crate) fn enter_record<H: Host>(
         → Leaves result (IsPlaced table.old notes.old) (H.state host.old) (H.state host.new) }
     ensures any_moment { AtEachMoment (IsNoting table.old (entered_in entry table.old))
         (H.state host.old) (H.state host.new) }
+    ensures on_disk { writes_note entry table.old ≡ true
+        → OnOk result (IsOnDisk (H.state host.new).events) }
     ensures silent { Silent (H.state host.old) (H.state host.new) }
     ensures counts { Counts (H.state host.old) (H.state host.new) result }
 {

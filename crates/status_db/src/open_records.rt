@@ -1,8 +1,9 @@
 // Notes in records that are open.
-ghost use Rattle.std.specs.Prelude.{◌≡◌, OnOk, OnErr, true, false};
+ghost use Rattle.std.specs.Prelude.{◌≡◌, OnOk, OnErr, true, false, is_some};
 ghost use Rattle.host_core.specs.Host.{AtEachMoment, Counts, Leaves, Needs, Silent};
+ghost use Rattle.host_core.specs.Loss.{IsOnDisk};
 ghost use Rattle.status_db.specs.Noting.{IsNoted, IsNoting};
-ghost use Rattle.status_records.specs.Records.{drop_record, put_record};
+ghost use Rattle.status_records.specs.Records.{drop_record, put_record, record_in};
 ghost use Rattle.status_db.specs.Held.{IsKept};
 ghost use Rattle.status_records.specs.Words.{is_not_installed};
 
@@ -30,6 +31,7 @@ pub fn note_record<H: Host>(
     ensures kept { Leaves result (IsNoted database.new) (H.state host.old) (H.state host.new) }
     ensures any_moment { AtEachMoment (IsNoting database.old.records
         (put_record entry database.old.records)) (H.state host.old) (H.state host.new) }
+    ensures on_disk { OnOk result (IsOnDisk (H.state host.new).events) }
     ensures silent { Silent (H.state host.old) (H.state host.new) }
     ensures counts { Counts (H.state host.old) (H.state host.new) result }
 {
@@ -59,6 +61,8 @@ pub fn note_no_record<H: Host>(
     ensures kept { Leaves result (IsNoted database.new) (H.state host.old) (H.state host.new) }
     ensures any_moment { AtEachMoment (IsNoting database.old.records
         (drop_record name.now database.old.records)) (H.state host.old) (H.state host.new) }
+    ensures on_disk { is_some (record_in database.old.records name.now) ≡ true
+        → OnOk result (IsOnDisk (H.state host.new).events) }
     ensures silent { Silent (H.state host.old) (H.state host.new) }
     ensures counts { Counts (H.state host.old) (H.state host.new) result }
 {

@@ -3,7 +3,7 @@ ghost use Rattle.std.specs.Prelude.{◌≡◌, List, IfOk, IfErr, IsErrOf, IsTru
 ghost use Rattle.host_core.specs.Host.{Reads, Silent, Tells};
 ghost use Rattle.administration.specs.Fault.{CountsAdministration};
 ghost use Rattle.administration.specs.Places.{status_path};
-ghost use Rattle.administration.specs.declared.fault.AdministrationFault.TheVariants.{Device};
+ghost use Rattle.administration.specs.declared.fault.AdministrationFault.TheVariants.{Device, Declined};
 ghost use Rattle.status_records.specs.Status.{IsFileDamage, IsNodeDamage, IsStatusDamage};
 ghost use Rattle.status_db.specs.Held.{IsTableOf, IsTableOfText};
 
@@ -18,6 +18,7 @@ fn read_file(alloc: Global, path: RootPath, bytes: &[u8]) -> Result<Table, Admin
     ensures table { IfOk result (IsTableOfText bytes.now) }
     ensures damage { IfErr result (IsFileDamage bytes.now) }
     ensures device { IsErrOf result Device → ⊥ }
+    ensures declined { IsErrOf result Declined → ⊥ }
 {
     match read_text(alloc, bytes) {
         Ok(records) => Ok(Table::of_records(alloc, records)?),
@@ -36,6 +37,7 @@ fn read_node(
     ensures table { IfOk result (IsTableOf node) }
     ensures damage { IfErr result (IsNodeDamage node) }
     ensures device { IsErrOf result Device → ⊥ }
+    ensures declined { IsErrOf result Declined → ⊥ }
 {
     match node {
         None => read_file(alloc, path, &[]),

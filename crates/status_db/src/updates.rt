@@ -7,7 +7,7 @@ ghost use Rattle.administration.specs.Fault.{CountsAdministration};
 ghost use Rattle.administration.specs.Directories.{HasBadName};
 ghost use Rattle.administration.specs.Files.{NoDirectory};
 ghost use Rattle.administration.specs.Places.{temporary, updates_path};
-ghost use Rattle.administration.specs.declared.fault.AdministrationFault.TheVariants.{Device};
+ghost use Rattle.administration.specs.declared.fault.AdministrationFault.TheVariants.{Device, Declined};
 ghost use Rattle.status_db.specs.Notes as place;
 ghost use Rattle.status_db.specs.Notes.{IsNoteTaken, digits};
 ghost use Rattle.status_db.specs.NoteReading.{AreMarked, AreNumbersTaken, HasMarks, HasNone, IsNext, IsFileDamage, IsNameDamage, IsNotesDamage, IsNumberDamage, IsNumberTaken, IsNumbersDamage, IsSpareDamage};
@@ -86,6 +86,7 @@ fn marks_in(
     ensures damage { (w : World) → IsListing w updates_path listing.now.names listing.now.bad
         → IfErr result (IsNameDamage w) }
     ensures device { IfErr result (λ fault. fault ≡ Device → ⊥) }
+    ensures declined { IfErr result (λ fault. fault ≡ Declined → ⊥) }
 {
     if listing.bad {
         return Err(AdministrationFault::Damaged {

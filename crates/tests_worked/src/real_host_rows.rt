@@ -3,13 +3,13 @@
 mod owner_rows;
 mod remembered_rows;
 
-use host_core::{Access, Host, HostFault, Kind, RootPath};
+use host_core::{Access, Host, HostFault, Kind, Node, RootPath};
 use host_files::{FilesHost, Unknown};
 use std::alloc::{AllocError, Global};
 use std::process::{Command, Stdio};
 use std::test::Fail;
 use std::{fs, io, str};
-use texts::Text;
+use texts::{Bytes, Text};
 
 type RealHost = FilesHost<Unknown>;
 
@@ -81,6 +81,16 @@ fn make(host: &mut RealHost, word: &str, path: &RootPath, target: &Text) -> Resu
     }
 }
 
+// Writes a script; at a temporary name alone.
+fn write(alloc: Global, host: &mut RealHost, path: &RootPath) -> Result<(), HostFault> {
+    if !path.as_str().ends_with(".dpkg-inst") {
+        return Err(HostFault::NoMemory);
+    }
+    let bytes = Bytes::from_slice(alloc, b"#!/bin/sh\nexit 7\n")?;
+    let access = Access::own(0o755);
+    host.write_new(path, &Node::File { bytes, access })
+}
+
 // What the host answers to a call.
 fn told(
     alloc: Global,
@@ -93,6 +103,10 @@ fn told(
         "kind" => Ok(kind_text(host.kind(&path)?)),
         "make" | "make_link" => {
             make(host, word, &path, &Text::from_str(alloc, other)?)?;
+            Ok("done")
+        }
+        "write" => {
+            write(alloc, host, &path)?;
             Ok("done")
         }
         _ => {
@@ -248,6 +262,28 @@ one
 one
 ";
     assert_eq!(&rt; left.as_str(), row);
+    Ok(())
+}
+
+// A directory that has entries can't be removed, whoever asks.
+const NOT_EMPTY: &[Row] = &[
+    (
+        "mkdir -p root/kept/below
+echo one >root/kept/file",
+        ("remove_dir", "/kept", "/"),
+        "Declined",
+    ),
+    ("", ("remove_dir", "/kept/below", "/"), "done"),
+    ("", ("remove_dir", "/kept", "/"), "Declined"),
+    ("", ("remove", "/kept/file", "/"), "done"),
+    ("", ("remove_dir", "/kept", "/"), "done"),
+    ("", ("remove_dir", "/kept", "/"), "Device"),
+];
+
+#[test]
+fn directories_with_entries(rt: HostRuntime) -> Result<(), Fail> {
+    let left = run(&rt, NOT_EMPTY, "find root")?;
+    assert_eq!(&rt; left.as_str(), "root\n");
     Ok(())
 }
 

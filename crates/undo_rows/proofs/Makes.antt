@@ -114,7 +114,7 @@ off_by : (kept : Path → Bool) (call : Call) (fault : HostFault) (a b : State) 
 off_by kept call Device a b (inl goes) = BrokeOff.failed goes
 off_by kept call Device a b (inr more) = BrokeOff.within call more.0 (killed call, [], refl, refl) more.1 more.2
 off_by kept call NoMemory a b same = BrokeOff.before same
-off_by kept call Declined a b same = BrokeOff.before same
+off_by kept call Declined a b never = absurd never
 
 pub begins_failed : (kept : Path → Bool) (call : Call) (fault : HostFault) (a b : State) (told now : List Called) → Runs kept call a b (Err fault) → now ≡ told → Begins kept (IsCall call) a b told now
 begins_failed kept call fault a b told now runs same = begins_off kept (IsCall call) a b told now (killed call ∷ []) same (some_call call) (off_by kept call fault a b runs)
@@ -145,3 +145,5 @@ counts_told U a b Device (Err NoMemory) is counts = absurd cc
 counts_told U a b Device (Err Declined) is counts = absurd cc
 counts_told U a b NoMemory (Err NoMemory) is counts = counts
 counts_told U a b Declined (Err Declined) is counts = counts
+counts_told U a b NoMemory (Err Declined) is counts = absurd cc
+counts_told U a b Declined (Err NoMemory) is counts = absurd cc

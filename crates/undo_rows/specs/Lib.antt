@@ -5,4 +5,5 @@ pub mod Transcripts
 pub mod Telling
 pub mod Stops
 pub mod Ended
+pub mod Faults
 pub mod Stepping

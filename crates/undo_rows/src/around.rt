@@ -7,6 +7,7 @@ ghost use Rattle.host_core.specs.Host.{Calls, Counts, OnlyScripts, Silent, State
 ghost use Rattle.undo_rows.specs.declared.rows.Row.{Row};
 ghost use Rattle.undo_rows.specs.declared.rows.Owner.TheVariants.{Files};
 ghost use Rattle.undo_rows.specs.declared.fall.StepFault.{StepFault};
+ghost use Rattle.undo_rows.specs.Faults.{OnlyIfDeclined};
 ghost use Rattle.undo_rows.specs.Place.{Back, Forward, Place, Ready, blamed, called, worked};
 ghost use Rattle.undo_rows.specs.Stops.{AtEachStop};
 ghost use Rattle.undo_rows.specs.Transcripts.{IfHonest};
@@ -89,6 +90,8 @@ pub trait Around<H: Host> {
         ensures fault { IfOk result
             (IfHonest (H.state host.new) (file_step_fault (task self.old))
             (calls (H.state host.old))) }
+        ensures denied { IfOk result
+            (λ fault. OnlyIfDeclined fault (H.state host.old) (H.state host.new)) }
         ensures place { IfOk result (λ fault. at self.new (H.state host.new) (worked index fault)) }
         ensures any_moment { AtEachStop (stops (task self.old)) (H.state host.old)
             (H.state host.new) }

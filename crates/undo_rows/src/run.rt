@@ -1,6 +1,7 @@
 // A run of rows: forward, and back where one fails.
-ghost use Rattle.std.specs.Prelude.{◌≡◌, [], IfOk, IsSome, None, Some, length};
+ghost use Rattle.std.specs.Prelude.{◌≡◌, [], IfOk, IfSome, IsSome, None, Some, length};
 ghost use Rattle.host_core.specs.Host.{Counts};
+ghost use Rattle.undo_rows.specs.Faults.{OnlyIfDeclined};
 ghost use Rattle.undo_rows.specs.Place.{Back, Fit, Forward};
 ghost use Rattle.undo_rows.specs.Stops.{AtEachStop};
 ghost use Rattle.undo_rows.specs.Telling.{Begun, HasRun, HasUnwound};
@@ -48,6 +49,9 @@ fn step_rows<H: Host, A: Around<H>>(
     ensures place { IfOk result
         (λ stopped. A.at around.new (H.state host.new)
         (stop_place (length rows.items) (length stack.new) stopped)) }
+    ensures denied { IfOk result
+        (λ stopped. IfSome stopped
+        (λ one. OnlyIfDeclined one.fall.fault (H.state host.old) (H.state host.new))) }
     ensures any_moment { AtEachStop (A.stops (A.task around.old)) (H.state host.old)
         (H.state host.new) }
     ensures task { A.task around.new ≡ A.task around.old }
@@ -133,6 +137,9 @@ fn run_on<H: Host, A: Around<H>>(
         HasRun (A.file_step_fault (A.task around.old)) (ended_as u) rows.items (H.state host.old)
         (H.state host.new) told.old.items told.new.items) }
     ensures cause { IfOk result (IsCauseOf rows.items) }
+    ensures denied { IfOk result
+        (λ u. IfSome u
+        (λ one. OnlyIfDeclined one.fall.fault (H.state host.old) (H.state host.new))) }
     ensures told { Begun (MayRun rows.items) (H.state host.old) (H.state host.new) told.old.items
         told.new.items }
     ensures place { IfOk result
@@ -166,6 +173,9 @@ pub fn run_rows<H: Host, A: Around<H>>(
         HasRun (A.file_step_fault (A.task around.old)) (ended_as u) rows.items (H.state host.old)
         (H.state host.new) told.old.items told.new.items) }
     ensures cause { IfOk result (IsCauseOf rows.items) }
+    ensures denied { IfOk result
+        (λ u. IfSome u
+        (λ one. OnlyIfDeclined one.fall.fault (H.state host.old) (H.state host.new))) }
     ensures told { Begun (MayRun rows.items) (H.state host.old) (H.state host.new) told.old.items
         told.new.items }
     ensures place { IfOk result

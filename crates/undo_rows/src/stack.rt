@@ -2,6 +2,7 @@
 ghost use Rattle.std.specs.Prelude.{◌≡◌, ◌++◌, ◌∷◌, List, [], IfOk, IfSome, OnOk, OnErr, length};
 ghost use Rattle.host_core.specs.Host.{Counts};
 ghost use Rattle.undo_rows.specs.declared.rows.Row.{Row};
+ghost use Rattle.undo_rows.specs.Faults.{OnlyIfDeclined};
 ghost use Rattle.undo_rows.specs.Place.{Back, Fit, Forward, leads};
 ghost use Rattle.undo_rows.specs.Stops.{AtEachStop};
 ghost use Rattle.undo_rows.specs.Telling.{Begun, HasStepped, HasUnwound};
@@ -53,6 +54,9 @@ impl Stack {
             (λ fall. HasStepped (A.file_step_fault (A.task around.old)) row fall (H.state host.old)
             (H.state host.new) told.old.items told.new.items) }
         ensures row { IfOk result (λ fall. IfSome fall (λ one. one.row ≡ length self.old)) }
+        ensures denied { IfOk result
+            (λ fall. IfSome fall
+            (λ one. OnlyIfDeclined one.fault (H.state host.old) (H.state host.new))) }
         ensures told { Begun (MayStep row) (H.state host.old) (H.state host.new) told.old.items
             told.new.items }
         ensures place { IfOk result

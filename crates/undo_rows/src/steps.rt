@@ -4,6 +4,7 @@ ghost use Rattle.host_core.specs.World.{is_kept};
 ghost use Rattle.host_core.specs.Host.{AtEachMomentOf, Counts, OnlyScripts};
 ghost use Rattle.undo_rows.specs.declared.rows.Owner.TheVariants.{Files};
 ghost use Rattle.undo_rows.specs.Transcript.{Begins, Makes, Tries, TriesRow};
+ghost use Rattle.undo_rows.specs.Faults.{OnlyIfDeclined};
 ghost use Rattle.undo_rows.specs.Place.{Back, Fit, Forward, blamed, called, leads};
 ghost use Rattle.undo_rows.specs.Stops.{AtEachStop};
 ghost use Rattle.undo_rows.specs.Telling.{Begun, HasStepped, HasUnwound, Made};
@@ -73,6 +74,9 @@ pub(crate) fn step<H: Host, A: Around<H>>(
         (λ fall. HasStepped (A.file_step_fault (A.task around.old)) row.now fall (H.state host.old)
         (H.state host.new) told.old.items told.new.items) }
     ensures row { IfOk result (λ fall. IfSome fall (λ one. one.row ≡ index)) }
+    ensures denied { IfOk result
+        (λ fall. IfSome fall
+        (λ one. OnlyIfDeclined one.fault (H.state host.old) (H.state host.new))) }
     ensures told { Begun (MayStep row.now) (H.state host.old) (H.state host.new) told.old.items
         told.new.items }
     ensures place { IfOk result (λ fall. A.at around.new (H.state host.new) (leads index fall)) }

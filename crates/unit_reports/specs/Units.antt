@@ -6,6 +6,10 @@ use Rattle.host_core.specs.declared.fault.HostFault.TheVariants as host
 use Rattle.status_records.specs.declared.record.Record.{Record}
 use Rattle.status_records.specs.Records.{record_in}
 use Rattle.undo_rows.specs.Transcript.{TellsAll}
+use Rattle.undo_rows.specs.declared.failure.Failure.{Failure}
+use Rattle.undo_rows.specs.declared.failure.Failure.TheVariants.{OfCall, OfFiles}
+use Rattle.undo_rows.specs.declared.fall.StepFault.{StepFault}
+use Rattle.undo_rows.specs.declared.fall.StepFault.TheVariants as step
 use Rattle.undo_rows.specs.declared.rows.Called.{Called}
 use Rattle.unit_reports.specs.Held.{Held}
 use Rattle.unit_reports.specs.declared.refusal.Rule.{Rule}
@@ -54,7 +58,21 @@ breakage_of host.Device = Device
 breakage_of host.NoMemory = NoMemory
 breakage_of host.Declined = Declined
 
--- a unit is broken off for a device fault exactly where the device failed
+-- of the step faults of files only a declined step is one of the host
+abbrev pub CountsStepFault : State → State → StepFault → Type 0
+CountsStepFault old new (step.LinkParent path) = NoFault old new
+CountsStepFault old new (step.NoParent path) = NoFault old new
+CountsStepFault old new (step.DirInWay path) = NoFault old new
+CountsStepFault old new (step.Clash path owner) = NoFault old new
+CountsStepFault old new (step.DiversionTarget path diverter) = NoFault old new
+CountsStepFault old new (step.Declined path) = HasDeclined old new
+
+abbrev pub CountsCause : State → State → Failure → Type 0
+CountsCause old new (OfCall call) = NoFault old new
+CountsCause old new (OfFiles fault) = CountsStepFault old new fault
+
+-- A unit is broken off for a device fault exactly where the device failed; where it's broken off by a step that was declined, or
+-- fails for one, a step was declined in it.
 abbrev pub CountsReply : State → State → Reply → Type 0
 CountsReply old new (Broken Device) = HasFailed old new
 CountsReply old new (Broken NoMemory) = NoFault old new
@@ -62,7 +80,7 @@ CountsReply old new (Broken Declined) = HasDeclined old new
 CountsReply old new (Broken Closed) = NoFault old new
 CountsReply old new Done = NoFault old new
 CountsReply old new (Refused refusal) = NoFault old new
-CountsReply old new (Failed failure) = NoFault old new
+CountsReply old new (Failed failure) = CountsCause old new failure.cause
 
 -- the same of the units of a command, of which the last may be broken off
 abbrev pub CountsLast : State → State → Option AUnit → Type 0

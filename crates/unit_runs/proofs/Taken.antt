@@ -1,15 +1,12 @@
 -- What the answer of a turn says.
-use Rattle.std.proofs.Common.{◌≡◌, ℕ, ◌+◌, List, [], ◌∷◌, ◌++◌, Option, Some, None, Result, Ok, Err, ap, subst, ◌∙◌}
-use Rattle.host_core.specs.Host.{State, HasFailed, NoFault}
+use Rattle.std.proofs.Common.{◌≡◌, List, [], ◌∷◌, ◌++◌, Option, Some, None, Result, Ok, Err, ap, subst, ◌∙◌}
+use Rattle.host_core.specs.Host.{State}
 use Rattle.undo_rows.proofs.Makes.{tells_then}
 use Rattle.undo_rows.specs.Transcript.{TellsAll}
 use Rattle.undo_rows.specs.declared.rows.Called.{Called}
 use Rattle.unit_reports.proofs.Telling.{calls_more, tells_behind}
 use Rattle.unit_reports.specs.Held.{Held}
-use Rattle.unit_reports.specs.Units.{CountsReply, calls_of}
-use Rattle.unit_reports.specs.declared.report.Breakage.TheVariants.{Device, NoMemory, Declined, Closed}
-use Rattle.unit_reports.specs.declared.report.Reply.{Reply}
-use Rattle.unit_reports.specs.declared.report.Reply.TheVariants.{Done, Refused, Failed, Broken}
+use Rattle.unit_reports.specs.Units.{calls_of}
 use Rattle.unit_reports.specs.declared.report.Unit.{Unit as AUnit}
 use Rattle.unit_runs.specs.Taking.{IsTaken, calls_in}
 
@@ -20,19 +17,6 @@ tells_unit b c us more u grown told = (told.0, told.1, ap calls_of grown ∙ cal
 -- the unit that was broken off, after the others
 pub tells_last : (a b c : State) (old now own : List Called) → TellsAll a b old now → TellsAll b c [] own → TellsAll a c old (now ++ own)
 tells_last a b c old now own first second = tells_then a b c old now (now ++ own) first (tells_behind b c now own second)
-
-failed_from : (a b c : State) → NoFault a b → HasFailed b c → HasFailed a c
-failed_from a b c same failed = record { once = failed.once ∙ ap (λ (n : ℕ). n + 1) same; last = failed.last }
-
--- counted from an earlier state, since which the device hasn't failed
-pub counts_from : (reply : Reply) (a b c : State) → NoFault a b → CountsReply b c reply → CountsReply a c reply
-counts_from Done a b c same counts = counts ∙ same
-counts_from (Refused refusal) a b c same counts = counts ∙ same
-counts_from (Failed failure) a b c same counts = counts ∙ same
-counts_from (Broken Device) a b c same counts = failed_from a b c same counts
-counts_from (Broken NoMemory) a b c same counts = counts ∙ same
-counts_from (Broken Declined) a b c same counts = counts ∙ same
-counts_from (Broken Closed) a b c same counts = counts ∙ same
 
 -- what is said of an answer, with more said where it is over
 pub taken_so : {L : Type 0} (turn : L → Held → AUnit → L → Held → State → State → Type 0) (called : L → L → Held → State → State → AUnit → Type 0) (over also : L → Held → Type 0) (q later : L) (before after : Held) (s t : State) (result : Result (Option AUnit) AUnit)

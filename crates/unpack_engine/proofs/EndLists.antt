@@ -18,7 +18,7 @@ use Rattle.administration.specs.Places.{list_path}
 use Rattle.undo_rows.specs.declared.fall.Fall.{Fall}
 use Rattle.undo_rows.specs.declared.rows.Called.{Called}
 use Rattle.undo_rows.specs.declared.failed.Failed.{Failed}
-use Rattle.undo_rows.specs.Place.{Place, Forward, Back}
+use Rattle.undo_rows.specs.Place.{Place, Forward, Back, is_declined}
 use Rattle.undo_rows.specs.Transcripts.{Ended, Committed, Unwound}
 use Rattle.control_members.proofs.Apart.{no_list, no_list_temporary}
 use Rattle.file_lists.specs.Lists.{HasLists}
@@ -52,7 +52,7 @@ use Rattle.unpack_engine.proofs.Begun.{cleared_if, dropped_same}
 use Rattle.unpack_engine.proofs.Cleared.{begun_at, begun_beside, works_on}
 use Rattle.unpack_engine.proofs.EndNames.{both_recorded, has_record, is_recorded, losing_named, puts_keep, puts_last, puts_named}
 use Rattle.unpack_engine.proofs.EndOthers.{end_for, recorded_still}
-use Rattle.unpack_engine.proofs.Frames.{IsBeside, come_same}
+use Rattle.unpack_engine.proofs.Frames.{IsBeside, come_same, put_list}
 use Rattle.unpack_engine.proofs.ListEnds.{IsListEnd, among, has_lists_end, listed_can, listed_texts, paths_spared, paths_taken, unlisted}
 use Rattle.unpack_engine.proofs.Losing.{among_kept, loser_lists, loser_other}
 
@@ -366,22 +366,29 @@ module _ (G : Given) (stored : Present) (p : Planned) (plan : IsPlanned (job_of 
       pub paths_are : paths_of ls own ≡ paths_of G.lists own
       pub ends : Contains (record_names back_mid.database.records) own → (v : World) → v (list_path own) ≡ w (list_path own) → IsListEnd old.world v names (record_names after.records) G.lists ls own
 
-    own_back_at : (a b : Bool) → b ≡ false → HasCome (task_from (ground_of G places) p (state_on begun rows_end.base)) (cond a (cond b Wrote Restored) Unwritten) back_mid.works (changes_of rows_end.since) back.world → IsOwnBack back.world (lists_at (task_from (ground_of G places) p begun) (cond a (cond b Wrote Restored) Unwritten))
-    own_back_at false b none came = record {
-      paths_are = refl;
-      ends = λ recorded v same. end_begun recorded v (same ∙ came.rest (list_path own) refl ∙ changed_kept (is_kept places) (changes_of rows_end.since) rows_end.base came.avoids (list_path own) refl) G.lists refl;
-    }
-    own_back_at true true none came = absurd (true≢false none)
-    own_back_at true false none came =
+    own_restored : HasCome (task_from (ground_of G places) p (state_on begun rows_end.base)) Restored back_mid.works (changes_of rows_end.since) back.world → IsOwnBack back.world (lists_at (task_from (ground_of G places) p begun) Restored)
+    own_restored came =
         let paths_are = paths_with_own p.listed (with_list own p.union G.lists) ∙ listed_own in
         record {
           paths_are = paths_are;
-          ends = λ recorded v same. end_restored v (same ∙ came.since.rest (list_path own) refl ∙ changed_kept (is_kept places) came.late came.back came.since.avoids (list_path own) refl ∙ came.unlisted.replaced.target)
+          ends = λ recorded v same. end_restored v
+              (same ∙ came.since.rest (list_path own) refl ∙ changed_kept (is_kept places) came.late came.back came.since.avoids (list_path own) refl
+              ∙ put_list (task_from (ground_of G places) p (state_on begun rows_end.base)) back_mid.works came.early came.back came.put)
               (with_list own p.listed (with_list own p.union G.lists)) paths_are;
         }
 
+    own_back_at : (a b d : Bool) → b ≡ false → HasCome (task_from (ground_of G places) p (state_on begun rows_end.base)) (cond a (cond b Wrote Restored) (cond d Restored Unwritten)) back_mid.works (changes_of rows_end.since) back.world → IsOwnBack back.world (lists_at (task_from (ground_of G places) p begun) (cond a (cond b Wrote Restored) (cond d Restored Unwritten)))
+    own_back_at false b false none came = record {
+      paths_are = refl;
+      ends = λ recorded v same. end_begun recorded v (same ∙ came.rest (list_path own) refl ∙ changed_kept (is_kept places) (changes_of rows_end.since) rows_end.base came.avoids (list_path own) refl) G.lists refl;
+    }
+    own_back_at false b true none came = own_restored came
+    own_back_at true true d none came = absurd (true≢false none)
+    own_back_at true false d none came = own_restored came
+
     own_back : IsOwnBack back.world lists
-    own_back = subst (IsOwnBack back.world) (sym (out.lists_are ∙ rows_end.lists)) (own_back_at (has_files (take fall.row (kinds_of p.found p.others))) (has_files (take 0 (kinds_of p.found p.others))) refl (rows_end.world hb).came)
+    own_back = subst (IsOwnBack back.world) (sym (out.lists_are ∙ rows_end.lists))
+        (own_back_at (has_files (take fall.row (kinds_of p.found p.others))) (has_files (take 0 (kinds_of p.found p.others))) (is_declined fall.fault) refl (rows_end.world hb).came)
 
     -- each list
 

@@ -2,7 +2,7 @@
 use Rattle.std.proofs.Common.{◌≡◌, IsTrue, true, List, [], ◌∷◌, ◌++◌, inl, inr, refl, sym, ap, subst, ◌∙◌, append_assoc}
 use Rattle.host_core.specs.Paths.{Path}
 use Rattle.host_core.specs.World.{World}
-use Rattle.host_core.specs.Events.{Event, Did, Finished, Cut, Failed, changes_of, scripts_of}
+use Rattle.host_core.specs.Events.{Event, Did, Finished, Cut, Failed, Denied, changes_of, scripts_of}
 use Rattle.host_core.specs.Host.{State, AllFailed, AtEachMomentOf, Reads, Silent}
 use Rattle.host_core.proofs.Moments.{scripts_of-append, since_reads, since_then, since_weaker_if, silent_then}
 use Rattle.host_core.proofs.Scripts.{changes_of-append, no_change, silent_added}
@@ -52,6 +52,7 @@ none_failed (Did step ∷ es) all = elim all [ ]
 none_failed (Finished ran ∷ es) all = elim all [ ]
 none_failed (Cut call change ∷ es) all = elim all [ ]
 none_failed (Failed ∷ es) all = none_failed es all
+none_failed (Denied path ∷ es) all = elim all [ ]
 
 module _ (g : Given) (places : List Path) (old mid : State) (reads : Reads old mid) (silent : Silent old mid) where
   looking_moments : AtEachMomentOf (IsAmidUnit g places) old mid

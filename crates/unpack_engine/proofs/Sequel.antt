@@ -1,16 +1,19 @@
 -- The beginning of a unit and its rows, one after the other.
-use Rattle.std.proofs.Common.{◌≡◌, IsTrue, List, [], ◌++◌, refl, ap, ◌∙◌}
-use Rattle.std.specs.Prelude.{Result, Ok, Err, IfOk}
+use Rattle.std.proofs.Common.{◌≡◌, IsTrue, List, [], ◌++◌, Option, Some, None, refl, ap, ◌∙◌, arith}
+use Rattle.std.specs.Prelude.{Result, Ok, Err, IfOk, IfSome}
 use Rattle.host_core.specs.World.{World}
 use Rattle.host_core.specs.Events.{Event, Ran, scripts_of}
-use Rattle.host_core.specs.Host.{State, Silent, Since, AtEachMoment, AtEachMomentOf, finished}
+use Rattle.host_core.specs.Host.{State, Silent, Since, AtEachMoment, AtEachMomentOf, Counts, NoFault, finished}
+use Rattle.host_core.specs.declared.fault.HostFault.{HostFault}
 use Rattle.host_core.specs.Loss.{IsLater}
 use Rattle.host_core.proofs.Moments.{since_then, since_weaker, since_weaker_if, silent_then}
 use Rattle.host_core.proofs.Scripts.{silent_added, since_silent}
+use Rattle.undo_rows.specs.Faults.{OnlyIfDeclined}
 use Rattle.undo_rows.specs.Stops.{AtEachStop}
 use Rattle.undo_rows.specs.Telling.{Begun}
 use Rattle.undo_rows.specs.declared.rows.Called.{Called}
 use Rattle.undo_rows.specs.declared.rows.Row.{Row}
+use Rattle.undo_rows.specs.declared.unwinding.Unwinding.{Unwinding}
 use Rattle.unpack_steps.specs.Task.{Task}
 use Rattle.unpack_steps.specs.At.{Stops}
 use Rattle.unpack_engine.specs.Units.{HasCalledRows, IsRunning}
@@ -72,3 +75,18 @@ if_ok_both (Err e) P Q R so p q = tt
 pub if_ok_one : {T E : Type 0} (result : Result T E) (P R : T → Type 0) → ((x : T) → P x → R x) → IfOk result P → IfOk result R
 if_ok_one (Ok x) P R so p = so x p
 if_ok_one (Err e) P R so p = tt
+
+-- a declined step is told only where one was declined: so it is of a longer run, at whose beginning and end the device didn't fail
+
+pub denied_behind : (u : Option Unwinding) (a b c : State) → NoFault a b → IfSome u (λ one. OnlyIfDeclined one.fall.fault b c) → IfSome u (λ one. OnlyIfDeclined one.fall.fault a c)
+denied_behind None a b c first second = tt
+denied_behind (Some one) a b c first second = λ is. omega (arith, first.denials, second is)
+
+pub denied_then : (u : Option Unwinding) (a b c : State) → IfSome u (λ one. OnlyIfDeclined one.fall.fault a b) → NoFault b c → IfSome u (λ one. OnlyIfDeclined one.fall.fault a c)
+denied_then None a b c first second = tt
+denied_then (Some one) a b c first second = λ is. omega (arith, first is, second.denials)
+
+-- of an answer that counts no fault
+pub if_ok_counted : {T : Type 0} (result : Result T HostFault) (a b : State) (P R : T → Type 0) → ((x : T) → NoFault a b → P x → R x) → Counts a b result → IfOk result P → IfOk result R
+if_ok_counted (Ok x) a b P R so counts p = so x counts p
+if_ok_counted (Err e) a b P R so counts p = tt

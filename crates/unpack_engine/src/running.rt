@@ -1,10 +1,11 @@
 // The beginning of a unit, and its rows.
-ghost use Rattle.std.specs.Prelude.{◌≡◌, IfOk, length};
+ghost use Rattle.std.specs.Prelude.{◌≡◌, IfOk, IfSome, length};
 ghost use Rattle.host_core.specs.Host.{AtEachMomentOf, Counts, Needs};
 ghost use Rattle.undo_rows.specs.Place.{Fit};
 ghost use Rattle.control_members.specs.LaidOut.{IsLaying};
 ghost use Rattle.held_administration.specs.Open.{CanWrite};
 ghost use Rattle.undo_rows.specs.Ended.{IsCauseOf, ended_as};
+ghost use Rattle.undo_rows.specs.Faults.{OnlyIfDeclined};
 ghost use Rattle.unpack_rows.specs.EndStates.{own_name};
 ghost use Rattle.unpack_rows.specs.ForwardRows.{Fits};
 ghost use Rattle.unpack_rows.specs.Kinds.{kinds_of};
@@ -49,6 +50,8 @@ pub(crate) fn begin_and_run<H: Host>(
         calls.items (ended_as u) (holding_by administration.new works.new.items)
         (H.state host.old) (H.state host.new) told.old.items told.new.items) }
     ensures cause { IfOk result (IsCauseOf calls.items) }
+    ensures denied { IfOk result (λ u. IfSome u
+        (λ one. OnlyIfDeclined one.fall.fault (H.state host.old) (H.state host.new))) }
     ensures told { HasCalledRows calls.items
         (H.state host.old) (H.state host.new) told.old.items told.new.items }
     ensures any_moment { AtEachMomentOf (IsRunning (HasBegun members.now) IsLaying

@@ -1,8 +1,9 @@
 // The unit of an unpack.
-ghost use Rattle.std.specs.Prelude.{◌≡◌, ◌++◌, IfOk, OnOk};
+ghost use Rattle.std.specs.Prelude.{◌≡◌, ◌++◌, IfOk, IfSome, OnOk};
 ghost use Rattle.host_core.specs.Host.{AtEachMomentOf, Counts, Leaves, Needs, Reads, Silent};
 ghost use Rattle.held_administration.specs.Open.{CanWrite};
 ghost use Rattle.undo_rows.specs.Ended.{IsCauseOf, ended_as};
+ghost use Rattle.undo_rows.specs.Faults.{OnlyIfDeclined};
 ghost use Rattle.status_db.specs.Held.{IsKept};
 ghost use Rattle.unpack_commit.specs.Takeover.{yields_of};
 ghost use Rattle.unpack_plan.specs.Planned.{planned};
@@ -42,6 +43,8 @@ fn carry_out<H: Host>(
         administration.new.database administration.new.lists.lists
         (H.state host.old) (H.state host.new) told.old.items told.new.items) }
     ensures cause { IfOk result (λ u. IsCauseOf plan.calls.items u.unwinding) }
+    ensures denied { IfOk result (λ u. IfSome u.unwinding
+        (λ one. OnlyIfDeclined one.fall.fault (H.state host.old) (H.state host.new))) }
     ensures touched { IfOk result (λ u. IsTouched
         (own_name plan.rows.found plan.rows.incoming)
         administration.old.database.records administration.new.database.records u.touched) }
@@ -148,6 +151,8 @@ fn plan_and_carry_out<H: Host>(
         (given_from incoming administration.old diversions.now.entries
         others.packages.items others.yields)
         (H.state host.old) (H.state host.new) u.unwinding) }
+    ensures denied { IfOk result (λ u. IfSome u.unwinding
+        (λ one. OnlyIfDeclined one.fall.fault (H.state host.old) (H.state host.new))) }
     ensures touched { IfOk result (λ u. IsTouched incoming.name
         administration.old.database.records administration.new.database.records u.touched) }
     ensures told { HasCalled
@@ -217,6 +222,8 @@ pub fn unpack<H: Host>(
         (given_from incoming administration.old diversions.now.entries
         others.packages.items others.yields)
         (H.state host.old) (H.state host.new) u.unwinding) }
+    ensures denied { IfOk result (λ u. IfSome u.unwinding
+        (λ one. OnlyIfDeclined one.fall.fault (H.state host.old) (H.state host.new))) }
     ensures touched { IfOk result (λ u. IsTouched incoming.name
         administration.old.database.records administration.new.database.records u.touched) }
     ensures told { HasCalled

@@ -36,14 +36,14 @@ use Rattle.unpack_steps.proofs.Rearranged.{named_rearranged}
 use Rattle.unpack_steps.specs.Clearing.{IsBesideOwn}
 use Rattle.unpack_engine.specs.Units.{Given, Ground, ground_of, job_of, package_name, task_from}
 use Rattle.unpack_laws.specs.InHand.{unit_found, unit_name, unit_works}
-use Rattle.unpack_laws.specs.Marked.{IsAccounted, IsMarkedAmid, IsNamedIn, IsRestored}
+use Rattle.unpack_laws.specs.Marked.{IsAccounted, IsMarkedAmid, IsNameBack, IsNamedIn, IsRestored}
 use Rattle.unpack_laws.specs.Whole.{IsWorkBack}
 use Rattle.unpack_laws.proofs.Alone.{Based, begun_beside}
-use Rattle.unpack_laws.proofs.NamesBack.{IsBesideBack, name_at, names_back, names_gone_back, target_beside, target_out_tmp}
+use Rattle.unpack_laws.proofs.NamesBack.{IsBesideBack, name_at, names_gone_back, names_since, target_beside, target_out_tmp}
 use Rattle.unpack_laws.proofs.OwnFiles.{rebased_back}
 use Rattle.unpack_laws.proofs.Passing.{outside_list, outside_member, outside_records, outside_tmp, works_are}
 use Rattle.unpack_laws.proofs.Scripted.{IsSpared, amid_there}
-use Rattle.unpack_laws.proofs.Targets.{targets_back, targets_gone_back}
+use Rattle.unpack_laws.proofs.Targets.{IsUndoneSince, targets_gone_back, targets_since, turning_since, unlisting_since}
 
 -- a path is a name of one of the works, or of none
 
@@ -139,6 +139,12 @@ module _ (g : Given) (stored : Present) (p : Planned) (plan : IsPlanned (job_of 
     pub from_begun : (c : Change) (now : World) (q : Path) → is_within home_path q ≡ false → now q ≡ changed c begun.world q → now q ≡ changed c old q
     from_begun c now q out is = is ∙ changed_at c begun.world old q (begun_out old begun begins q out)
 
+    -- what stands at a name beside a place
+    pub restored_beside : (c : Change) (now : World) (x : Work) → Contains p.works x → (q : Path) → is_within home_path q ≡ false → (q ≡ x.backup) ⊎ (q ≡ x.fresh)
+        → (now q ≡ changed c begun.world q) ⊎ IsNameBack g old now c x.target x.backup x.node q → IsRestored g old now c q
+    restored_beside c now x there q out beside (inl is) = IsRestored.scripted (from_begun c now q out is)
+    restored_beside c now x there q out beside (inr is) = IsRestored.beside x (unit_work x there) beside is
+
     followed_list : (more : List Path) (c : Change) (v w : World) → Follows more c v w → w list ≡ v list
     followed_list more c v w follows = follows.rest list refl ∙ changed_kept (is_kept more) c v follows.avoids list refl
 
@@ -190,23 +196,30 @@ module _ (g : Given) (stored : Present) (p : Planned) (plan : IsPlanned (job_of 
           name_back : (x : Work) → Contains p.works x → IsNameOf x q → IsRestored g old now c q
           name_back x there (inl at) = IsRestored.target x (unit_work x there) at
               (rebased_back x.target x.node old begun.world now c (begun_out old begun begins x.target (subst (λ r. is_within home_path r ≡ false) at out)) (each_at (IsWorkBack begun.world now c) p.works x back there))
-          name_back x there (inr beside) = IsRestored.beside x (unit_work x there) beside (name_at g x q old begun.world now now c (begun_target x (each_at IsNamed p.works x plan.works_are.named there)) refl (each_at (IsBesideBack g begun.world now c) p.works x names there) beside)
+          name_back x there (inr beside) = restored_beside c now x there q out beside
+              (name_at g x q old begun.world now now c (begun_target x (each_at IsNamed p.works x plan.works_are.named there)) refl (each_at (IsBesideBack g begun.world now c) p.works x names there) beside)
+
+    -- nothing is left of the files
+    undone_amid : (works : List Work) (moved : IsRearranged p.works works) (table : List Record) (c : Change) (now : World) → HasRecords now table → IsAmid task table c now
+        → IsUndoneSince task plan.works_are.named works moved c now → IsMarkedAmid g old now c
+    undone_amid works moved table c now has amid undone = IsMarkedAmid.restored
+        (restored_at table c now has amid (targets_since task plan.works_are.named works moved c now undone) (names_since g task plan.works_are.named works moved c now undone))
 
     pub marks_amid : (table : List Record) (c : Change) (now : World) → HasRecords now table → IsAmid task table c now → IsMarkedAmid g old now c
     marks_amid table c now has (IsAmid.untouched follows) = IsMarkedAmid.untouched (λ q out. from_begun c now q out (follows.rest q (outside_records q out)))
-    marks_amid table c now has (IsAmid.writing works found moved marked follows (inl is)) = IsMarkedAmid.untouched (λ q out.
+    marks_amid table c now has (IsAmid.writing works found moved marked follows (inl (inl is))) = IsMarkedAmid.untouched (λ q out.
         from_begun c now q out (is.rest q (outside_list q out own).0 (outside_list q out own).1 ∙ follows.rest q (outside_records q out)))
+    marks_amid table c now has (IsAmid.writing works found moved marked follows (inl (inr m))) =
+        marked_with table c now has (IsAmid.writing works found moved marked follows (inl (inr m))) marked (m.2.rest list (miss works moved) ∙ m.1.target)
     marks_amid table c now has (IsAmid.writing works found moved marked follows (inr m)) =
-        marked_with table c now has (IsAmid.writing works found moved marked follows (inr m)) marked (m.2.rest list (miss works moved) ∙ m.1.target)
+        undone_amid works moved table c now has (IsAmid.writing works found moved marked follows (inr m)) (turning_since task plan.works_are.named works moved c found m.0 m.1 now (list_file p.listed) follows m.2 m.3 m.4)
     marks_amid table c now has (IsAmid.written works moved marked files) =
         marked_with table c now has (IsAmid.written works moved marked files) marked (union_list works moved c now files)
     marks_amid table c now has (IsAmid.going_back works last moved marked files (inl is)) =
         let w = can works moved c last files in
         marked_with table c now has (IsAmid.going_back works last moved marked files (inl is)) marked ((is w.0 w.1).rest list (miss works moved) ∙ union_list works moved c last files)
-    marks_amid table c now has (IsAmid.going_back works last moved marked files (inr m)) = IsMarkedAmid.restored
-        (restored_at table c now has (IsAmid.going_back works last moved marked files (inr m))
-        (targets_back task plan.works_are.named works moved c last m.0 now (list_file p.listed) files m.1 m.2)
-        (names_back g task plan.works_are.named works moved c last m.0 now (list_file p.listed) files m.1 m.2))
+    marks_amid table c now has (IsAmid.going_back works last moved marked files (inr m)) =
+        undone_amid works moved table c now has (IsAmid.going_back works last moved marked files (inr m)) (unlisting_since task plan.works_are.named works moved c last m.0 now (list_file p.listed) files m.1 m.2)
     marks_amid table c now has (IsAmid.back works moved gone) = IsMarkedAmid.restored
         (restored_at table c now has (IsAmid.back works moved gone) (targets_gone_back task plan.works_are.named works moved c now gone)
         (names_gone_back g task plan.works_are.named works moved c now gone))

@@ -20,6 +20,7 @@ use Rattle.host_core.specs.declared.node.Node.TheVariants.{File, Dir, Link}
 use Rattle.administration.specs.Places.{home_path, is_within, list_path}
 use Rattle.undo_rows.specs.declared.fall.Fall.{Fall}
 use Rattle.undo_rows.specs.declared.failed.Failed.{Failed}
+use Rattle.undo_rows.specs.Place.{is_declined}
 use Rattle.undo_rows.specs.Transcripts.{Ended, Committed, Unwound}
 use Rattle.diversions.specs.declared.entry.Diversion.{Diversion}
 use Rattle.diversions.specs.Places.{place}
@@ -63,7 +64,7 @@ use Rattle.unpack_laws.specs.InHand.{unit_found, unit_listed, unit_name}
 use Rattle.unpack_laws.specs.Marked.{IsAccounted, IsListedSo, IsMarkedAmid, IsRestored}
 use Rattle.unpack_laws.specs.Whole.{IsWorkBack}
 use Rattle.unpack_laws.proofs.Alone.{Based, based_amid, beginning_beside, calls_since}
-use Rattle.unpack_laws.proofs.Marks.{HasShipped, IsNameOf, begun_out, begun_target, each_at, from_begun, marks_amid, named_in, names_or_misses, new_shipped, out_beside, out_spared, union_shipped, unit_work, union_list}
+use Rattle.unpack_laws.proofs.Marks.{HasShipped, IsNameOf, begun_out, begun_target, each_at, from_begun, marks_amid, named_in, names_or_misses, new_shipped, out_beside, out_spared, restored_beside, union_shipped, unit_work, union_list}
 use Rattle.unpack_laws.proofs.NamesBack.{IsBesideBack, name_at, names_gone_back}
 use Rattle.unpack_laws.proofs.NotedRecords.{IsGoodRecord, good_front, good_records, good_then, losing_good}
 use Rattle.unpack_laws.proofs.OwnFiles.{back_then, rebased_back}
@@ -383,11 +384,9 @@ module _ (g : Given) (stored : Present) (p : Planned) (plan : IsPlanned (job_of 
       unwound_same last now (MayLeaveBy.following may) q out = may_drop_same (nat_le (length p.others) fall.row) (record_in table own) own last now q may (outside_list q out own).0
       unwound_same last now (MayLeaveBy.clearing_away followed has opens laying) q out = laying.rest q (outside_tmp q out) ∙ dropped_same (nat_le (length p.others) fall.row) (record_in table own) own last followed q has (outside_list q out own).0
 
-      unwound_marks : (b : Bool) → AreWorksAt task (last_place here p ended) (cond b Restored Unwritten) works → (last now : World) → HasCome task (cond b Restored Unwritten) works change last
+      restored_marks : AreWorksAt task (last_place here p ended) Restored works → (last now : World) → HasCome task Restored works change last
           → MayLeave (changes here p works lists) records g.entries lists table (length p.others) ended last now → IsMarkedAmid g old now change
-      unwound_marks false are last now come may = IsMarkedAmid.untouched (λ q out.
-          from_begun g stored p plan places old begun begins change now q out (unwound_same last now may q out ∙ come.rest q (outside_records q out)))
-      unwound_marks true are last now come may = IsMarkedAmid.restored restored
+      restored_marks are last now come may = IsMarkedAmid.restored restored
         where
           name_back : (q : Path) → is_within home_path q ≡ false → (x : Work) → Contains p.works x → IsNameOf x q → IsRestored g old now change q
           name_back q out x there (inl at) =
@@ -396,7 +395,7 @@ module _ (g : Given) (stored : Present) (p : Planned) (plan : IsPlanned (job_of 
               (back_then x.target x.node old last now change (unwound_same last now may x.target out_there)
               (rebased_back x.target x.node old begun.world last change (begun_out g stored p plan places old begun begins x.target out_there)
               (each_at (IsWorkBack begun.world last change) p.works x (targets_gone_back task plan.works_are.named works are.same change last come) there)))
-          name_back q out x there (inr beside) = IsRestored.beside x (unit_work g stored p plan places x there) beside
+          name_back q out x there (inr beside) = restored_beside g stored p plan places old begun begins change now x there q out beside
               (name_at g x q old begun.world last now change (begun_target g stored p plan places old begun begins x (each_at IsNamed p.works x plan.works_are.named there)) (unwound_same last now may q out)
               (each_at (IsBesideBack g begun.world last change) p.works x (names_gone_back g task plan.works_are.named works are.same change last come) there) beside)
 
@@ -406,6 +405,13 @@ module _ (g : Given) (stored : Present) (p : Planned) (plan : IsPlanned (job_of 
             | inr missed ↦ IsRestored.scripted (unwound_same last now may q out ∙ from_begun g stored p plan places old begun begins change last q out
                 (come_there task q (out_spared g stored p plan places q out missed) plan.works_are.named (last_place here p ended) Restored works are change last come))
           ]
+
+      unwound_marks : (b d : Bool) → AreWorksAt task (last_place here p ended) (cond b Restored (cond d Restored Unwritten)) works → (last now : World) → HasCome task (cond b Restored (cond d Restored Unwritten)) works change last
+          → MayLeave (changes here p works lists) records g.entries lists table (length p.others) ended last now → IsMarkedAmid g old now change
+      unwound_marks false false are last now come may = IsMarkedAmid.untouched (λ q out.
+          from_begun g stored p plan places old begun begins change now q out (unwound_same last now may q out ∙ come.rest q (outside_records q out)))
+      unwound_marks false true are last now come may = restored_marks are last now come may
+      unwound_marks true d are last now come may = restored_marks are last now come may
 
     -- however they ended
     leaving_marks : (ended : Ended) (works : List Work) (change : Change) (last now : World) → AreWorksAt task (last_place here p ended) (stage_of kinds (last_place here p ended)) works
@@ -418,7 +424,7 @@ module _ (g : Given) (stored : Present) (p : Planned) (plan : IsPlanned (job_of 
     leaving_marks (Unwound fall failed) works change last now are come may =
         let place = last_place here p (Unwound fall failed) in
         let had = lists_at task (stage_of kinds place) in
-        unwound_marks fall failed works (commit_records here p works had (table_after here p place)) (table_after here p place) change had (has_files (take fall.row kinds)) are last now come may
+        unwound_marks fall failed works (commit_records here p works had (table_after here p place)) (table_after here p place) change had (has_files (take fall.row kinds)) (is_declined fall.fault) are last now come may
 
   -- at each moment
 

@@ -28,7 +28,7 @@ use Rattle.unpack_commit.proofs.Ready.{list_is_no_member}
 use Rattle.unpack_commit.proofs.Stays.{no_leaving_place}
 use Rattle.listed_files.specs.Areas.{is_leaving_place, is_list_place}
 use Rattle.listed_files.specs.Closing.{HasReleased, HasRenewed, MayRenew}
-use Rattle.listed_files.specs.Listing.{MayList, MayUnlist}
+use Rattle.listed_files.specs.Listing.{MayList, MayTurnBack, MayUnlist}
 use Rattle.listed_files.proofs.Apart.{list_below}
 use Rattle.listed_files.proofs.Areas.{released_keeps, releasing_keeps, renewing_keeps}
 use Rattle.listed_files.proofs.Closings.{removed_stays}
@@ -49,6 +49,7 @@ use Rattle.unpack_steps.proofs.Rearranged.{named_rearranged}
 use Rattle.unpack_steps.specs.Clearing.{MayClear, is_gone, next_ready}
 use Rattle.unpack_laws.proofs.Alone.{Based, based_amid}
 use Rattle.unpack_engine.specs.Units.{Given, Ground, HasDropped, HasFollowed, IsAmidUnit, IsRunning, IsStage, MayDrop, MayFollow, MayLeave, MayLeaveBy, changes, commit_records, ground_of, job_of, last_place, package_name, table_after, task_from, unit_losers}
+use Rattle.unpack_engine.proofs.Frames.{put_list}
 use Rattle.unpack_engine.proofs.Losing.{loser_other}
 use Rattle.unpack_laws.specs.InHand.{unit_found, unit_listed, unit_name}
 use Rattle.unpack_laws.specs.Whole.{IsOwnList}
@@ -105,7 +106,7 @@ module _ (g : Given) (stored : Present) (p : Planned) (plan : IsPlanned (job_of 
       can c w has = (has.listed.mid, still_written task works c w has moved (named_rearranged p.works works moved plan.works_are.named))
 
       gone_back_list : (c : Change) (w : World) → HasGoneBack task works c w → w list ≡ Some (list_file p.listed)
-      gone_back_list c w has = followed places has.late has.back w has.since ∙ has.unlisted.replaced.target
+      gone_back_list c w has = followed places has.late has.back w has.since ∙ put_list task works has.early has.back has.put
 
       listing_list : (c : Change) (found now : World) → Follows places c begun.world found → MayList list (list_file p.union) works found now → Own now
       listing_list c found now follows (inl is) = elim is.target [
@@ -113,6 +114,13 @@ module _ (g : Given) (stored : Present) (p : Planned) (plan : IsPlanned (job_of 
         | inr whole ↦ joins (begun.world list) (now list) whole
       ]
       listing_list c found now follows (inr m) = joins (begun.world list) (now list) (m.2.rest list miss ∙ m.1.target)
+
+      turning_list : (c : Change) (found now : World) → Follows places c begun.world found → MayTurnBack list (list_file p.union) (list_file p.listed) works found now → Own now
+      turning_list c found now follows (inl may) = listing_list c found now follows may
+      turning_list c found now follows (inr m) = elim m.4.target [
+        | inl same ↦ joins (begun.world list) (now list) (same ∙ m.3.rest list miss ∙ m.2.target)
+        | inr whole ↦ restores (begun.world list) (now list) whole
+      ]
 
       unlisting_list : (c : Change) (last now : World) → HasFiles task works c last → MayUnlist list (list_file p.listed) works last now → Own now
       unlisting_list c last now has (inl is) = let w = can c last has in joins (begun.world list) (now list) ((is w.0 w.1).rest list miss ∙ files_list c last has)
@@ -130,7 +138,7 @@ module _ (g : Given) (stored : Present) (p : Planned) (plan : IsPlanned (job_of 
 
     amid_list : (table : List Record) (c : Change) (w : World) → IsAmid task table c w → Own w
     amid_list table c w (IsAmid.untouched follows) = IsOwnList.stood (followed places c begun.world w follows)
-    amid_list table c w (IsAmid.writing works found moved marked follows may) = listing_list works moved c found w follows may
+    amid_list table c w (IsAmid.writing works found moved marked follows may) = turning_list works moved c found w follows may
     amid_list table c w (IsAmid.written works moved marked has) = joins (begun.world list) (w list) (files_list works moved c w has)
     amid_list table c w (IsAmid.going_back works last moved marked has may) = unlisting_list works moved c last w has may
     amid_list table c w (IsAmid.back works moved has) = restores (begun.world list) (w list) (gone_back_list works moved c w has)

@@ -73,8 +73,8 @@ module _ (g : Given) where
       clear : (early late : Change) → change ≡ early ++ late → (mid : World) → IsClear (mid q) → now q ≡ changed late mid q → IsNameBack target backup node q
       kept : (access : Access) → node ≡ Dir access → q ≡ backup → (early late : Change) → change ≡ early ++ late → (mid : World) → mid q ≡ changed early old target → now q ≡ changed late mid q → IsNameBack target backup node q
 
-    -- Where the files were put back: what scripts made of it, or at a target a made directory that had to stay, or at a name beside a place
-    -- that.
+    -- Where the files were put back: what scripts made of it, as at a name beside a place that wasn't reached since a step was declined; or
+    -- at a target a made directory that had to stay, or at a name beside a place that.
     pub data IsRestored (q : Path) : Type 0 where
       scripted : now q ≡ changed change old q → IsRestored q
       target : (x : Work) → Contains (unit_works g) x → q ≡ x.target → IsWorkBack old now change x → IsRestored q

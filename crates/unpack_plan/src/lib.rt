@@ -10,9 +10,11 @@
 //! no path clashes: those of which only conffiles are left, and those that are given (`yields`).
 #![tactic(auto)]
 
+mod calls;
 mod conffile_paths;
 mod contents;
 mod digests;
+mod files;
 mod lists;
 mod members;
 mod names;

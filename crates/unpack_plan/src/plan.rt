@@ -3,11 +3,9 @@ ghost use Rattle.std.specs.Prelude.{◌≡◌, ◌++◌, IfOk};
 ghost use Rattle.unpack_commit.specs.Takeover.{yields_of};
 ghost use Rattle.unpack_plan.specs.Planned.{planned, IsPlanned};
 
-use crate::contents::contents_of;
-use crate::lists::own_changes;
-use crate::others::{Others, all_yields};
-use crate::records::own_records;
-use crate::rows::own_rows;
+use crate::calls::{OwnCalls, own_calls};
+use crate::files::{OwnFiles, own_files};
+use crate::others::Others;
 use control_members::Members;
 use diversions::Diversions;
 use file_lists::{FileLists, Paths};
@@ -48,6 +46,53 @@ pub struct Plan {
     pub commit: PlannedCommit,
 }
 
+// The plan of these parts.
+fn plan_from(calls: OwnCalls, files: OwnFiles) -> Plan
+    ensures planned { planned result ≡ record {
+      found = calls.records.found;
+      incoming = calls.records.incoming;
+      fresh = calls.records.fresh;
+      rows = calls.rows.rows.items;
+      kinds = calls.rows.kinds.items;
+      others = calls.rows.others.items;
+      works = files.contents.works.items;
+      listed = files.changes.listed;
+      union = files.changes.union;
+      new_list = files.changes.new_list;
+      leaving = files.changes.leaving.items;
+      names = files.contents.names.items;
+      members = files.contents.members;
+    } }
+    ensures yields { result.rows.yields ≡ calls.yields }
+{
+    let OwnCalls {
+        records,
+        rows,
+        yields,
+    } = calls;
+    let OwnFiles { changes, contents } = files;
+    Plan {
+        rows: Rows {
+            found: records.found,
+            incoming: records.incoming,
+            kinds: rows.kinds,
+            others: rows.others,
+            yields,
+            listed: changes.listed,
+            union: changes.union,
+        },
+        works: contents.works,
+        calls: rows.rows,
+        commit: PlannedCommit {
+            fresh: records.fresh,
+            new_list: changes.new_list,
+            leaving: changes.leaving,
+            names: contents.names,
+            members: contents.members,
+        },
+    }
+}
+
 /// What an unpack of a tree is going to do, by the records, the lists and the diversions; `stored`
 /// are the scripts of the old version, `others` the packages that have rows beside it or yield to
 /// it. The tree is used up, and none of its files is copied. Where the package lists many paths,
@@ -74,45 +119,9 @@ pub fn plan_of(
     ensures yields { IfOk result (λ p. p.rows.yields
         ≡ yields_of database.now.records ++ others.yields) }
 {
-    let Others { packages, yields } = others;
-    let beside = yields.as_slice();
-    let all = all_yields(alloc, database, beside)?;
     let found = database.get(&incoming.name);
-    let records = own_records(alloc, &incoming, found)?;
-    let rows = own_rows(
-        alloc,
-        found,
-        &records.incoming,
-        stored,
-        &incoming.scripts,
-        packages,
-    )?;
-    let changes = own_changes(alloc, lists, diversions, &incoming, found, &records.fresh)?;
-    let contents = contents_of(
-        alloc,
-        diversions,
-        incoming,
-        found,
-        changes.leaving.as_slice(),
-    )?;
-    Ok(Plan {
-        rows: Rows {
-            found: records.found,
-            incoming: records.incoming,
-            kinds: rows.kinds,
-            others: rows.others,
-            yields: all,
-            listed: changes.listed,
-            union: changes.union,
-        },
-        works: contents.works,
-        calls: rows.rows,
-        commit: PlannedCommit {
-            fresh: records.fresh,
-            new_list: changes.new_list,
-            leaving: changes.leaving,
-            names: contents.names,
-            members: contents.members,
-        },
-    })
+    let calls = own_calls(alloc, &incoming, database, found, stored, others)?;
+    let fresh = &calls.records.fresh;
+    let files = own_files(alloc, lists, diversions, incoming, found, fresh)?;
+    Ok(plan_from(calls, files))
 }

@@ -7,7 +7,7 @@ use Rattle.std.proofs.lemmas.Slice.Eq.{bytes_eq-Decides}
 use Rattle.undo_rows.specs.declared.fall.Fall.{Fall}
 use Rattle.undo_rows.specs.declared.fall.StepFault.{StepFault}
 use Rattle.undo_rows.specs.declared.failed.Failed.{Failed}
-use Rattle.undo_rows.specs.Place.{Place, Back, Forward, Ready, called, worked}
+use Rattle.undo_rows.specs.Place.{Place, Back, Forward, Ready, called, is_declined, worked}
 use Rattle.status_records.specs.declared.record.Record.{Record}
 use Rattle.status_records.specs.Records.{record_in}
 use Rattle.unpack_rows.specs.declared.kinds.RowKind.{RowKind}
@@ -15,7 +15,7 @@ use Rattle.unpack_rows.specs.declared.kinds.RowKind.TheVariants.{Other, Files}
 use Rattle.unpack_rows.specs.declared.notes.Note.{Note}
 use Rattle.unpack_rows.specs.Kinds.{first_kinds, has_prerm, is_upgrade, kinds_of, last_kinds, own_of, state_of}
 use Rattle.unpack_rows.specs.Notes.{half_configured, half_installed, noted, notes_at, notes_back, notes_forward}
-use Rattle.unpack_rows.specs.Stages.{Restored, Stage, Unwritten, Wrote, has_files, is_files, stage_of}
+use Rattle.unpack_rows.specs.Stages.{Restored, Stage, Unwritten, Wrote, failed_at, has_files, is_files, stage_of}
 use Rattle.unpack_rows.proofs.Unnoted.{files_unnoted, postrm_unnoted_back}
 use Rattle.unpack_rows.proofs.LastNotes.{last_of, noted_last, taken}
 
@@ -46,14 +46,16 @@ is_wrote : (b : Bool) → cond b Wrote Unwritten ≡ Wrote → b ≡ true
 is_wrote true e = refl
 is_wrote false e = let d : ◌≡◌ {A = ℕ} 0 1 = ap number e in absurd (omega arith)
 
-wrote_back : (b c : Bool) → cond b (cond c Wrote Restored) Unwritten ≡ Wrote → c ≡ true
-wrote_back true true e = refl
-wrote_back true false e = let d : ◌≡◌ {A = ℕ} 2 1 = ap number e in absurd (omega arith)
-wrote_back false c e = let d : ◌≡◌ {A = ℕ} 0 1 = ap number e in absurd (omega arith)
+wrote_back : (b c d : Bool) → cond b (cond c Wrote Restored) (cond d Restored Unwritten) ≡ Wrote → c ≡ true
+wrote_back true true d e = refl
+wrote_back true false d e = let n : ◌≡◌ {A = ℕ} 2 1 = ap number e in absurd (omega arith)
+wrote_back false c true e = let n : ◌≡◌ {A = ℕ} 2 1 = ap number e in absurd (omega arith)
+wrote_back false c false e = let n : ◌≡◌ {A = ℕ} 0 1 = ap number e in absurd (omega arith)
 
-wrote_before : (b c : Bool) → cond b (cond c Wrote Restored) Unwritten ≡ Wrote → b ≡ true
-wrote_before true c e = refl
-wrote_before false c e = let d : ◌≡◌ {A = ℕ} 0 1 = ap number e in absurd (omega arith)
+wrote_before : (b c d : Bool) → cond b (cond c Wrote Restored) (cond d Restored Unwritten) ≡ Wrote → b ≡ true
+wrote_before true c d e = refl
+wrote_before false c true e = let n : ◌≡◌ {A = ℕ} 2 1 = ap number e in absurd (omega arith)
+wrote_before false c false e = let n : ◌≡◌ {A = ℕ} 0 1 = ap number e in absurd (omega arith)
 
 turned_back : (b : Bool) → cond b (cond b Wrote Restored) Unwritten ≡ cond b Wrote Unwritten
 turned_back true = refl
@@ -82,7 +84,7 @@ module _ (kinds : List RowKind) (i : ℕ) (k : RowKind) (within : i < length kin
   stage_wrote is = ap (λ b. cond b Wrote Unwritten) (with_files is)
 
   pub stage_undone : is_files k ≡ false → (fall : Fall) (failed now : List Failed) → stage_of kinds (Back i fall now) ≡ stage_of kinds (Back (i + 1) fall failed)
-  stage_undone none fall failed now = ap (λ b. cond (has_files (take fall.row kinds)) (cond b Wrote Restored) Unwritten) (sym (same_files none))
+  stage_undone none fall failed now = ap (λ b. cond (has_files (take fall.row kinds)) (cond b Wrote Restored) (failed_at fall.fault)) (sym (same_files none))
 
 -- before the file row there is no other, and behind it only the postrm
 
@@ -113,8 +115,8 @@ module _ (start : Option Record) (others : List Record) (i : ℕ) (k : RowKind) 
   pub stage_before : stage_of (kinds_of start others) (Forward i) ≡ Unwritten
   stage_before = ap (λ b. cond b Wrote Unwritten) free
 
-  pub stage_failed : (fault : StepFault) → stage_of (kinds_of start others) (worked i (Some fault)) ≡ Unwritten
-  stage_failed fault = ap (λ b. cond b (cond (has_files (take (i + 1) (kinds_of start others))) Wrote Restored) Unwritten) free
+  pub stage_failed : (fault : StepFault) → stage_of (kinds_of start others) (worked i (Some fault)) ≡ failed_at (Some fault)
+  stage_failed fault = ap (λ b. cond b (cond (has_files (take (i + 1) (kinds_of start others))) Wrote Restored) (failed_at (Some fault))) free
 
 -- as rows go on there is no less of the file row
 
@@ -129,19 +131,19 @@ grows (x ∷ l) (suc n) (suc m) le is = by (is_files x) (has_files (take n l)) (
     by true a b so e = refl
     by false a b so e = so e
 
-is_wrote_now : (a b : Bool) → a ≡ true → b ≡ true → cond a (cond b Wrote Restored) Unwritten ≡ Wrote
-is_wrote_now true true e f = refl
-is_wrote_now true false e f = absurd (true≢false (sym f))
-is_wrote_now false b e f = absurd (true≢false (sym e))
+is_wrote_now : (a b : Bool) (s : Stage) → a ≡ true → b ≡ true → cond a (cond b Wrote Restored) s ≡ Wrote
+is_wrote_now true true s e f = refl
+is_wrote_now true false s e f = absurd (true≢false (sym f))
+is_wrote_now false b s e f = absurd (true≢false (sym e))
 
-is_restored : (a b : Bool) → a ≡ true → b ≡ false → cond a (cond b Wrote Restored) Unwritten ≡ Restored
-is_restored true true e f = absurd (true≢false f)
-is_restored true false e f = refl
-is_restored false b e f = absurd (true≢false (sym e))
+is_restored : (a b : Bool) (s : Stage) → a ≡ true → b ≡ false → cond a (cond b Wrote Restored) s ≡ Restored
+is_restored true true s e f = absurd (true≢false f)
+is_restored true false s e f = refl
+is_restored false b s e f = absurd (true≢false (sym e))
 
-is_unwritten : (a b : Bool) → a ≡ false → cond a (cond b Wrote Restored) Unwritten ≡ Unwritten
-is_unwritten true b e = absurd (true≢false e)
-is_unwritten false b e = refl
+is_failed_at : (a b : Bool) (s : Stage) → a ≡ false → cond a (cond b Wrote Restored) s ≡ s
+is_failed_at true b s e = absurd (true≢false e)
+is_failed_at false b s e = refl
 
 module _ (start : Option Record) (others : List Record) (i : ℕ) (k : RowKind) (fall : Fall) (failed : List Failed) (within : i < length (kinds_of start others)) (at : k ≡ get_or (kinds_of start others) i k) (is : k ≡ Files) where
   abbrev kinds : List RowKind
@@ -151,12 +153,12 @@ module _ (start : Option Record) (others : List Record) (i : ℕ) (k : RowKind) 
   stage_put_back less =
       let has : has_files (take (i + 1) kinds) ≡ true = with_files kinds i k within at is in
       let past : has_files (take fall.row kinds) ≡ true = grows kinds (i + 1) fall.row (omega (arith, less)) has in
-      (is_wrote_now (has_files (take fall.row kinds)) (has_files (take (i + 1) kinds)) past has, is_restored (has_files (take fall.row kinds)) (has_files (take i kinds)) past (free start others i k within at is))
+      (is_wrote_now (has_files (take fall.row kinds)) (has_files (take (i + 1) kinds)) (failed_at fall.fault) past has, is_restored (has_files (take fall.row kinds)) (has_files (take i kinds)) (failed_at fall.fault) past (free start others i k within at is))
 
-  pub stage_spared : fall.row ≤ i → (stage_of (kinds_of start others) (Back (i + 1) fall failed) ≡ Unwritten) × (stage_of (kinds_of start others) (Back i fall failed) ≡ Unwritten)
+  pub stage_spared : fall.row ≤ i → (stage_of (kinds_of start others) (Back (i + 1) fall failed) ≡ failed_at fall.fault) × (stage_of (kinds_of start others) (Back i fall failed) ≡ failed_at fall.fault)
   stage_spared low =
       let none : has_files (take fall.row kinds) ≡ false = false_from_ne_true (has_files (take fall.row kinds)) (λ has. true≢false (sym (grows kinds fall.row i low has) ∙ free start others i k within at is)) in
-      (is_unwritten (has_files (take fall.row kinds)) (has_files (take (i + 1) kinds)) none, is_unwritten (has_files (take fall.row kinds)) (has_files (take i kinds)) none)
+      (is_failed_at (has_files (take fall.row kinds)) (has_files (take (i + 1) kinds)) (failed_at fall.fault) none, is_failed_at (has_files (take fall.row kinds)) (has_files (take i kinds)) (failed_at fall.fault) none)
 
 -- the package's record while the files are written
 
@@ -207,6 +209,6 @@ module _ (start : Option Record) (incoming : Record) where
         let all = kinds_of start others in
         let tried = notes_forward start incoming (take (fall.row + 1) all) in
         ap (λ (l : List Note). record_in (noted table (tried ++ l)) (own_of start incoming).name)
-        (behind_by (has_prerm (state_of start)) others (is_upgrade (state_of start)) failed k (fall.row + 1) k (wrote_back (has_files (take fall.row all)) (has_files (take k all)) wrote))
+        (behind_by (has_prerm (state_of start)) others (is_upgrade (state_of start)) failed k (fall.row + 1) k (wrote_back (has_files (take fall.row all)) (has_files (take k all)) (is_declined fall.fault) wrote))
         ∙ ap (λ l. record_in (noted table l) (own_of start incoming).name) (append-nil tried)
-        ∙ marked_forward (fall.row + 1) (grows all fall.row (fall.row + 1) (omega arith) (wrote_before (has_files (take fall.row all)) (has_files (take k all)) wrote))
+        ∙ marked_forward (fall.row + 1) (grows all fall.row (fall.row + 1) (omega arith) (wrote_before (has_files (take fall.row all)) (has_files (take k all)) (is_declined fall.fault) wrote))

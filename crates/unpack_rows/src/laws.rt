@@ -16,7 +16,7 @@ ghost use Rattle.unpack_rows.specs.Failures.{has_failed};
 ghost use Rattle.unpack_rows.specs.ForwardRows.{AreOwn, Fits, others_rows, records_of, rows_of};
 ghost use Rattle.unpack_rows.specs.Kinds.{kinds_of, own_of, owner_of};
 ghost use Rattle.unpack_rows.specs.Notes.{half_installed, listed, note_before, note_undone, noted, notes_at};
-ghost use Rattle.unpack_rows.specs.Stages.{Restored, Unwritten, Wrote, is_files, stage_of};
+ghost use Rattle.unpack_rows.specs.Stages.{Restored, Unwritten, Wrote, failed_at, is_files, stage_of};
 
 /// The rows and their kinds are as many, and each row has the owner that its kind says.
 pub fn each_row_is_of_its_kind()
@@ -70,8 +70,8 @@ pub fn each_package_ends_as_noted()
         ended q }
 {}
 
-/// The files are written by the file row alone and put back by its undo alone; while they are written the package's record is
-/// half-installed and wants reinstallation.
+/// The files are written by the file row alone and put back by its undo alone, or by the row itself where a step was declined; while
+/// they are written the package's record is half-installed and wants reinstallation.
 pub fn files_go_with_their_row()
     ensures called { (kinds : List ARowKind) (i : ℕ) (k : ARowKind) (ok : Bool) → i < length kinds
         → k ≡ get_or kinds i k → is_files k ≡ false → stage_of kinds (called i ok) ≡ stage_of kinds
@@ -89,7 +89,7 @@ pub fn files_go_with_their_row()
     ensures failed { (start : Option ARecord) (others : List ARecord) (i : ℕ) (k : ARowKind)
         (fault : AStepFault) → i < length (kinds_of start others)
         → k ≡ get_or (kinds_of start others) i k → k ≡ Files → stage_of (kinds_of start others)
-        (worked i (Some fault)) ≡ Unwritten }
+        (worked i (Some fault)) ≡ failed_at (Some fault) }
     ensures put_back { (start : Option ARecord) (others : List ARecord) (i : ℕ) (k : ARowKind)
         (fall : AFall) (failed : List AFailed) → i < fall.row → i < length (kinds_of start others)
         → k ≡ get_or (kinds_of start others) i k → k ≡ Files
@@ -98,8 +98,8 @@ pub fn files_go_with_their_row()
     ensures spared { (start : Option ARecord) (others : List ARecord) (i : ℕ) (k : ARowKind)
         (fall : AFall) (failed : List AFailed) → fall.row ≤ i → i < length (kinds_of start others)
         → k ≡ get_or (kinds_of start others) i k → k ≡ Files
-        → (stage_of (kinds_of start others) (Back (i + 1) fall failed) ≡ Unwritten)
-        × (stage_of (kinds_of start others) (Back i fall failed) ≡ Unwritten) }
+        → (stage_of (kinds_of start others) (Back (i + 1) fall failed) ≡ failed_at fall.fault)
+        × (stage_of (kinds_of start others) (Back i fall failed) ≡ failed_at fall.fault) }
     ensures marked { (start : Option ARecord) (incoming : ARecord) (others table : List ARecord)
         (place : Place) → stage_of (kinds_of start others) place ≡ Wrote
         → record_in (noted table (notes_at start incoming (kinds_of start others) place))

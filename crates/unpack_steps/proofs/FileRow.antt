@@ -1,21 +1,21 @@
 -- The file row and its undo: each leads from a place of the rows to the next.
-use Rattle.std.proofs.Common.{◌≡◌, inl, inr, ℕ, ◌+◌, ◌<◌, ◌≤◌, false, List, [], ◌∷◌, ◌++◌, Option, Some, None, IsTrue, length, get_or, refl, sym, ap, subst, ◌∙◌, append_assoc, arith}
+use Rattle.std.proofs.Common.{◌≡◌, inl, inr, ℕ, ◌+◌, ◌<◌, ◌≤◌, false, cond, List, [], ◌∷◌, ◌++◌, Option, Some, None, IsTrue, length, get_or, refl, sym, ap, subst, ◌∙◌, append_assoc, arith}
 use Rattle.std.specs.Prelude.{MatchOption}
 use Rattle.std.proofs.lemmas.List.{append-nil}
 use Rattle.host_core.specs.Paths.{Path}
 use Rattle.host_core.specs.World.{World, Change, IsFile}
-use Rattle.host_core.specs.Events.{Event, Did, Finished, Cut, Failed as AFailure, Ran, calls_of, changes_of, scripts_of}
+use Rattle.host_core.specs.Events.{Event, Did, Finished, Cut, Denied, Failed as AFailure, Ran, calls_of, changes_of, scripts_of}
 use Rattle.host_core.specs.Host.{State, AtEachMoment, Silent, Since, calls, finished}
 use Rattle.host_core.proofs.Moments.{scripts_of-append}
 use Rattle.host_core.specs.Nodes.{own_access}
 use Rattle.host_core.proofs.Scripts.{calls_of-append, calls_of-finished, calls_of-scripts, changes_of-append, no_change, silent_added}
 use Rattle.administration.specs.Places.{list_path}
-use Rattle.undo_rows.specs.Place.{Back, Forward, Place, worked}
+use Rattle.undo_rows.specs.Place.{Back, Forward, Place, is_declined, worked}
 use Rattle.undo_rows.specs.Stops.{AtEachStop}
 use Rattle.undo_rows.proofs.Stops.{stops_quiet}
 use Rattle.undo_rows.specs.declared.failed.Failed.{Failed}
 use Rattle.file_check.specs.Clashes.{owning}
-use Rattle.file_check.specs.Sound.{AllSound, IsFirstFault}
+use Rattle.file_check.specs.Sound.{AllSound}
 use Rattle.file_lists.specs.Filed.{Filed}
 use Rattle.file_lists.specs.Writing.{list_file, list_text, with_list}
 use Rattle.file_check.specs.Rearranged.{IsRearranged}
@@ -26,7 +26,7 @@ use Rattle.package_files.specs.Names.{AllInOrder, IsNamed}
 use Rattle.package_files.specs.Back.{CanGoBack}
 use Rattle.status_db.specs.Held.{HasRecords}
 use Rattle.status_db.specs.Recorded.{Recorded}
-use Rattle.listed_files.specs.Listing.{HasUnlisted, MayUnlist}
+use Rattle.listed_files.specs.Listing.{HasTurnedBack, HasUnlisted, MayUnlist}
 use Rattle.unpack_rows.proofs.Growth.{notes_put_back, notes_worked}
 use Rattle.unpack_rows.proofs.Staging.{marked, stage_before, stage_failed, stage_put_back, stage_wrote}
 use Rattle.unpack_rows.specs.Notes.{noted, notes_at}
@@ -35,7 +35,8 @@ use Rattle.unpack_rows.specs.declared.kinds.RowKind.{RowKind}
 use Rattle.unpack_rows.specs.declared.kinds.RowKind.TheVariants.{Files}
 use Rattle.undo_rows.specs.declared.fall.Fall.{Fall}
 use Rattle.undo_rows.specs.declared.fall.StepFault.{StepFault}
-use Rattle.unpack_steps.specs.At.{AreWorksAt, At, HasFault, IsAmid, IsFileFault, IsMarked, IsWithin, Stops, holding, table_at}
+use Rattle.undo_rows.specs.declared.fall.StepFault.TheVariants.{Declined}
+use Rattle.unpack_steps.specs.At.{AreWorksAt, At, HasFault, IsAmid, IsFileFault, IsMarked, IsStepFault, IsWithin, Stops, holding, table_at}
 use Rattle.unpack_steps.specs.FileMoves.{HasWrittenRow, MayWriteRow, places_before, places_of}
 use Rattle.unpack_steps.specs.Clearing.{HasCleared, next_ready}
 use Rattle.unpack_steps.specs.Follows.{follows_none}
@@ -46,7 +47,7 @@ use Rattle.unpack_steps.proofs.FileWorlds.{home_before, still_written}
 use Rattle.unpack_steps.proofs.Going.{gone_at_files, gone_worked}
 use Rattle.unpack_steps.proofs.Rearranged.{length_rearranged, named_rearranged, places_cut, places_enough}
 use Rattle.unpack_steps.proofs.RowKinds.{kind_at}
-use Rattle.unpack_steps.proofs.Standing.{Stands, listed_stands, listing_stands, unlisted_stands, unlisting_stands}
+use Rattle.unpack_steps.proofs.Standing.{Stands, listed_stands, turned_stands, turning_stands, unlisted_stands, unlisting_stands}
 
 list_is_file : (paths : List Path) → IsFile (list_file paths)
 list_is_file paths = (list_text paths, own_access 0o644, refl)
@@ -57,6 +58,7 @@ changes_of_scripts (Did s ∷ es) = changes_of_scripts es
 changes_of_scripts (Finished ran ∷ es) = ap (λ (l : Change). ran.change ++ l) (changes_of_scripts es)
 changes_of_scripts (Cut call change ∷ es) = ap (λ (l : Change). change ++ l) (changes_of_scripts es)
 changes_of_scripts (AFailure ∷ es) = changes_of_scripts es
+changes_of_scripts (Denied path ∷ es) = changes_of_scripts es
 
 -- more was done at a place, and no script called
 module _ (t : Task) (d : Recorded) (lists : Filed) (places : List Path) (works : List Work) (s : State) (place : Place) (at : At t (holding d lists places works) s place) where
@@ -162,14 +164,14 @@ module _ (t : Task) (d : Recorded) (lists : Filed) (places : List Path) (works :
 
   -- the step fault
   fault_by : (w : World) (fault : Option StepFault)
-      → MatchOption fault (AllSound (owning t.entries lists.lists t.yields (name t)) works w) (IsFirstFault (owning t.entries lists.lists t.yields (name t)) works w) → HasFault t w fault
+      → MatchOption fault (AllSound (owning t.entries lists.lists t.yields (name t)) works w) (IsStepFault (owning t.entries lists.lists t.yields (name t)) works w) → HasFault t w fault
   fault_by w None judged =
       subst (λ (l : List Work). AllSound (owning t.entries t.lists t.yields (name t)) l w) works_before (subst (λ ls. AllSound (owning t.entries ls t.yields (name t)) works w) lists_before judged)
   fault_by w (Some fault) judged =
-      subst (λ (l : List Work). IsFirstFault (owning t.entries t.lists t.yields (name t)) l w fault) works_before (subst (λ ls. IsFirstFault (owning t.entries ls t.yields (name t)) works w fault) lists_before judged)
+      subst (λ (l : List Work). IsStepFault (owning t.entries t.lists t.yields (name t)) l w fault) works_before (subst (λ ls. IsStepFault (owning t.entries ls t.yields (name t)) works w fault) lists_before judged)
 
   pub file_fault : (fault : Option StepFault) → IsTrue s.honest
-      → MatchOption fault (AllSound (owning t.entries lists.lists t.yields (name t)) works s.world) (IsFirstFault (owning t.entries lists.lists t.yields (name t)) works s.world) → IsFileFault t (calls s) fault
+      → MatchOption fault (AllSound (owning t.entries lists.lists t.yields (name t)) works s.world) (IsStepFault (owning t.entries lists.lists t.yields (name t)) works s.world) → IsFileFault t (calls s) fault
   file_fault fault h judged = record {
     ran = at.ran;
     calls_are = ap calls_of at.events ∙ calls_of-append t.start.events at.since
@@ -183,10 +185,10 @@ module _ (t : Task) (d : Recorded) (lists : Filed) (places : List Path) (works :
 
   module _ (u : State) (silent : Silent s u) where
     -- nothing was written
-    pub at_stopped : (P : List Event → World → Type 0) → Since P s u → (fault : StepFault) (filed : Filed) (now : List Path) (ordered : List Work) → filed ≡ lists → now ≡ places → (IsTrue u.honest → u.world ≡ s.world)
+    pub at_stopped : (P : List Event → World → Type 0) → Since P s u → (fault : StepFault) → is_declined (Some fault) ≡ false → (filed : Filed) (now : List Path) (ordered : List Work) → filed ≡ lists → now ≡ places → (IsTrue u.honest → u.world ≡ s.world)
         → At t (holding d filed now ordered) u (worked i (Some fault))
-    at_stopped P moments fault filed now ordered filed_is now_is world =
-        at_next t d lists places works s (Forward i) at u silent P moments (worked i (Some fault)) Unwritten (stage_failed t.found t.others i k row.0 k_is files fault) filed now ordered (gone_worked t i k row.0 k_is files (Some fault)) (notes_still (Some fault))
+    at_stopped P moments fault found filed now ordered filed_is now_is world =
+        at_next t d lists places works s (Forward i) at u silent P moments (worked i (Some fault)) Unwritten (stage_failed t.found t.others i k row.0 k_is files fault ∙ ap (λ b. cond b Restored Unwritten) found) filed now ordered (gone_worked t i k row.0 k_is files (Some fault)) (notes_still (Some fault))
         (omega arith, row.0) (ap (λ (f : Filed). f.lists) filed_is ∙ lists_before) (ap (λ (f : Filed). f.closed) filed_is ∙ at.lists_open) (now_is ∙ places_are) tt
         (λ h. subst (Stands d.records d.notes (name t)) (sym (world h)) (stands_here t d lists places works s (Forward i) at (silent.honest h)))
         (λ h. subst (Follows t.places (changes_of at.since) at.base) (sym (world h)) (came_before (silent.honest h)))
@@ -216,17 +218,37 @@ module _ (t : Task) (d : Recorded) (lists : Filed) (places : List Path) (works :
         (λ h. listed_stands d.records d.notes (name t) ordered named (list_file t.union) (list_is_file t.union) s.world u.world (stands_here t d lists places works s (Forward i) at (silent.honest h)) (wrote h).listed)
         (λ h. has_files ordered (silent.honest h) (wrote h))
 
-    stop_writing : IsTrue s.honest → (so_far : List Event) (w : World) → scripts_of so_far ≡ [] → MayWriteRow (list_path (name t)) (list_file t.union) works s.world w → Stops t (s.events ++ so_far) w
+    -- a step was declined, and all was put back
+    pub at_turned : (P : List Event → World → Type 0) → Since P s u → (path : Path) (filed : Filed) (now : List Path) (ordered : List Work)
+        → filed ≡ record lists { lists = with_list (name t) t.listed (with_list (name t) t.union lists.lists) } → now ≡ places → IsRearranged works ordered → Each IsNamed ordered → AllInOrder ordered
+        → (IsTrue u.honest → HasTurnedBack (list_path (name t)) (list_file t.union) (list_file t.listed) ordered s.world u.world) → At t (holding d filed now ordered) u (worked i (Some (Declined path)))
+    at_turned P moments path filed now ordered filed_is now_is moved named order turned =
+        at_next t d lists places works s (Forward i) at u silent P moments (worked i (Some (Declined path))) Restored (stage_failed t.found t.others i k row.0 k_is files (Declined path)) filed now ordered
+        (gone_worked t i k row.0 k_is files (Some (Declined path))) (notes_still (Some (Declined path)))
+        (omega arith, row.0) (ap (λ (f : Filed). f.lists) filed_is ∙ ap (λ ls. with_list (name t) t.listed (with_list (name t) t.union ls)) lists_before) (ap (λ (f : Filed). f.closed) filed_is ∙ at.lists_open)
+        (now_is ∙ places_are) (record { same = moved_from ordered moved; named = named; order = order })
+        (λ h. turned_stands d.records d.notes (name t) ordered named (list_file t.union) (list_file t.listed) (list_is_file t.union) (list_is_file t.listed) s.world u.world
+        (stands_here t d lists places works s (Forward i) at (silent.honest h)) (turned h))
+        (λ h. record {
+          early = changes_of at.since;
+          late = [];
+          changes = sym (append-nil (changes_of at.since));
+          back = u.world;
+          put = inr (record { found = s.world; before = came_before (silent.honest h); home = (at.world (silent.honest h)).kept.unblocked.home; turned = turned h });
+          since = follows_none t.places u.world;
+        })
+
+    stop_writing : IsTrue s.honest → (so_far : List Event) (w : World) → scripts_of so_far ≡ [] → MayWriteRow (list_path (name t)) (list_file t.union) (list_file t.listed) works s.world w → Stops t (s.events ++ so_far) w
     stop_writing h so_far w none (inl same) =
         stop_amid t d lists places works s (Forward i) at so_far none h w (subst (Stands d.records d.notes (name t)) (sym same) (stands_here t d lists places works s (Forward i) at h))
         (IsAmid.untouched (subst (Follows t.places (changes_of at.since) at.base) (sym same) (came_before h)))
     stop_writing h so_far w none (inr may) =
         stop_amid t d lists places works s (Forward i) at so_far none h w
-        (listing_stands d.records d.notes (name t) may.0 (named_rearranged works may.0 may.1 named_here) (list_file t.union) (list_is_file t.union) s.world w (stands_here t d lists places works s (Forward i) at h) may.2)
+        (turning_stands d.records d.notes (name t) may.0 (named_rearranged works may.0 may.1 named_here) (list_file t.union) (list_file t.listed) (list_is_file t.union) (list_is_file t.listed) s.world w (stands_here t d lists places works s (Forward i) at h) may.2)
         (IsAmid.writing may.0 s.world (moved_from may.0 may.1) marked_here (came_before h) may.2)
 
-    pub writing_stops : AtEachMoment (MayWriteRow (list_path (name t)) (list_file t.union) works) s u → AtEachStop (Stops t) s u
-    writing_stops since = stops_quiet (Stops t) (λ so_far. MayWriteRow (list_path (name t)) (list_file t.union) works s.world) s u silent since (λ h so_far w none is. stop_writing (silent.honest h) so_far w none is)
+    pub writing_stops : AtEachMoment (MayWriteRow (list_path (name t)) (list_file t.union) (list_file t.listed) works) s u → AtEachStop (Stops t) s u
+    writing_stops since = stops_quiet (Stops t) (λ so_far. MayWriteRow (list_path (name t)) (list_file t.union) (list_file t.listed) works s.world) s u silent since (λ h so_far w none is. stop_writing (silent.honest h) so_far w none is)
 
 -- its undo, where it has written
 
@@ -284,10 +306,8 @@ module _ (t : Task) (d : Recorded) (lists : Filed) (places : List Path) (works :
           early = changes_of at.since;
           late = [];
           changes = sym (append-nil (changes_of at.since));
-          last = s.world;
           back = u.world;
-          files = came_there (silent.honest h);
-          unlisted = undone h;
+          put = inl (record { last = s.world; files = came_there (silent.honest h); unlisted = undone h });
           since = follows_none t.places u.world;
         })
 

@@ -107,7 +107,7 @@ module _ (t : Task) (g : Holding) (s : State) (i : ℕ) (k : RowKind) (within : 
   pub undone_can : {p : Place} → At t g s p → IsNotable (note_undone t.found t.incoming k)
   undone_can at = undone_notable t.found t.incoming t.others t.records at.sound.concerned at.sound.standing i k within is
 
--- a file row that failed has written nothing
+-- a file row that failed has nothing to put back
 pub not_written : (t : Task) (g : Holding) (s : State) (i : ℕ) (fall : Fall) (failed : List Failed) → IsFileRow (kinds t) i → fall.row ≤ i → At t g s (Back (i + 1) fall failed) → At t g s (Back i fall failed)
 not_written t g s i fall failed row high at =
     let found = kind_at (kinds t) i row.0 in

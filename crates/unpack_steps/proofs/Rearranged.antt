@@ -4,7 +4,8 @@ use Rattle.std.specs.Prelude.{◌||◌, ◌&&◌}
 use Rattle.std.specs.Str.{bytes_eq}
 use Rattle.std.proofs.Math.Seq.{take-append_seam}
 use Rattle.std.proofs.lemmas.List.{length-append, length-map}
-use Rattle.std.proofs.lemmas.List.Elements.{Contains-append_right}
+use Rattle.std.specs.List.{AllByRecursion}
+use Rattle.std.proofs.lemmas.List.Elements.{All-contains, All-from_recursion, Contains-append_right}
 use Rattle.std.proofs.lemmas.List.Sorted.{length_permutation}
 use Rattle.host_core.specs.Paths.{Path}
 use Rattle.host_core.specs.World.{World, kind_of}
@@ -19,7 +20,7 @@ use Rattle.package_files.specs.declared.work.Work.{Work}
 use Rattle.package_files.specs.Files.{Each}
 use Rattle.package_files.specs.Names.{IsNamed}
 use Rattle.package_files.proofs.WorkLists.{each_of}
-use Rattle.unpack_steps.specs.FileMoves.{places_before, places_of}
+use Rattle.unpack_steps.specs.FileMoves.{IsPathOf, places_before, places_of}
 
 each_to : (P : Work → Type 0) → ((x : Work) → P x → P (unseen x)) → (xs : List Work) → Each P xs → Each P (map unseen xs)
 each_to P to [] all = tt
@@ -70,6 +71,22 @@ pub places_listed : (front : List Path) (xs ys : List Work) → IsRearranged xs 
 places_listed front xs ys moved =
     each_rearranged (λ y. Contains (front ++ places_of xs) y.place) (λ y has. has) (λ y has. has) xs ys moved
     (each_of (λ y. Contains (places_of xs) y.place) (λ y. Contains (front ++ places_of xs) y.place) (λ y has. Contains-append_right front (places_of xs) y.place has) xs (places_have xs))
+
+-- a path of works in another order is one of these
+
+each_has : (P : Work → Type 0) (xs : List Work) → Each P xs → AllByRecursion P xs
+each_has P [] all = tt
+each_has P (x ∷ xs) all = (all.0, each_has P xs all.1)
+
+have_paths : (xs : List Work) → Each (λ x. IsPathOf xs x.path) xs
+have_paths [] = tt
+have_paths (x ∷ xs) =
+    ((x, (0, omega arith, refl), refl), each_of (λ y. IsPathOf xs y.path) (λ y. IsPathOf (x ∷ xs) y.path) (λ y has. (has.0, Contains-append_right (x ∷ []) xs has.0 has.1, has.2)) xs (have_paths xs))
+
+pub path_rearranged : (xs ys : List Work) (path : Path) → IsRearranged xs ys → IsPathOf ys path → IsPathOf xs path
+path_rearranged xs ys path moved is =
+    let P = λ (y : Work). IsPathOf xs y.path in
+    subst (IsPathOf xs) (sym is.2) (All-contains P ys is.0 (All-from_recursion P ys (each_has P ys (each_rearranged P (λ y has. has) (λ y has. has) xs ys moved (have_paths xs)))) is.1)
 
 -- no fault, whatever was seen
 

@@ -14,14 +14,14 @@ use Rattle.administration.proofs.WholeFiles.{no_directory_at, no_directory_file,
 use Rattle.administration.proofs.Within.{rest_of}
 use Rattle.file_lists.specs.Writing.{IsListReady}
 use Rattle.package_files.specs.declared.work.Work.{Work}
-use Rattle.package_files.specs.Files.{Each, Misses, HasPutBack, PutBack, IsWhole, before, between, behind, IsAmid}
+use Rattle.package_files.specs.Files.{Each, HasPutBack, HasUndone, IsAmid, IsWhole, Misses, PutBack, Undone, before, behind, between}
 use Rattle.package_files.specs.Free.{IsWrittenFrom}
 use Rattle.package_files.specs.Names.{IsNamed}
 use Rattle.package_files.proofs.Written.{keeps_directory, written_amid}
 use Rattle.status_db.specs.Held.{AreKept, is_record_place}
 use Rattle.status_records.specs.declared.record.Record.{Record}
 use Rattle.status_db.proofs.NotedWorlds.{kept_on}
-use Rattle.listed_files.specs.Listing.{HasListed, HasUnlisted, MayList, MayUnlist}
+use Rattle.listed_files.specs.Listing.{HasListed, HasTurnedBack, HasUnlisted, MayList, MayTurnBack, MayUnlist}
 use Rattle.listed_files.proofs.Apart.{goes_on}
 use Rattle.listed_files.proofs.Listings.{all_miss, ready_still}
 
@@ -112,6 +112,12 @@ whole_directory was now x dir (before is) = is
 whole_directory was now x dir (between access node wrote gap spot) = absurd (true≢false (sym wrote ∙ keeps_directory x.node (was x.target) dir))
 whole_directory was now x dir (behind wrote is spot) = absurd (true≢false (sym wrote ∙ keeps_directory x.node (was x.target) dir))
 
+undone_directory : (was now : World) (x : Work) → IsDirectory (was x.target) → HasUndone was now x → now x.target ≡ was x.target
+undone_directory was now x dir undone = elim undone.is [
+  | inl is ↦ is.target
+  | inr stays ↦ absurd (true≢false (sym stays.was ∙ keeps_directory x.node (was x.target) dir))
+]
+
 back_directory : (was now : World) (x : Work) → IsDirectory (was x.target) → HasPutBack was now x → now x.target ≡ was x.target
 back_directory was now x dir put = elim put.is [
   | inl is ↦ is.target
@@ -132,6 +138,11 @@ module _ (rs : List Record) (notes : ℕ) (name : List ℕ) (works : List Work) 
   amid_stands : (was v now : World) → IsDirectory (was home_path) → Stands rs notes name v → IsAmid works was v now → Stands rs notes name now
   amid_stands was v now dir stands is =
       files_still v now is.rest (home_still (IsWhole was now) was now (whole_directory was now) dir works v named is.each is.rest stands.kept.unblocked.home) stands
+
+  undone_stands : (v now : World) → Stands rs notes name v → Undone works v now → Stands rs notes name now
+  undone_stands v now stands is =
+      let dir = stands.kept.unblocked.home in
+      files_still v now is.rest (home_still (HasUndone v now) v now (undone_directory v now) dir works v named is.each is.rest dir) stands
 
   back_stands : (was v now : World) → IsDirectory (was home_path) → Stands rs notes name v → PutBack works was v now → Stands rs notes name now
   back_stands was v now dir stands is =
@@ -154,3 +165,14 @@ module _ (rs : List Record) (notes : ℕ) (name : List ℕ) (works : List Work) 
 
       pub unlisted_stands : HasUnlisted (list_path name) node works v now → Stands rs notes name now
       unlisted_stands has = replaced_stands rs notes name has.mid now node file (back_stands was v has.mid dir stands (has.back was from)) has.replaced
+
+  -- where a step was declined
+  module _ (union listed : Node) (file : IsFile union) (old : IsFile listed) (v now : World) (stands : Stands rs notes name v) where
+    pub turning_stands : MayTurnBack (list_path name) union listed works v now → Stands rs notes name now
+    turning_stands (inl may) = listing_stands union file v now stands may
+    turning_stands (inr m) =
+        replacing_stands rs notes name m.1 now listed old (undone_stands m.0 m.1 (replaced_stands rs notes name v m.0 union file stands m.2) m.3) m.4
+
+    pub turned_stands : HasTurnedBack (list_path name) union listed works v now → Stands rs notes name now
+    turned_stands has =
+        replaced_stands rs notes name has.back now listed old (undone_stands has.mid has.back (replaced_stands rs notes name v has.mid union file stands has.replaced) has.undone) has.unlisted

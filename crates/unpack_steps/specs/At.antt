@@ -1,5 +1,5 @@
 -- What holds while the rows of an unpack run: at each place of the run, and at each moment.
-use Rattle.std.specs.Prelude.{◌≡◌, ◌<◌, ◌≤◌, ◌+◌, ℕ, Bool, false, IsTrue, List, ◌++◌, Option, Some, None, is_some, length, not, Contains}
+use Rattle.std.specs.Prelude.{◌≡◌, ◌<◌, ◌≤◌, ◌+◌, ℕ, Bool, false, IsTrue, List, ◌++◌, Option, Some, None, is_some, length, not}
 use Rattle.host_core.specs.Paths.{Path}
 use Rattle.host_core.specs.World.{World, Change}
 use Rattle.host_core.specs.Events.{Event, Ran, changes_of, scripts_of}
@@ -26,6 +26,7 @@ use Rattle.unpack_rows.specs.Kinds.{own_of}
 use Rattle.unpack_rows.specs.Notes.{half_installed, noted, notes_at}
 use Rattle.unpack_rows.specs.Stages.{Stage, Unwritten, Wrote, Restored, stage_of}
 use Rattle.unpack_steps.specs.Clearing.{HasCleared, MayClear, next_ready}
+use Rattle.unpack_steps.specs.FileMoves.{IsPathOf}
 use Rattle.unpack_steps.specs.Task.{Task, IsSound, based_on, has_gone, kinds, lists_at, name, places_at}
 use Rattle.unpack_steps.specs.Trail.{AreOrdered, Follows, HasCome, HasFiles, HasGoneBack}
 
@@ -106,7 +107,7 @@ IsStepFault o works w (NoParent path) = IsFirstFault o works w (NoParent path)
 IsStepFault o works w (DirInWay path) = IsFirstFault o works w (DirInWay path)
 IsStepFault o works w (Clash path owner) = IsFirstFault o works w (Clash path owner)
 IsStepFault o works w (DiversionTarget path diverter) = IsFirstFault o works w (DiversionTarget path diverter)
-IsStepFault o works w (Declined path) = AllSound o works w × ((x : Work) × Contains works x × (path ≡ x.path))
+IsStepFault o works w (Declined path) = AllSound o works w × IsPathOf works path
 
 abbrev pub HasFault : Task → World → Option StepFault → Type 0
 HasFault t w None = AllSound (owning t.entries t.lists t.yields (name t)) t.works w

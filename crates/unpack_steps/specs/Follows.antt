@@ -61,10 +61,8 @@ module _ (t : Task) (works : List Work) (c d : Change) (v w : World) where
     early = has.early;
     late = has.late ++ d;
     changes = ap (λ (l : Change). l ++ d) has.changes ∙ append_assoc has.early has.late d;
-    last = has.last;
     back = has.back;
-    files = has.files;
-    unlisted = has.unlisted;
+    put = has.put;
     since = follows_then t.places has.late d has.back v w has.since next;
   }
 

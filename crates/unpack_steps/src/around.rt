@@ -99,7 +99,7 @@ impl<'a, 's, H: Host> Around<H> for Unpacking<'a, 's, H> {
         )
     }
 
-    // A file row that failed has written nothing.
+    // A file row that failed has written nothing, or put it back itself.
     fn put_back(
         &mut self,
         host: &mut H,

@@ -1,8 +1,8 @@
 // The list and the files of a package, written or put back, whatever the rows around them.
-ghost use Rattle.std.specs.Prelude.{◌≡◌, ◌≤◌, ◌++◌, IfOk, IfNone, OnOk, MatchOption, false, true, length};
+ghost use Rattle.std.specs.Prelude.{◌≡◌, ◌≤◌, ◌<◌, ◌++◌, IfOk, IfNone, IfSome, OnOk, MatchOption, false, true, length};
 ghost use Rattle.std.specs.List.{IsDistinct};
 ghost use Rattle.std.specs.List.Sorted.{IsPermutation};
-ghost use Rattle.host_core.specs.Host.{AtEachMoment, Counts, Gives, Leaves, Needs, Silent, Tells};
+ghost use Rattle.host_core.specs.Host.{AtEachMoment, Counts, Gives, Leaves, Needs, Silent, Tells, denials};
 ghost use Rattle.host_core.specs.Looks.{Looks};
 ghost use Rattle.texts.specs.PackageNames.{is_package_name};
 ghost use Rattle.administration.specs.Places.{list_path};
@@ -16,15 +16,18 @@ ghost use Rattle.package_files.specs.Files.{Each};
 ghost use Rattle.package_files.specs.Free.{IsFreeIn, IsSeen};
 ghost use Rattle.package_files.specs.Names.{AllInOrder, IsHomed, IsNamed};
 ghost use Rattle.package_files.specs.Back.{CanGoBack};
-ghost use Rattle.listed_files.specs.Listing.{HasListed, HasUnlisted, MayList, MayUnlist};
+ghost use Rattle.listed_files.specs.Listing.{HasListed, HasTurnedBack, HasUnlisted, MayTurnBack, MayUnlist};
+ghost use Rattle.undo_rows.specs.Faults.{OnlyIfDeclined};
+ghost use Rattle.undo_rows.specs.Place.{is_declined};
 ghost use Rattle.unpack_rows.specs.EndStates.{own_name};
-ghost use Rattle.unpack_steps.specs.FileMoves.{HasWrittenRow, MayWriteRow, places_before, places_of};
+ghost use Rattle.unpack_steps.specs.At.{IsStepFault};
+ghost use Rattle.unpack_steps.specs.FileMoves.{ByAnswer, HasWrittenRow, IsPathOf, MayWriteRow, places_before, places_of};
 
 use crate::plan::Rows;
 use diversions::Diversions;
 use file_check::{check, order_works};
 use file_lists::{FileLists, Paths};
-use host_core::{Host, HostFault, Places};
+use host_core::{Host, HostFault, Places, RootPath};
 use listed_files::{put_back_listed, write_listed};
 use package_files::Work;
 use std::alloc::{AllocError, Global};
@@ -71,6 +74,7 @@ fn check_works<H: Host>(
         works.new.items)) (H.state host.old) (H.state host.new) }
     ensures distinct { IfOk result
         (λ found. IfNone found (IsDistinct is_one_place works.new.items)) }
+    ensures undeclined { IfOk result (λ found. is_declined found ≡ false) }
     ensures looks { Looks result (λ found w. MatchOption found
         (AllSound (owning diversions.now.entries lists.now.lists rows.now.yields
         (own_name rows.now.found rows.now.incoming)) works.old.items w)
@@ -89,42 +93,58 @@ fn check_works<H: Host>(
     )
 }
 
-// Writes the list and then the files, in the order of their places.
+// Writes the list and then the files, in the order of their places. Where a step of one was declined all is put back; the
+// answer is its path.
 fn write_ordered<H: Host>(
     alloc: Global,
     host: &mut H,
     lists: &mut FileLists,
     name: &Text,
     union: Paths,
+    listed: Paths,
     works: &mut Vec<Work>,
-) -> Result<(), HostFault>
+) -> Result<Option<RootPath>, HostFault>
     requires opened { lists.old.closed ≡ false }
     requires name { is_package_name name.now ≡ true }
     requires paths { AreListPaths union }
+    requires listed_paths { AreListPaths listed }
     requires ready { Needs (H.state host.old) (IsListReady name.now) }
     requires named { Each IsNamed works.old.items }
     requires distinct { IsDistinct is_one_place works.old.items }
     requires free { Needs (H.state host.old) (λ w. Each (IsFreeIn w) works.old.items) }
+    requires seen { Needs (H.state host.old) (λ w. Each (IsSeen w) works.old.items) }
     requires homed { Needs (H.state host.old) (λ w. Each (IsHomed works.old.items w)
         works.old.items) }
     ensures works { IsPermutation works.old.items works.new.items }
     ensures order { AllInOrder works.new.items }
-    ensures lists { OnOk result (lists.new ≡ record lists.old {
+    ensures path { IfOk result (λ declined. IfSome declined (IsPathOf works.new.items)) }
+    ensures lists { IfOk result (λ declined. MatchOption declined (lists.new ≡ record lists.old {
       lists = with_list name.now union
           lists.old.lists;
-    }) }
-    ensures listed { Leaves result (HasListed (list_path name.now) (list_file union)
-        works.new.items) (H.state host.old) (H.state host.new) }
-    ensures any_moment { AtEachMoment (MayList (list_path name.now) (list_file union)
-        works.new.items) (H.state host.old) (H.state host.new) }
+    }) (λ path. lists.new ≡ record lists.old {
+      lists = with_list name.now listed
+          (with_list name.now union lists.old.lists);
+    })) }
+    ensures listed { Gives result (λ declined old new. MatchOption declined
+        (HasListed (list_path name.now) (list_file union) works.new.items old new)
+        (λ path. HasTurnedBack (list_path name.now) (list_file union) (list_file listed)
+        works.new.items old new)) (H.state host.old) (H.state host.new) }
+    ensures denied { IfOk result (λ declined. IfSome declined (λ path. denials (H.state host.old)
+        < denials (H.state host.new))) }
+    ensures any_moment { AtEachMoment (MayTurnBack (list_path name.now) (list_file union)
+        (list_file listed) works.new.items) (H.state host.old) (H.state host.new) }
     ensures silent { Silent (H.state host.old) (H.state host.new) }
     ensures counts { Counts (H.state host.old) (H.state host.new) result }
 {
     order_works(works);
-    write_listed(alloc, host, lists, name, union, works.as_slice())
+    match write_listed(alloc, host, lists, name, union, listed, works.as_slice())? {
+        None => Ok(None),
+        Some(index) => Ok(Some(works[index].path.copy()?)),
+    }
 }
 
-// Writes what was checked. From here on scripts leave the shipped places alone.
+// Writes what was checked. From here on scripts leave the shipped places alone, unless a step was declined; the answer is then
+// its path.
 fn write_checked<H: Host>(
     alloc: Global,
     host: &mut H,
@@ -132,40 +152,60 @@ fn write_checked<H: Host>(
     places: &mut Places,
     rows: &Rows,
     works: &mut Vec<Work>,
-) -> Result<(), HostFault>
+) -> Result<Option<RootPath>, HostFault>
     requires opened { lists.old.closed ≡ false }
     requires name { is_package_name (own_name rows.now.found rows.now.incoming) ≡ true }
     requires paths { AreListPaths rows.now.union }
+    requires listed_paths { AreListPaths rows.now.listed }
     requires ready { Needs (H.state host.old)
         (IsListReady (own_name rows.now.found rows.now.incoming)) }
     requires named { Each IsNamed works.old.items }
     requires distinct { IsDistinct is_one_place works.old.items }
     requires free { Needs (H.state host.old) (λ w. Each (IsFreeIn w) works.old.items) }
+    requires seen { Needs (H.state host.old) (λ w. Each (IsSeen w) works.old.items) }
     requires homed { Needs (H.state host.old) (λ w. Each (IsHomed works.old.items w)
         works.old.items) }
     ensures works { IsPermutation works.old.items works.new.items }
     ensures order { OnOk result (AllInOrder works.new.items) }
-    ensures lists { OnOk result (lists.new ≡ record lists.old {
+    ensures path { IfOk result (λ declined. IfSome declined (IsPathOf works.new.items)) }
+    ensures lists { IfOk result (λ declined. MatchOption declined (lists.new ≡ record lists.old {
       lists = with_list (own_name rows.now.found rows.now.incoming) rows.now.union
           lists.old.lists;
-    }) }
-    ensures places { OnOk result (places.new ≡ places.old ++ places_of works.old.items) }
-    ensures listed { Leaves result (HasListed
+    }) (λ path. lists.new ≡ record lists.old {
+      lists = with_list (own_name rows.now.found rows.now.incoming) rows.now.listed
+          (with_list (own_name rows.now.found rows.now.incoming) rows.now.union
+          lists.old.lists);
+    })) }
+    ensures places { IfOk result (λ declined. MatchOption declined
+        (places.new ≡ places.old ++ places_of works.old.items) (λ path. places.new ≡ places.old)) }
+    ensures listed { Gives result (λ declined old new. MatchOption declined
+        (HasListed (list_path (own_name rows.now.found rows.now.incoming))
+        (list_file rows.now.union) works.new.items old new)
+        (λ path. HasTurnedBack (list_path (own_name rows.now.found rows.now.incoming))
+        (list_file rows.now.union) (list_file rows.now.listed) works.new.items old new))
+        (H.state host.old) (H.state host.new) }
+    ensures denied { IfOk result (λ declined. IfSome declined (λ path. denials (H.state host.old)
+        < denials (H.state host.new))) }
+    ensures any_moment { AtEachMoment (MayTurnBack
         (list_path (own_name rows.now.found rows.now.incoming)) (list_file rows.now.union)
-        works.new.items) (H.state host.old) (H.state host.new) }
-    ensures any_moment { AtEachMoment (MayList
-        (list_path (own_name rows.now.found rows.now.incoming)) (list_file rows.now.union)
-        works.new.items) (H.state host.old) (H.state host.new) }
+        (list_file rows.now.listed) works.new.items) (H.state host.old) (H.state host.new) }
     ensures silent { Silent (H.state host.old) (H.state host.new) }
     ensures counts { Counts (H.state host.old) (H.state host.new) result }
 {
+    let kept = places.items.len();
     push_places(places, works.as_slice())?;
     let union = copy_of(alloc, &rows.union)?;
-    write_ordered(alloc, host, lists, rows.name(), union, works)
+    let had = copy_of(alloc, &rows.listed)?;
+    let declined = write_ordered(alloc, host, lists, rows.name(), union, had, works)?;
+    if declined.is_some() {
+        places.items.truncate(kept);
+    }
+    Ok(declined)
 }
 
 /// Checks a package's paths and writes its list and then its files, or answers the first step fault and
-/// changes nothing. The works are left in the order of their places.
+/// changes nothing. Where a step of a file is declined, what was written is put back, and the answer is that. The works are left
+/// in the order of their places.
 pub(crate) fn check_and_write<H: Host>(
     alloc: Global,
     host: &mut H,
@@ -178,6 +218,7 @@ pub(crate) fn check_and_write<H: Host>(
     requires opened { lists.old.closed ≡ false }
     requires name { is_package_name (own_name rows.now.found rows.now.incoming) ≡ true }
     requires paths { AreListPaths rows.now.union }
+    requires listed_paths { AreListPaths rows.now.listed }
     requires ready { Needs (H.state host.old)
         (IsListReady (own_name rows.now.found rows.now.incoming)) }
     requires named { Each IsNamed works.old.items }
@@ -185,25 +226,35 @@ pub(crate) fn check_and_write<H: Host>(
     ensures judged { Tells result (λ found w. MatchOption found
         (AllSound (owning diversions.now.entries lists.old.lists rows.now.yields
         (own_name rows.now.found rows.now.incoming)) works.old.items w)
-        (IsFirstFault (owning diversions.now.entries lists.old.lists rows.now.yields
+        (IsStepFault (owning diversions.now.entries lists.old.lists rows.now.yields
         (own_name rows.now.found rows.now.incoming)) works.old.items w)) (H.state host.old)
         (H.state host.new) }
-    ensures written { Gives result (λ found old new. MatchOption found
+    ensures written { Gives result (λ found old new. ByAnswer found
         (HasWrittenRow (list_path (own_name rows.now.found rows.now.incoming))
-        (list_file rows.now.union) works.new.items old new) (λ fault. new ≡ old)) (H.state host.old)
-        (H.state host.new) }
+        (list_file rows.now.union) works.new.items old new)
+        (HasTurnedBack (list_path (own_name rows.now.found rows.now.incoming))
+        (list_file rows.now.union) (list_file rows.now.listed) works.new.items old new)
+        (new ≡ old)) (H.state host.old) (H.state host.new) }
     ensures works { IsRearranged works.old.items works.new.items }
     ensures named { Each IsNamed works.new.items }
-    ensures order { IfOk result (λ found. IfNone found (AllInOrder works.new.items)) }
-    ensures lists { IfOk result (λ found. MatchOption found (lists.new ≡ record lists.old {
+    ensures order { IfOk result (λ found. ByAnswer found (AllInOrder works.new.items)
+        (AllInOrder works.new.items) Unit) }
+    ensures lists { IfOk result (λ found. ByAnswer found (lists.new ≡ record lists.old {
       lists = with_list (own_name rows.now.found rows.now.incoming) rows.now.union
           lists.old.lists;
-    }) (λ fault. lists.new ≡ lists.old)) }
-    ensures places { IfOk result (λ found. MatchOption found (places.new ≡ places.old ++ places_of
-        works.old.items) (λ fault. places.new ≡ places.old)) }
+    }) (lists.new ≡ record lists.old {
+      lists = with_list (own_name rows.now.found rows.now.incoming) rows.now.listed
+          (with_list (own_name rows.now.found rows.now.incoming) rows.now.union
+          lists.old.lists);
+    }) (lists.new ≡ lists.old)) }
+    ensures places { IfOk result (λ found. ByAnswer found
+        (places.new ≡ places.old ++ places_of works.old.items) (places.new ≡ places.old)
+        (places.new ≡ places.old)) }
+    ensures denied { IfOk result
+        (λ fault. OnlyIfDeclined fault (H.state host.old) (H.state host.new)) }
     ensures any_moment { AtEachMoment (MayWriteRow
         (list_path (own_name rows.now.found rows.now.incoming)) (list_file rows.now.union)
-        works.old.items) (H.state host.old) (H.state host.new) }
+        (list_file rows.now.listed) works.old.items) (H.state host.old) (H.state host.new) }
     ensures silent { Silent (H.state host.old) (H.state host.new) }
     ensures counts { Counts (H.state host.old) (H.state host.new) result }
 {
@@ -211,8 +262,10 @@ pub(crate) fn check_and_write<H: Host>(
     if let Some(fault) = found {
         return Ok(Some(fault));
     }
-    write_checked(alloc, host, lists, places, rows, works)?;
-    Ok(None)
+    let Some(path) = write_checked(alloc, host, lists, places, rows, works)? else {
+        return Ok(None);
+    };
+    Ok(Some(StepFault::Declined(path)))
 }
 
 /// Puts a package's files back, the last first, and writes the list that it had. Scripts need not leave the

@@ -1,7 +1,8 @@
 // The rows of an unpack, with all that is done beside their calls.
-ghost use Rattle.std.specs.Prelude.{◌≡◌, IfOk, length};
+ghost use Rattle.std.specs.Prelude.{◌≡◌, IfOk, IfSome, length};
 ghost use Rattle.host_core.specs.Host.{Counts, Needs};
 ghost use Rattle.held_administration.specs.Open.{CanWrite};
+ghost use Rattle.undo_rows.specs.Faults.{OnlyIfDeclined};
 ghost use Rattle.undo_rows.specs.Place.{Fit, Forward};
 ghost use Rattle.undo_rows.specs.Stops.{AtEachStop};
 ghost use Rattle.undo_rows.specs.Telling.{Begun, HasRun};
@@ -36,6 +37,9 @@ fn run_all<H: Host>(
         (ended_as u) calls.items (H.state host.old) (H.state host.new) told.old.items
         told.new.items) }
     ensures cause { IfOk result (IsCauseOf calls.items) }
+    ensures denied { IfOk result
+        (λ u. IfSome u
+        (λ one. OnlyIfDeclined one.fall.fault (H.state host.old) (H.state host.new))) }
     ensures told { Begun (MayRun calls.items) (H.state host.old) (H.state host.new) told.old.items
         told.new.items }
     ensures there { IfOk result (λ u. At (task_in unpacking.old) (held_in unpacking.new)
@@ -84,6 +88,9 @@ pub fn run_unpack_rows<'a, H: Host>(
         diversions.now.entries works.old.items rows.now)) (ended_as u) calls.items
         (H.state host.old) (H.state host.new) told.old.items told.new.items) }
     ensures cause { IfOk result (IsCauseOf calls.items) }
+    ensures denied { IfOk result
+        (λ u. IfSome u
+        (λ one. OnlyIfDeclined one.fall.fault (H.state host.old) (H.state host.new))) }
     ensures told { Begun (MayRun calls.items) (H.state host.old) (H.state host.new) told.old.items
         told.new.items }
     ensures there { IfOk result (λ u. At (task_by (H.state host.old) administration.old

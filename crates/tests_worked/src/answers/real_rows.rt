@@ -72,7 +72,11 @@ impl Hosts for RealHosts {
             return Err(HostFault::NoMemory);
         }
         self.opened += 1;
-        FilesHost::open(self.rt, tree)
+        match FilesHost::open(self.rt, tree) {
+            Ok(host) => Ok(host),
+            Err(HostFault::NoMemory) => Err(HostFault::NoMemory),
+            Err(HostFault::Device) | Err(HostFault::Declined) => Err(HostFault::Device),
+        }
     }
 
     fn close_root(&mut self, host: RealHost) {

@@ -110,26 +110,48 @@ fn written_access(rt: HostRuntime) -> Result<(), Fail> {
     }
 }
 
-// A step in a directory that only others may change. The superuser may.
+// Steps in a directory that only others may change are declined, and leave what was there. The superuser may change it.
 const CLOSED: &[Row] = &[
     (
-        "mkdir root/closed
+        "mkdir root/closed root/closed/bare
 echo one >root/file
+echo two >root/closed/old
 chmod 555 root/closed",
         ("move", "/file", "/closed/file"),
-        "Device",
+        "Declined",
     ),
-    ("", ("make", "/closed/made", ""), "Device"),
+    ("", ("move", "/file", "/closed/old"), "Declined"),
+    ("", ("move", "/closed/old", "/file"), "Declined"),
+    ("", ("write", "/closed/new.dpkg-inst", ""), "Declined"),
+    ("", ("make", "/closed/made", ""), "Declined"),
+    ("", ("make_link", "/closed/made", "file"), "Declined"),
+    ("", ("link", "/file", "/closed/second"), "Declined"),
+    ("", ("remove", "/closed/old", "/"), "Declined"),
+    ("", ("remove_dir", "/closed/bare", "/"), "Declined"),
     ("", ("kind", "/file", ""), "file"),
+    ("", ("sync", "/closed/old", "/"), "done"),
     ("", ("barrier", "/", "/"), "done"),
 ];
 
+const CLOSED_LEFT: &str = "chmod 755 root/closed
+find root -type f -exec cat {} + -printf '%p\n' -o -printf '%p\n' | LC_ALL=C sort";
+
 #[test]
 fn closed_directory(rt: HostRuntime) -> Result<(), Fail> {
-    match is_superuser(&rt)? {
-        true => Ok(()),
-        false => super::run(&rt, CLOSED, "chmod 755 root/closed").map(|_| ()),
+    if is_superuser(&rt)? {
+        return Ok(());
     }
+    let left = super::run(&rt, CLOSED, CLOSED_LEFT)?;
+    let row = "one
+root
+root/closed
+root/closed/bare
+root/closed/old
+root/file
+two
+";
+    assert_eq!(&rt; left.as_str(), row);
+    Ok(())
 }
 
 #[test]

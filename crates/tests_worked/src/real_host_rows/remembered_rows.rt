@@ -1,13 +1,13 @@
 // What a host remembers is forgotten once it may be otherwise: a script ran, a directory was removed, a file got a second name.
 use super::{NEW_DIRECTORY, RealHost, fault_text, path_of, shell};
 use host_core::{
-    Access, Call, Host, HostFault, Keep, Node, Outcome, Places, RootPath, Script, Side,
+    Call, Host, HostFault, Keep, Outcome, Places, RootPath, Script, Side,
 };
 use host_files::FilesHost;
 use std::alloc::{AllocError, Global};
 use std::fs;
 use std::test::Fail;
-use texts::{Bytes, Text, Texts};
+use texts::{Text, Texts};
 
 // One script puts a link to a directory outside in the place of one inside, the other removes what was just written.
 const ROOT: &str = "mkdir outside root/taken root/other
@@ -40,26 +40,12 @@ fn run(alloc: Global, host: &mut RealHost, path: &RootPath) -> Result<Outcome, H
     host.run(&call, &Keep { places: &places })
 }
 
-// Writes a script; at a temporary name alone.
-fn write(alloc: Global, host: &mut RealHost, path: &RootPath) -> Result<(), HostFault> {
-    if !path.as_str().ends_with(".dpkg-inst") {
-        return Err(HostFault::NoMemory);
-    }
-    let bytes = Bytes::from_slice(alloc, b"#!/bin/sh\nexit 7\n")?;
-    let access = Access::own(0o755);
-    host.write_new(path, &Node::File { bytes, access })
-}
-
 type Asked = (&'static str, &'static str, &'static str);
 
 fn told(alloc: Global, host: &mut RealHost, asked: Asked) -> Result<String, HostFault> {
     let (word, path, _) = asked;
     match word {
         "run" => Ok(outcome_text(alloc, run(alloc, host, &path_of(alloc, path)?)?)?),
-        "write" => {
-            write(alloc, host, &path_of(alloc, path)?)?;
-            Ok(String::from_str(alloc, "done")?)
-        }
         _ => Ok(String::from_str(alloc, super::told(alloc, host, asked)?)?),
     }
 }

@@ -42,5 +42,5 @@ loop-path-preserved g c =
           (All-push (IsDecidedOf r policy w) c.loop-path.list.items e (before.each (c.decide_one.ensures.looks.silent.honest h)) (subst (λ (v : World). IsDecidedOf r policy v e) before.reads.world (c.in_ok-decide_one.ensures.looks.found h)));
       reads = reads_then _ _ _ before.reads c.decide_one.ensures.looks.reads;
       silent = silent_then _ _ _ before.silent c.decide_one.ensures.looks.silent;
-      counts = c.in_ok-decide_one.ensures.looks.counts ∙ before.counts;
+      counts = search rules;
     }

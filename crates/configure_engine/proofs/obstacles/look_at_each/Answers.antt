@@ -30,7 +30,7 @@ loop-path-preserved g c =
     let falls = c.find_obstacle.ensures.looks.silent.honest in
     record {
       found = λ h.
-          let told = subst (λ (v : World). c.in_ok-found.field-0 ≡ obstacle_of v (ordered_names x)) before.reads.world (c.in_ok-found.ensures.found h) in
+          let told = subst (λ (v : World). c.in_ok-found.field-0 ≡ obstacle_of v (ordered_names x)) before.reads.world (c.in_ok-found.ensures.looks.found h) in
           elim c.match-branch-2.branch [
             | in-Some b ↦ subst (IsObstacle w (names_of_all (take (i + 1) paths))) (sym (b.least-is ∙ b.keep_lesser.ensures)) (least_more w paths i x c.loop-path.least b.in-Some.found lt c.path-item.is (before.found (falls h)) (sym b.in-Some.is ∙ told))
             | in_default b ↦ subst (IsObstacle w (names_of_all (take (i + 1) paths))) (sym b.least-is) (least_passed w paths i x c.loop-path.least lt c.path-item.is (before.found (falls h)) (sym b.in_default.is ∙ told))
@@ -43,7 +43,7 @@ loop-path-preserved g c =
           ];
       reads = reads_then _ _ _ before.reads c.find_obstacle.ensures.looks.reads;
       silent = silent_then _ _ _ before.silent c.find_obstacle.ensures.looks.silent;
-      counts = c.in_ok-found.ensures.counts ∙ before.counts;
+      counts = search rules;
     }
 
 pub returns-clause-clear : goal.returns-clause-clear

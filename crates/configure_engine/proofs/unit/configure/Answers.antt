@@ -105,7 +105,7 @@ returns-in-Ok-clause-any_moment g c =
     let stages = c.in-Ok.stages.items in
     let found : record_in c.args.administration.now.database.records name ≡ Some r = sym c.get.ensures ∙ ap option_copied c.unwrap-entry.ensures in
     let plan : IsPlanOf G old.world mid.honest stages = record { entry = r; found = found; plan = subst (λ (l : List Path). IsPlanFor r c.args.policy l old.world mid.honest stages) c.list_of.ensures c.in-Ok.ensures.planned } in
-    unit_moments old mid c.plan.ensures.reads c.plan.ensures.silent G stages plan new c.run_stages.ensures.any_moment.honest c.in-Ok.ensures.counts c.run_stages.ensures.any_moment
+    unit_moments old mid c.plan.ensures.reads c.plan.ensures.silent G stages plan new c.run_stages.ensures.any_moment.honest c.in-Ok.ensures.counts.faults c.run_stages.ensures.any_moment
 
 pub returns-in-Err-clause-any_moment : goal.returns-in-Err-clause-any_moment
 returns-in-Err-clause-any_moment g c =

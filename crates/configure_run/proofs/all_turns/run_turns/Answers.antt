@@ -5,10 +5,11 @@ use Rattle.unit_reports.specs.Units.{calls_of}
 use Rattle.undo_rows.specs.Transcript.{TellsAll}
 use Rattle.undo_rows.specs.declared.rows.Called.{Called}
 use Rattle.configure_run.specs.Turns.{StopTurns}
-use Rattle.configure_run.proofs.Replies.{broken_by, counts_no_memory, not_closed_by}
+use Rattle.configure_run.proofs.Replies.{broken_by}
 use Rattle.configure_run.proofs.Told.{refused_left_calls, some_left_calls, tells_no_more}
 use Rattle.configure_run.proofs.Units.{no_calls}
 use Rattle.configure_run.proofs.all_turns.run_turns.Goals as goal
+use Rattle.unit_reports.proofs.Counting.{counts_no_memory, no_memory_not_closed}
 
 pub refuse_left-requires : goal.refuse_left-requires
 refuse_left-requires g c = record { none_left = c.in-Ok.ensures.none_left }
@@ -32,7 +33,7 @@ pub returns-in-Err-refuse_left-clause-counts : goal.returns-in-Err-refuse_left-c
 returns-in-Err-refuse_left-clause-counts g c = counts_no_memory c.no_memory.result.reply (g.H.Host.state c.args.host.now) (g.H.Host.state c.take_turns.new.host) c.in-Ok.ensures.no_fault c.no_memory.ensures.reply
 
 pub returns-in-Err-refuse_left-clause-not_closed : goal.returns-in-Err-refuse_left-clause-not_closed
-returns-in-Err-refuse_left-clause-not_closed g c = not_closed_by c.no_memory.result.reply c.no_memory.ensures.reply
+returns-in-Err-refuse_left-clause-not_closed g c = no_memory_not_closed c.no_memory.result.reply c.no_memory.ensures.reply
 
 pub returns-in-Ok-refuse_left-clause-watched : goal.returns-in-Ok-refuse_left-clause-watched
 returns-in-Ok-refuse_left-clause-watched g c =

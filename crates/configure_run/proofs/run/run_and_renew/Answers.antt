@@ -6,11 +6,12 @@ use Rattle.unit_reports.specs.Held.{held_by}
 use Rattle.unit_reports.specs.Units.{calls_of}
 use Rattle.configure_run.proofs.Numbers.{are_waiting}
 use Rattle.configure_run.proofs.Others.{named_alone}
-use Rattle.configure_run.proofs.Replies.{broken_by, counts_no_memory, not_closed_by}
+use Rattle.configure_run.proofs.Replies.{broken_by}
 use Rattle.configure_run.proofs.Runs.{stop_of_end}
 use Rattle.configure_run.proofs.Told.{tells_no_more}
 use Rattle.configure_run.proofs.Units.{no_calls}
 use Rattle.configure_run.proofs.run.run_and_renew.Goals as goal
+use Rattle.unit_reports.proofs.Counting.{counts_no_memory, no_memory_not_closed}
 
 pub run_turns-requires-clause-wait : goal.run_turns-requires-clause-wait
 run_turns-requires-clause-wait g c = are_waiting c.args.names.now c.args.administration.now.database.records c.args.queue c.requires.begun c.law.ensures.order
@@ -32,4 +33,4 @@ pub returns-in-Err-renew-clause-counts : goal.returns-in-Err-renew-clause-counts
 returns-in-Err-renew-clause-counts g c = counts_no_memory c.no_memory.result.reply (g.H.Host.state c.args.host.now) (g.H.Host.state c.run_turns.new.host) c.in-Ok.ensures.no_fault c.no_memory.ensures.reply
 
 pub returns-in-Err-renew-clause-not_closed : goal.returns-in-Err-renew-clause-not_closed
-returns-in-Err-renew-clause-not_closed g c = not_closed_by c.no_memory.result.reply c.no_memory.ensures.reply
+returns-in-Err-renew-clause-not_closed g c = no_memory_not_closed c.no_memory.result.reply c.no_memory.ensures.reply

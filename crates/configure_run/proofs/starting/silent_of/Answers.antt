@@ -3,6 +3,7 @@ use Rattle.host_core.proofs.Moments.{reads_then, silent_then}
 use Rattle.configure_run.specs.Starting.{is_silent}
 use Rattle.configure_run.proofs.Silence.{silent_more}
 use Rattle.configure_run.proofs.starting.silent_of.Goals as goal
+use Rattle.host_core.proofs.Counted.{no_fault_then}
 
 pub returns-in_err-is_silent_at : goal.returns-in_err-is_silent_at
 returns-in_err-is_silent_at g c = record {
@@ -34,5 +35,5 @@ loop-entry-preserved g c =
           (λ wait. c.in_ok-is_silent_at.ensures.looks.found honest wait ∙ ap (λ w. is_silent w entry.name) inv.reads.world) (search rules);
       reads = reads_then _ _ _ inv.reads c.is_silent_at.ensures.looks.reads;
       silent = silent_then _ _ _ inv.silent c.is_silent_at.ensures.looks.silent;
-      faults_same = c.in_ok-is_silent_at.ensures.looks.counts ∙ inv.faults_same;
+      faults_same = no_fault_then _ _ _ inv.faults_same c.in_ok-is_silent_at.ensures.looks.counts;
     }

@@ -1,4 +1,4 @@
-use Rattle.std.proofs.Common.{◌≡◌, IsTrue}
+use Rattle.std.proofs.Common.{IsTrue}
 use Rattle.host_core.specs.Host.{Reads, Silent, NoFault}
 use Rattle.configure_run.proofs.Silence.{AreSilentSoFar}
 use Rattle.configure_run.proofs.starting.silent_of.Given as goal

@@ -1,4 +1,4 @@
-use Rattle.std.proofs.Common.{[], Some, inl, refl, subst, sym, true, false, ◌∙◌}
+use Rattle.std.proofs.Common.{[], Some, inl, refl, subst, sym, false, ◌∙◌}
 use Rattle.std.proofs.lemmas.Bool.{true≢false}
 use Rattle.std.specs.Prelude.{IfSome}
 use Rattle.dependency_check.specs.Waiting.{IsConfigurableNow, IsNextOfConfigurable}
@@ -11,12 +11,13 @@ use Rattle.configure_run.specs.Starting.{AreWaiting}
 use Rattle.configure_run.specs.Taking.{IsAmidTurnOf}
 use Rattle.configure_run.specs.Turns.{IsAmidTurn, IsTurn, after_turn}
 use Rattle.configure_run.proofs.Moments.{silent_here}
-use Rattle.configure_run.proofs.Replies.{broken_by, counts_no_memory, not_closed_by}
+use Rattle.configure_run.proofs.Replies.{broken_by}
 use Rattle.configure_run.proofs.Taking.{amid_next, broken_at, lhs, takes_one}
 use Rattle.configure_run.proofs.Told.{tells_silent}
 use Rattle.configure_run.proofs.Units.{no_calls}
 use Rattle.configure_run.proofs.turn.take_next.Goals as goal
 use Rattle.host_core.proofs.Barriers.{answered_here}
+use Rattle.unit_reports.proofs.Counting.{counts_no_memory, no_memory_not_closed, no_fault_here}
 
 pub take_turn-requires-clause-member : goal.take_turn-requires-clause-member
 take_turn-requires-clause-member g c = subst (λ n. IsConfigurableNow c.args.queue.now n) (sym c.in-Ok-Some.number-is) (subst (λ o. IfSome o (IsConfigurableNow c.args.queue.now)) c.in-Ok-Some.field-0-is c.in-Ok-Some.ensures.member)
@@ -87,7 +88,7 @@ pub returns-in-Err-clause-any_moment : goal.returns-in-Err-clause-any_moment
 returns-in-Err-clause-any_moment g c = since_start (runs.IsAmidNext (λ left later. IsAmidTurn c.args.policy (has c.args.silent.now) left) c.args.queue.now c.args.queue.now (held_by c.args.administration.now c.args.diversions.now) (g.H.Host.state c.args.host.now).world) (g.H.Host.state c.args.host.now) (inl (still_here (g.H.Host.state c.args.host.now).world))
 
 pub returns-in-Err-clause-counts : goal.returns-in-Err-clause-counts
-returns-in-Err-clause-counts g c = counts_no_memory c.no_memory.result.reply (g.H.Host.state c.args.host.now) (g.H.Host.state c.args.host.now) refl c.no_memory.ensures.reply
+returns-in-Err-clause-counts g c = counts_no_memory c.no_memory.result.reply (g.H.Host.state c.args.host.now) (g.H.Host.state c.args.host.now) (no_fault_here (g.H.Host.state c.args.host.now)) c.no_memory.ensures.reply
 
 pub returns-in-Err-clause-not_closed : goal.returns-in-Err-clause-not_closed
-returns-in-Err-clause-not_closed g c = not_closed_by c.no_memory.result.reply c.no_memory.ensures.reply
+returns-in-Err-clause-not_closed g c = no_memory_not_closed c.no_memory.result.reply c.no_memory.ensures.reply

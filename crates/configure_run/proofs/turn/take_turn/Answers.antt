@@ -1,7 +1,7 @@
-use Rattle.std.proofs.Common.{◌<◌, [], List, length, ◌⊎◌, inl, inr, refl, subst, sym, ◌∙◌}
+use Rattle.std.proofs.Common.{◌<◌, List, length, ◌⊎◌, inr, subst, sym, ◌∙◌}
 use Rattle.configure_engine.specs.Units.{IsWaiting}
 use Rattle.dependency_sets.proofs.StrikingLaws.{in_range}
-use Rattle.host_core.proofs.Moments.{since_start, since_weaker}
+use Rattle.host_core.proofs.Moments.{since_weaker}
 use Rattle.relation_index.specs.declared.package.Package.{Package}
 use Rattle.unit_reports.specs.Held.{held_by}
 use Rattle.unit_reports.specs.Units.{IsBroken}
@@ -9,12 +9,11 @@ use Rattle.configure_run.specs.Taking.{IsAmidTurnOf}
 use Rattle.configure_run.specs.Turns.{IsAmidUnit, IsUnit, is_done}
 use Rattle.configure_run.proofs.LeftLaws.{numbered_by}
 use Rattle.configure_run.proofs.Members.{member_waits}
-use Rattle.unit_runs.proofs.Going.{still_here}
-use Rattle.configure_run.proofs.Moments.{silent_here}
-use Rattle.configure_run.proofs.Replies.{broken_by, counts_no_memory, counts_whole, is_broken_off, is_whole, not_broken, not_closed_by}
-use Rattle.configure_run.proofs.Told.{called_for_tells, tells_silent}
-use Rattle.configure_run.proofs.Units.{no_calls, numbered_name, waiting_behind}
+use Rattle.configure_run.proofs.Replies.{is_broken_off, is_whole, not_broken}
+use Rattle.configure_run.proofs.Told.{called_for_tells}
+use Rattle.configure_run.proofs.Units.{numbered_name, waiting_behind}
 use Rattle.configure_run.proofs.turn.take_turn.Goals as goal
+use Rattle.unit_reports.proofs.Counting.{counts_whole}
 
 pub bounds-as_slice-number : goal.bounds-as_slice-number
 bounds-as_slice-number g c = (subst (λ (l : List Package). c.args.number < length l) (sym (c.as_slice.ensures.list ∙ c.packages-packages.ensures)) (subst (λ n. c.args.number < n) c.law.ensures.even.waiting (in_range c.args.queue.now.waiting c.args.number (member_waits c.args.queue.now c.args.number c.requires.member))))

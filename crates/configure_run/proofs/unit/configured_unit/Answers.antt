@@ -3,9 +3,10 @@ use Rattle.host_core.specs.declared.call.Call.{Call}
 use Rattle.unit_reports.specs.declared.report.Breakage.TheVariants.{NoMemory}
 use Rattle.unit_reports.specs.declared.report.Reply.TheVariants.{Broken}
 use Rattle.std.proofs.Common.{Option}
-use Rattle.configure_run.proofs.Replies.{answer_not_closed, broken_by, broken_or, counts_answered, counts_broken, fault_not_closed}
+use Rattle.configure_run.proofs.Replies.{answer_not_closed, broken_by, broken_or, counts_answered}
 use Rattle.configure_run.proofs.Units.{called_as, disk_as}
 use Rattle.configure_run.proofs.unit.configured_unit.Goals as goal
+use Rattle.unit_reports.proofs.Counting.{counts_broken, fault_not_closed}
 
 pub returns-in-Ok-clause-unit : goal.returns-in-Ok-clause-unit
 returns-in-Ok-clause-unit g c =

@@ -16,8 +16,8 @@ unreachable-requires g c =
     cc
 
 pub returns-clause-looks : goal.returns-clause-looks
-returns-clause-looks g c honest = record {
-  found =
+returns-clause-looks g c = record {
+  found = λ honest.
       let w = (g.H.Host.state c.args.host.now).world in
       let entry = c.in-Some.entry.now in
       ok_so c.obstacle.result (λ (found : Option (List ℕ)). IsObstacle w (names_of_all (settling_paths entry)) found) (λ found. HasObstacle c.args.database.now.records c.args.name.now w found)

@@ -4,12 +4,12 @@ use Rattle.unit_reports.specs.Held.{held_by}
 use Rattle.unit_reports.specs.declared.refusal.Rule.TheVariants.{ConffileKind}
 use Rattle.unit_reports.specs.declared.report.Breakage.TheVariants.{NoMemory}
 use Rattle.unit_reports.specs.declared.report.Reply.TheVariants.{Broken}
-use Rattle.unit_runs.proofs.Taken.{counts_from}
 use Rattle.configure_run.specs.Turns.{HasObstacle, IsUnitFor}
 use Rattle.configure_run.proofs.Moments.{order_read, since_unit, since_unit_reads}
-use Rattle.configure_run.proofs.Replies.{broken_by, broken_or, counts_broken, counts_refused, either_so, fault_not_closed, refused_not_closed}
+use Rattle.configure_run.proofs.Replies.{broken_by, broken_or, counts_refused, either_so, refused_not_closed}
 use Rattle.configure_run.proofs.Units.{called_nothing}
 use Rattle.configure_run.proofs.unit.unit_for.Goals as goal
+use Rattle.unit_reports.proofs.Counting.{counts_broken, counts_from, fault_not_closed}
 
 pub configured_unit-requires-clause-order : goal.configured_unit-requires-clause-order
 configured_unit-requires-clause-order g c = order_read (held_by c.args.administration.now c.args.diversions.now) (g.H.Host.state c.args.host.now) (g.H.Host.state c.obstacle_of.new.host) c.obstacle_of.ensures.looks.reads c.requires.order
@@ -20,7 +20,7 @@ configured_unit-requires-clause-clear g c = λ honest. subst (CanConfigure c.arg
 pub returns-in-Ok-None-clause-unit : goal.returns-in-Ok-None-clause-unit
 returns-in-Ok-None-clause-unit g c =
     either_so (λ is. IsUnitFor.configured (g.H.Host.state c.obstacle_of.new.host) c.obstacle_of.ensures.looks.reads c.obstacle_of.ensures.looks.silent
-    (λ honest. subst (λ (o : Option (List ℕ)). HasObstacle c.args.administration.now.database.records c.args.name.now (g.H.Host.state c.args.host.now).world o) c.in-Ok-None.field-0-is (c.in-Ok-None.ensures.found honest)) is) c.configured_unit.ensures.unit
+    (λ honest. subst (λ (o : Option (List ℕ)). HasObstacle c.args.administration.now.database.records c.args.name.now (g.H.Host.state c.args.host.now).world o) c.in-Ok-None.field-0-is (c.in-Ok-None.ensures.looks.found honest)) is) c.configured_unit.ensures.unit
 
 pub returns-in-Ok-None-clause-order : goal.returns-in-Ok-None-clause-order
 returns-in-Ok-None-clause-order g c = either_so (λ is. is.order) c.configured_unit.ensures.unit
@@ -35,12 +35,12 @@ pub returns-in-Ok-None-clause-any_moment : goal.returns-in-Ok-None-clause-any_mo
 returns-in-Ok-None-clause-any_moment g c = since_unit c.args.policy c.args.name.now (held_by c.args.administration.now c.args.diversions.now) (g.H.Host.state c.args.host.now) (g.H.Host.state c.obstacle_of.new.host) _ c.obstacle_of.ensures.looks.reads c.obstacle_of.ensures.looks.silent c.configured_unit.ensures.any_moment
 
 pub returns-in-Ok-None-clause-counts : goal.returns-in-Ok-None-clause-counts
-returns-in-Ok-None-clause-counts g c = counts_from c.configured_unit.result.reply (g.H.Host.state c.args.host.now) (g.H.Host.state c.obstacle_of.new.host) (g.H.Host.state c.configured_unit.new.host) c.in-Ok-None.ensures.counts c.configured_unit.ensures.counts
+returns-in-Ok-None-clause-counts g c = counts_from c.configured_unit.result.reply (g.H.Host.state c.args.host.now) (g.H.Host.state c.obstacle_of.new.host) (g.H.Host.state c.configured_unit.new.host) c.in-Ok-None.ensures.looks.counts c.configured_unit.ensures.counts
 
 pub returns-in-Ok-Some-clause-unit : goal.returns-in-Ok-Some-clause-unit
 returns-in-Ok-Some-clause-unit g c =
     broken_or NoMemory c.refused_named.result.reply (λ refused. IsUnitFor.obstructed c.in-Ok-Some.path
-    (λ honest. subst (λ (o : Option (List ℕ)). HasObstacle c.args.administration.now.database.records c.args.name.now (g.H.Host.state c.args.host.now).world o) c.in-Ok-Some.field-0-is (c.in-Ok-Some.ensures.found honest))
+    (λ honest. subst (λ (o : Option (List ℕ)). HasObstacle c.args.administration.now.database.records c.args.name.now (g.H.Host.state c.args.host.now).world o) c.in-Ok-Some.field-0-is (c.in-Ok-Some.ensures.looks.found honest))
     (record { refused = refused; held = refl; silent = c.obstacle_of.ensures.looks.silent; world = λ honest. c.obstacle_of.ensures.looks.reads.world })) c.refused_named.ensures.unit
 
 pub returns-in-Ok-Some-clause-order : goal.returns-in-Ok-Some-clause-order
@@ -56,7 +56,7 @@ pub returns-in-Ok-Some-clause-any_moment : goal.returns-in-Ok-Some-clause-any_mo
 returns-in-Ok-Some-clause-any_moment g c = since_unit_reads c.args.policy c.args.name.now (held_by c.args.administration.now c.args.diversions.now) (g.H.Host.state c.args.host.now) (g.H.Host.state c.obstacle_of.new.host) c.obstacle_of.ensures.looks.reads
 
 pub returns-in-Ok-Some-clause-counts : goal.returns-in-Ok-Some-clause-counts
-returns-in-Ok-Some-clause-counts g c = counts_refused (ConffileKind c.in-Ok-Some.path) c.args.name.now c.refused_named.result (g.H.Host.state c.args.host.now) (g.H.Host.state c.obstacle_of.new.host) c.in-Ok-Some.ensures.counts c.refused_named.ensures.unit
+returns-in-Ok-Some-clause-counts g c = counts_refused (ConffileKind c.in-Ok-Some.path) c.args.name.now c.refused_named.result (g.H.Host.state c.args.host.now) (g.H.Host.state c.obstacle_of.new.host) c.in-Ok-Some.ensures.looks.counts c.refused_named.ensures.unit
 
 pub returns-in-Ok-Some-clause-not_closed : goal.returns-in-Ok-Some-clause-not_closed
 returns-in-Ok-Some-clause-not_closed g c = refused_not_closed (ConffileKind c.in-Ok-Some.path) c.args.name.now c.refused_named.result c.refused_named.ensures.unit
@@ -80,7 +80,7 @@ pub returns-in-Err-clause-any_moment : goal.returns-in-Err-clause-any_moment
 returns-in-Err-clause-any_moment g c = since_unit_reads c.args.policy c.args.name.now (held_by c.args.administration.now c.args.diversions.now) (g.H.Host.state c.args.host.now) (g.H.Host.state c.obstacle_of.new.host) c.obstacle_of.ensures.looks.reads
 
 pub returns-in-Err-clause-counts : goal.returns-in-Err-clause-counts
-returns-in-Err-clause-counts g c = counts_broken (Option (List ℕ)) c.in-Err.fault c.broken.result.reply (g.H.Host.state c.args.host.now) (g.H.Host.state c.obstacle_of.new.host) (c.broken.ensures.reply ∙ ap Broken c.breakage_of.ensures) c.in-Err.ensures.counts
+returns-in-Err-clause-counts g c = counts_broken (Option (List ℕ)) c.in-Err.fault c.broken.result.reply (g.H.Host.state c.args.host.now) (g.H.Host.state c.obstacle_of.new.host) (c.broken.ensures.reply ∙ ap Broken c.breakage_of.ensures) c.in-Err.ensures.looks.counts
 
 pub returns-in-Err-clause-not_closed : goal.returns-in-Err-clause-not_closed
 returns-in-Err-clause-not_closed g c = fault_not_closed c.in-Err.fault c.broken.result.reply (c.broken.ensures.reply ∙ ap Broken c.breakage_of.ensures)

@@ -1,10 +1,11 @@
-use Rattle.std.proofs.Common.{◌≤◌, ◌+◌, ◌++◌, ◌∷◌, [], ℕ, List, Option, Contains, length, take, drop, take_all, refl, sym, subst, ◌∙◌, arith}
+use Rattle.std.proofs.Common.{◌≤◌, ◌+◌, ◌++◌, ◌∷◌, [], ℕ, List, Option, Contains, length, take, drop, take_all, refl, sym, subst, arith}
 use Rattle.host_core.specs.declared.call.Call.{Call}
 use Rattle.unit_stages.specs.Holding.{holding, holding_of}
 use Rattle.conflict_removal.specs.Removals.{HaveBeenRemoved, HaveCalled}
 use Rattle.conflict_removal.proofs.Chain.{names_more, names_split, others_more, removed_more}
 use Rattle.conflict_removal.proofs.Moments.{called_all, called_next, since_removal, since_removals_start}
 use Rattle.conflict_removal.proofs.removing.remove_in_favour.Goals as goal
+use Rattle.host_core.proofs.Counted.{no_fault_same, no_fault_then}
 
 pub loop-name-init : goal.loop-name-init
 loop-name-init g c =
@@ -17,7 +18,7 @@ loop-name-init g c =
       order = c.requires.order;
       is_open = c.requires.open;
       moments = since_removals_start c.args.diversions.now.entries c.args.names.now d f old c.requires.order;
-      counts = refl;
+      counts = no_fault_same old old refl;
     }
 
 pub loop-name-preserved : goal.loop-name-preserved
@@ -45,7 +46,7 @@ loop-name-preserved g c =
       is_open = c.in-Ok.ensures.open;
       moments = since_removal entries names (take i names) (drop (i + 1) names) name (names_split names i name name c.loop-name-test.true c.name-item.is) l.failed before l.administration.database l.administration.lists old now new told l.told.items inv.removed
           inv.order inv.moments c.remove_one.ensures.any_moment;
-      counts = c.in-Ok.ensures.counts ∙ inv.counts;
+      counts = no_fault_then _ _ _ inv.counts c.in-Ok.ensures.counts;
     }
 
 pub returns-in-Err-clause-told : goal.returns-in-Err-clause-told

@@ -1,7 +1,8 @@
-use Rattle.std.proofs.Common.{rules, sym, ◌∙◌, arith}
+use Rattle.std.proofs.Common.{rules, sym, arith}
 use Rattle.host_core.proofs.Moments.{reads_then, silent_then}
 use Rattle.disappearance.proofs.Directories.{directories_all, directories_more, directories_stop}
 use Rattle.disappearance.proofs.looks.are_directories.Goals as goal
+use Rattle.host_core.proofs.Counted.{no_fault_then}
 
 pub loop-path-preserved : goal.loop-path-preserved
 loop-path-preserved g c =
@@ -13,7 +14,7 @@ loop-path-preserved g c =
           c.if-not-stands.false (before.found (c.is_directory_at.ensures.looks.silent.honest h));
       reads = reads_then _ _ _ before.reads c.is_directory_at.ensures.looks.reads;
       silent = silent_then _ _ _ before.silent c.is_directory_at.ensures.looks.silent;
-      counts = c.in_ok-stands.ensures.looks.counts ∙ before.counts;
+      counts = no_fault_then _ _ _ before.counts c.in_ok-stands.ensures.looks.counts;
     }
 
 pub returns-then-not-stands : goal.returns-then-not-stands

@@ -1,4 +1,4 @@
-use Rattle.std.proofs.Common.{◌≤◌, ◌+◌, ℕ, List, [], Option, None, length, take, refl, sym, subst, ◌∙◌, arith}
+use Rattle.std.proofs.Common.{◌≤◌, ◌+◌, ℕ, List, [], Option, None, length, take, refl, sym, subst, arith}
 use Rattle.std.proofs.lemmas.List.{take_all}
 use Rattle.host_core.specs.declared.call.Call.{Call}
 use Rattle.unit_stages.specs.Holding.{holding, holding_of}
@@ -6,6 +6,7 @@ use Rattle.disappearance.specs.Runs.{HaveDisappeared}
 use Rattle.disappearance.specs.declared.losing.Losing.{Losing}
 use Rattle.disappearance.proofs.Sequence.{amid_more, amid_start, decided_more, none_yet, run_left_records, told_all, told_more}
 use Rattle.disappearance.proofs.run.disappear_packages.Goals as goal
+use Rattle.host_core.proofs.Counted.{no_fault_same, no_fault_then}
 
 pub loop-one-init : goal.loop-one-init
 loop-one-init g c =
@@ -20,7 +21,7 @@ loop-one-init g c =
       is_open = c.requires.open;
       indexed = c.requires.indexed;
       moments = amid_start c.args.incoming.now c.args.version.now c.args.diversions.now.entries c.args.losing.now d f.lists (holding d f) old told c.requires.order;
-      counts = refl;
+      counts = no_fault_same old old refl;
     }
 
 pub loop-one-preserved : goal.loop-one-preserved
@@ -49,7 +50,7 @@ loop-one-preserved g c =
       is_open = c.in-Ok.ensures.open;
       indexed = c.in-Ok.ensures.indexed;
       moments = amid_more incoming version entries losing i x c.loop-one-test.true c.one-item.is l.names l.failed before mid old now told l.told.items inv.disappeared new inv.moments c.disappear.ensures.any_moment;
-      counts = c.in-Ok.ensures.counts ∙ inv.counts;
+      counts = no_fault_then _ _ _ inv.counts c.in-Ok.ensures.counts;
     }
 
 pub returns-in-Err-clause-told : goal.returns-in-Err-clause-told

@@ -1,4 +1,4 @@
-use Rattle.std.proofs.Common.{◌≡◌, take}
+use Rattle.std.proofs.Common.{take}
 use Rattle.host_core.specs.Host.{Needs, Since, NoFault}
 use Rattle.held_administration.specs.Open.{IsOpen}
 use Rattle.recorded_packages.specs.Packages.{ArePackagesOf}

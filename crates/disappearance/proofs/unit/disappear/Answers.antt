@@ -68,7 +68,7 @@ returns-in-Ok-clause-any_moment g c =
     (λ (p : Plan). Goes c.args.incoming.now c.args.diversions.now.entries c.args.losing.now h old.world mid.honest × IsPlan c.args.incoming.now c.args.version.now c.args.losing.now.name h old.world mid.honest p.call.items p.gone.items)
     plan c.in-Ok-Some.field-0-is c.in-Ok-Some.ensures.decision in
     going_moments old mid c.in-Ok-Some.ensures.reads c.in-Ok-Some.ensures.silent c.args.incoming.now c.args.version.now c.args.diversions.now.entries c.args.losing.now h plan.call.items plan.gone.items found.0 found.1 new
-    c.run_both.ensures.any_moment.honest d f.lists c.requires.order c.in-Ok-Some.ensures.counts c.run_both.ensures.any_moment
+    c.run_both.ensures.any_moment.honest d f.lists c.requires.order c.in-Ok-Some.ensures.counts.faults c.run_both.ensures.any_moment
 
 pub returns-in-Err-push_name-clause-told : goal.returns-in-Err-push_name-clause-told
 returns-in-Err-push_name-clause-told g c = HasCalledOne.uncalled c.in-Ok-Some.ensures.silent refl

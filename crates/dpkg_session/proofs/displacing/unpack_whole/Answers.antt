@@ -11,6 +11,9 @@ use Rattle.dpkg_session.specs.declared.displacing.UnpackEnd.{UnpackEnd}
 use Rattle.displaced_packages.specs.declared.displacing.Displaced.{Displaced}
 use Rattle.dpkg_session.proofs.Whole.{called_whole, counts_behind, displaced_whole, since_whole, unwound_end}
 use Rattle.dpkg_session.proofs.displacing.unpack_whole.Goals as goal
+use Rattle.std.specs.Prelude.{IfSome}
+use Rattle.dpkg_session.proofs.Denied.{none_denied}
+use Rattle.unit_reports.specs.Units.{CountsCause}
 
 pub unpack_refreshed-requires-clause-open : goal.unpack_refreshed-requires-clause-open
 unpack_refreshed-requires-clause-open g c = record { noting = c.requires.open.noting; listing = c.requires.open.listing }
@@ -35,6 +38,10 @@ returns-then-is_some-clause-touched g c = λ names unchanged both known.
     touched_beside c.args.incoming.name (yielding c.args.beside.now) e.displaced.names e.unpacked.touched names unchanged before after after
     (subst (λ (u : Unpacked). IsTouched c.args.incoming.name before after u.touched) (sym c.undisplaced.ensures.unpacked) c.in-Ok.ensures.touched) both known (λ q away. refl) (λ q has. absurd (none_among e.displaced.names q c.undisplaced.ensures.none has))
 
+pub returns-then-is_some-clause-denied : goal.returns-then-is_some-clause-denied
+returns-then-is_some-clause-denied g c =
+    subst (λ (u : Unpacked). IfSome u.unwinding (λ one. CountsCause (g.H.Host.state c.args.host.now) (g.H.Host.state c.unpack_refreshed.new.host) one.failure)) (sym c.undisplaced.ensures.unpacked) c.in-Ok.ensures.denied
+
 pub returns-then-is_some-clause-told : goal.returns-then-is_some-clause-told
 returns-then-is_some-clause-told g c = inl c.unpack_refreshed.ensures.told
 
@@ -50,6 +57,9 @@ returns-in-Ok-displace-clause-unit g c =
     c.args.behind.now c.requires.behind c.as_slice.result.now c.as_slice-in-Ok.result.now c.as_slice.ensures.value c.as_slice-in-Ok.ensures c.in-Ok.unpacked.unwinding (sym c.is_some.ensures ∙ c.if-is_some.false) (g.H.Host.state c.args.host.now) (g.H.Host.state c.unpack_refreshed.new.host) (g.H.Host.state c.displace.new.host)
     c.args.told.now.items c.unpack_refreshed.new.told.items c.in-Ok.ensures.unit
     c.in-Ok-displace.displaced.names c.in-Ok-displace.displaced.failed (held_by c.displace.new.administration c.args.diversions.now) c.displace.new.told.items c.in-Ok.ensures.order c.in-Ok-displace.ensures.displaced
+
+pub returns-in-Ok-displace-clause-denied : goal.returns-in-Ok-displace-clause-denied
+returns-in-Ok-displace-clause-denied g c = none_denied c.in-Ok.unpacked.unwinding (g.H.Host.state c.args.host.now) (g.H.Host.state c.displace.new.host) (sym c.is_some.ensures ∙ c.if-is_some.false)
 
 pub returns-in-Ok-displace-clause-touched : goal.returns-in-Ok-displace-clause-touched
 returns-in-Ok-displace-clause-touched g c = λ names unchanged both known.

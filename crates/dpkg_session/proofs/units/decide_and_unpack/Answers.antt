@@ -1,11 +1,12 @@
 use Rattle.std.proofs.Common.{inl, inr, subst, ◌∙◌}
 use Rattle.unit_reports.specs.Held.{held_by}
 use Rattle.dpkg_session.proofs.Amid.{since_decided, since_package_start}
-use Rattle.dpkg_session.proofs.Runs.{by_refused, by_unpacked, counts_no_memory, counts_refused}
+use Rattle.dpkg_session.proofs.Runs.{by_refused, by_unpacked, counts_refused}
 use Rattle.dpkg_session.proofs.Told.{called_decided, not_begun_package}
 use Rattle.unpack_relations.specs.Checks.{AreBesideApart}
 use Rattle.dpkg_session.proofs.units.decide_and_unpack.Goals as goal
 use Rattle.host_core.proofs.Barriers.{answered_here}
+use Rattle.unit_reports.proofs.Counting.{counts_no_memory, no_fault_here}
 
 pub unpack_unit-requires-clause-apart : goal.unpack_unit-requires-clause-apart
 unpack_unit-requires-clause-apart g c = subst (AreBesideApart c.args.incoming.name c.args.administration.now.database.records) c.in-Ok-Planned.field-0-is (c.in-Ok-Planned.ensures.apart c.args.administration.now.database.records c.requires.indexed)
@@ -38,7 +39,7 @@ pub returns-in-Ok-Refused-clause-counts : goal.returns-in-Ok-Refused-clause-coun
 returns-in-Ok-Refused-clause-counts g c = counts_refused _ _ c.refused.result (g.H.Host.state c.args.host.now) c.refused.ensures
 
 pub returns-in-Err-clause-counts : goal.returns-in-Err-clause-counts
-returns-in-Err-clause-counts g c = counts_no_memory c.broken.result.reply (g.H.Host.state c.args.host.now) c.broken.ensures.reply
+returns-in-Err-clause-counts g c = counts_no_memory c.broken.result.reply (g.H.Host.state c.args.host.now) (g.H.Host.state c.args.host.now) (no_fault_here (g.H.Host.state c.args.host.now)) c.broken.ensures.reply
 
 pub returns-in-Ok-Refused-clause-answered : goal.returns-in-Ok-Refused-clause-answered
 returns-in-Ok-Refused-clause-answered g c = inr (answered_here (g.H.Host.state c.args.host.now))

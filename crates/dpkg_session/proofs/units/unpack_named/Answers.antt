@@ -2,9 +2,10 @@ use Rattle.std.proofs.Common.{ap, refl, ◌∙◌}
 use Rattle.unit_reports.specs.declared.report.Reply.TheVariants.{Broken}
 use Rattle.unit_reports.specs.Held.{held_by}
 use Rattle.dpkg_session.specs.declared.displacing.UnpackEnd.{UnpackEnd}
-use Rattle.dpkg_session.proofs.Runs.{answer_not_closed, counts_answered, counts_broken, is_unpacked}
+use Rattle.dpkg_session.proofs.Runs.{answer_not_closed, counts_answered, is_unpacked}
 use Rattle.dpkg_session.proofs.Told.{called_as}
 use Rattle.dpkg_session.proofs.units.unpack_named.Goals as goal
+use Rattle.unit_reports.proofs.Counting.{counts_broken}
 
 pub returns-in-Ok-clause-unit : goal.returns-in-Ok-clause-unit
 returns-in-Ok-clause-unit g c =
@@ -17,7 +18,7 @@ pub returns-in-Err-clause-told : goal.returns-in-Err-clause-told
 returns-in-Err-clause-told g c = called_as _ _ (held_by c.args.administration.now c.args.diversions.now) _ _ _ _ _ c.new-calls.ensures.items c.broken.ensures.told c.unpack_whole.ensures.told
 
 pub returns-in-Ok-clause-counts : goal.returns-in-Ok-clause-counts
-returns-in-Ok-clause-counts g c = counts_answered _ _ _ _ _ _ _ _ c.answered.result (g.H.Host.state c.args.host.now) (g.H.Host.state c.unpack_whole.new.host) c.in-Ok.ensures.counts c.answered.ensures.answer
+returns-in-Ok-clause-counts g c = counts_answered _ _ _ _ _ _ _ _ c.answered.result (g.H.Host.state c.args.host.now) (g.H.Host.state c.unpack_whole.new.host) c.in-Ok.ensures.counts c.in-Ok.ensures.denied c.answered.ensures.answer
 
 pub returns-in-Err-clause-counts : goal.returns-in-Err-clause-counts
 returns-in-Err-clause-counts g c = counts_broken UnpackEnd c.in-Err.fault c.broken.result.reply (g.H.Host.state c.args.host.now) (g.H.Host.state c.unpack_whole.new.host) (c.broken.ensures.reply ∙ ap Broken c.breakage_of.ensures) c.in-Err.ensures.counts

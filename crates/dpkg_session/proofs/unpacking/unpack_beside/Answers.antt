@@ -4,6 +4,8 @@ use Rattle.unit_reports.specs.Held.{held_by}
 use Rattle.dpkg_session.specs.Units.{HasUnpackedBeside, given_by}
 use Rattle.dpkg_session.proofs.Looking.{called_beside, if_ok_both, looking, nothing_called, under_way, unpacked_beside}
 use Rattle.dpkg_session.proofs.unpacking.unpack_beside.Goals as goal
+use Rattle.dpkg_session.proofs.Denied.{denied_from}
+use Rattle.unpack_engine.specs.declared.finishing.Unpacked.{Unpacked}
 
 pub unpack_to_disk-requires-clause-others : goal.unpack_to_disk-requires-clause-others
 unpack_to_disk-requires-clause-others g c = c.in-Ok.ensures.rows.apart
@@ -41,3 +43,7 @@ returns-in-Err-clause-told g c = nothing_called c.args.incoming c.args.beside.no
 
 pub returns-in-Err-clause-any_moment : goal.returns-in-Err-clause-any_moment
 returns-in-Err-clause-any_moment g c = looking c.args.incoming c.args.beside.now (held_by c.args.administration.now c.args.diversions.now) c.args.administration.now.places (g.H.Host.state c.args.host.now) (g.H.Host.state c.others_beside.new.host) c.others_beside.ensures.reads c.others_beside.ensures.silent
+
+pub returns-in-Ok-clause-denied : goal.returns-in-Ok-clause-denied
+returns-in-Ok-clause-denied g c =
+    denied_from (λ (u : Unpacked). u.unwinding) c.unpack_to_disk.result (g.H.Host.state c.args.host.now) (g.H.Host.state c.others_beside.new.host) (g.H.Host.state c.unpack_to_disk.new.host) c.in-Ok.ensures.counts c.unpack_to_disk.ensures.denied

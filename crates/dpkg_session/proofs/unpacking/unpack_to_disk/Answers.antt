@@ -3,6 +3,7 @@ use Rattle.unpack_engine.proofs.Quiet.{amid_unit_still}
 use Rattle.host_core.proofs.Moments.{since_barrier}
 use Rattle.dpkg_session.proofs.unpacking.unpack_to_disk.Goals as goal
 use Rattle.host_core.proofs.Barriers.{since_to_disk, on_disk}
+use Rattle.dpkg_session.proofs.Denied.{denied_behind}
 
 pub returns-in-Ok-barrier-clause-unit : goal.returns-in-Ok-barrier-clause-unit
 returns-in-Ok-barrier-clause-unit g c =
@@ -28,3 +29,6 @@ returns-in-Ok-barrier-clause-any_moment g c = since_to_disk _ _ _ _ _ (λ x quie
 
 pub returns-in-Err-barrier-clause-any_moment : goal.returns-in-Err-barrier-clause-any_moment
 returns-in-Err-barrier-clause-any_moment g c = since_to_disk _ _ _ _ _ (λ x quiet w none amid. amid_unit_still _ _ _ x quiet w none amid) c.unpack.ensures.any_moment c.barrier.ensures.does
+
+pub returns-in-Ok-barrier-clause-denied : goal.returns-in-Ok-barrier-clause-denied
+returns-in-Ok-barrier-clause-denied g c = denied_behind _ _ _ _ _ c.in-Ok.ensures.cause c.in-Ok.ensures.denied c.in-Ok.ensures.counts c.in-Ok-barrier.ensures.counts

@@ -1,9 +1,10 @@
 use Rattle.std.proofs.Common.{◌∙◌}
 use Rattle.unit_reports.specs.Held.{held_by}
 use Rattle.dpkg_session.proofs.Amid.{since_unit_start}
-use Rattle.dpkg_session.proofs.Runs.{broken_by, counts_no_memory, counts_whole, is_broken_off, is_whole, not_broken, ready_after}
+use Rattle.dpkg_session.proofs.Runs.{broken_by, is_broken_off, is_whole, not_broken, ready_after}
 use Rattle.dpkg_session.proofs.Told.{called_tells, not_begun}
 use Rattle.dpkg_session.proofs.unpacks.take_unit.Goals as goal
+use Rattle.unit_reports.proofs.Counting.{counts_no_memory, counts_whole, no_fault_here}
 
 pub returns-clause-ok : goal.returns-clause-ok
 returns-clause-ok g c =
@@ -12,6 +13,7 @@ returns-clause-ok g c =
       is = not_broken unit.result.reply c.is_broken.result c.if-is_broken.false c.is_broken.ensures unit.ensures.unit;
       moments = unit.ensures.any_moment;
       answered = not_broken unit.result.reply c.is_broken.result c.if-is_broken.false c.is_broken.ensures unit.ensures.answered;
+      counts = unit.ensures.counts;
     }
 
 pub returns-clause-order : goal.returns-clause-order
@@ -52,4 +54,4 @@ returns-then-is_broken-clause-broken_off g c =
     record { broken = broken; untouched = c.unit_of-unit.ensures.untouched broken; called = c.unit_of-unit.ensures.told }
 
 pub returns-then-is_err-clause-counts : goal.returns-then-is_err-clause-counts
-returns-then-is_err-clause-counts g c = counts_no_memory c.broken.result.reply (g.H.Host.state c.args.host.now) c.broken.ensures.reply
+returns-then-is_err-clause-counts g c = counts_no_memory c.broken.result.reply (g.H.Host.state c.args.host.now) (g.H.Host.state c.args.host.now) (no_fault_here (g.H.Host.state c.args.host.now)) c.broken.ensures.reply

@@ -69,7 +69,7 @@ loop-front-preserved g c =
           (subst (λ (v : World). IsLink (v front) → ⊥) inv.reads.world (no_link _ (ap is_link_kind (sym found) ∙ sym c.is_link.ensures ∙ c.if-is_link.false))));
       reads = reads_then _ _ _ inv.reads c.kind_at.ensures.looks.reads;
       silent = silent_then _ _ _ inv.silent c.kind_at.ensures.looks.silent;
-      counts = c.in_ok-kind.ensures.looks.counts ∙ inv.counts;
+      counts = search rules;
     }
 
 pub returns : goal.returns

@@ -41,7 +41,7 @@ returns-clause-looks g c = record {
       let sight : c.in_ok-sight.sight ≡ sight_of w s = c.in_ok-sight.ensures.looks.found h ∙ ap (λ (v : World). sight_of v s) c.look_above.ensures.looks.reads.world in
       let way : in_way_by s s.had c.in_ok-sight.sight ≡ in_way_at w s = λ i. in_way_by s (seen i) (sight i) in
       let clash : clash_by o twice s c.in_ok-sight.sight.place ≡ clash_at o twice w s = ap (λ (x : Sight). clash_by o twice s x.place) sight in
-      judged_by o made twice w s c.in_ok-above.above _ _ c.in_ok-judge.field-0 c.in_ok-judge.ensures above way clash;
+      judged_by o made twice w s c.in_ok-above.above _ _ c.in_ok-judge.field-0 c.in_ok-judge.ensures.first above way clash;
   reads = reads_then _ _ _ c.look_above.ensures.looks.reads c.look_around.ensures.looks.reads;
   silent = search rules;
   counts = search rules;
@@ -49,4 +49,4 @@ returns-clause-looks g c = record {
 
 pub returns-clause-apart : goal.returns-clause-apart
 returns-clause-apart g c =
-    once_told c.args.owning.now (contains_text c.args.index.now.twice) c.args.shipped.now c.in_ok-sight.sight.place c.in_ok-above.above _ _ c.in_ok-judge.field-0 c.in_ok-judge.ensures
+    once_told c.args.owning.now (contains_text c.args.index.now.twice) c.args.shipped.now c.in_ok-sight.sight.place c.in_ok-above.above _ _ c.in_ok-judge.field-0 c.in_ok-judge.ensures.first

@@ -1,4 +1,4 @@
-use Rattle.std.proofs.Common.{◌<◌, length, take, sym, subst, ◌∙◌, arith}
+use Rattle.std.proofs.Common.{rules, ◌<◌, length, take, sym, subst, ◌∙◌, arith}
 use Rattle.std.proofs.Math.Seq.{map-set_same}
 use Rattle.std.proofs.lemmas.List.{take_more_set}
 use Rattle.host_core.specs.World.{World}
@@ -32,5 +32,5 @@ loop-work-preserved g c =
           subst (Each (IsSeen old.world)) (sym (take_more_set works i work within)) (each_more (IsSeen old.world) (take i works) work (inv.seen (c.look_at_target.ensures.silent.honest h)) seen);
       reads = reads_then _ _ _ inv.reads c.look_at_target.ensures.reads;
       silent = silent_then _ _ _ inv.silent c.look_at_target.ensures.silent;
-      counts = c.in_ok-look_at_target.ensures.counts ∙ inv.counts;
+      counts = search rules;
     }

@@ -24,7 +24,7 @@ returns-in_err-info-clause-fault g c = λ h.
 
 pub returns-in_err-listing-clause-fault : goal.returns-in_err-listing-clause-fault
 returns-in_err-listing-clause-fault g c = λ h.
-    host_told (IsNameFault (g.H.Host.state c.args.host.now).world) _ c.from_residual-in_err-listing.result c.from_residual-in_err-listing.ensures.1 tt tt
+    host_told (IsNameFault (g.H.Host.state c.args.host.now).world) _ c.from_residual-in_err-listing.result c.from_residual-in_err-listing.ensures.1 tt tt tt
 
 pub returns-clause-entries : goal.returns-clause-entries
 returns-clause-entries g c = λ h.

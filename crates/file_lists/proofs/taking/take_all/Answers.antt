@@ -18,7 +18,7 @@ loop-name-init g c =
     let s = g.H.Host.state c.args.host.now in
     record {
       silent = search rules;
-      counts = refl;
+      counts = search rules;
       since = since_start_if (IsTaking c.args.diversions.now.entries c.args.places.now c.args.from.now c.args.table.now s.world) s (λ h. taking_start c.args.diversions.now.entries c.args.places.now c.args.from.now c.args.table.now s.world (c.requires.ready h));
       taken = λ h name has. absurd (omega (arith, has.1));
       table = refl;
@@ -54,7 +54,7 @@ loop-name-preserved g c =
     let has : Contains from name = (i, c.loop-name-test.true, sym c.name-item.is) in
     record {
       silent = silent_then _ _ _ inv.silent c.take_paths.ensures.silent;
-      counts = c.in_ok-take_paths.ensures.counts ∙ inv.counts;
+      counts = search rules;
       since = since_more entries places from had c.loop-name.table (g.H.Host.state c.args.host.now) mid new name has (inv.lefts name) inv.since c.take_paths.ensures.any_moment;
       taken = λ h.
           (let replaced : IsReplaced (list_path name) (left_file entries places had name) mid.world new.world = subst (λ (ps : List Path). IsReplaced (list_path name) (list_file ps) mid.world new.world) (inv.lefts name) (c.in_ok-take_paths.ensures.replaced h) in

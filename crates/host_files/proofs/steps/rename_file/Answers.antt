@@ -1,7 +1,8 @@
-use Rattle.std.proofs.Common.{◌∷◌, [], ap, ◌∙◌, inl, refl, rules, ◌≢◌}
+use Rattle.std.proofs.Common.{◌∷◌, [], ap, ◌∙◌, inl, refl, rules, ◌≢◌, IfErr}
 use Rattle.std.specs.Option.{IsSome}
+use Rattle.host_files.specs.Faults.{IsUndeclined}
 use Rattle.host_files.specs.SystemCalls.{changes_in}
-use Rattle.host_files.specs.Shown.{HasRenamed, IsRenaming}
+use Rattle.host_files.specs.Shown.{HasRenamed, IsAsked, IsRenaming}
 use Rattle.host_files.proofs.Answered.{not_begun, former_removed}
 use Rattle.host_files.proofs.RememberedLaws.{looked_at}
 use Rattle.host_files.specs.SystemCalls.{look_call}
@@ -9,10 +10,14 @@ use Rattle.host_files.specs.declared.trace.SystemCall.TheVariants.{Rename, Unlin
 use Rattle.host_files.proofs.steps.rename_file.Goals as goal
 
 pub returns-in_err-moved-clause-step : goal.returns-in_err-moved-clause-step
-returns-in_err-moved-clause-step c = not_begun (HasRenamed c.args.from.now c.args.to.now) (IsRenaming c.args.from.now c.args.to.now) (Rename c.args.from.now c.args.to.now ∷ []) c.look_at_loose.new.system.trace.calls c.from_residual.result c.from_residual.ensures.0 (inl refl) (c.in_err-moved.ensures.err ∙ ap changes_in c.requires.begun)
+returns-in_err-moved-clause-step c =
+    let undeclined : IfErr c.from_residual.result IsUndeclined = search rules in
+    not_begun (HasRenamed c.args.from.now c.args.to.now) (IsRenaming c.args.from.now c.args.to.now) (IsAsked (IsRenaming c.args.from.now c.args.to.now)) (Rename c.args.from.now c.args.to.now ∷ []) c.look_at_loose.new.system.trace.calls c.from_residual.result c.from_residual.ensures.0 undeclined (inl refl) (c.in_err-moved.ensures.err ∙ ap changes_in c.requires.begun)
 
 pub returns-in_err-over-clause-step : goal.returns-in_err-over-clause-step
-returns-in_err-over-clause-step c = not_begun (HasRenamed c.args.from.now c.args.to.now) (IsRenaming c.args.from.now c.args.to.now) (Rename c.args.from.now c.args.to.now ∷ []) c.look.new.self.trace.calls c.from_residual-in_err-over.result c.from_residual-in_err-over.ensures.0 (inl refl) (ap changes_in c.in_err-over.ensures.err ∙ ap changes_in c.in_ok-moved.ensures.ok ∙ ap changes_in c.requires.begun)
+returns-in_err-over-clause-step c =
+    let undeclined : IfErr c.from_residual-in_err-over.result IsUndeclined = search rules in
+    not_begun (HasRenamed c.args.from.now c.args.to.now) (IsRenaming c.args.from.now c.args.to.now) (IsAsked (IsRenaming c.args.from.now c.args.to.now)) (Rename c.args.from.now c.args.to.now ∷ []) c.look.new.self.trace.calls c.from_residual-in_err-over.result c.from_residual-in_err-over.ensures.0 undeclined (inl refl) (ap changes_in c.in_err-over.ensures.err ∙ ap changes_in c.in_ok-moved.ensures.ok ∙ ap changes_in c.requires.begun)
 
 pub returns-then-is_same_file-clause-step : goal.returns-then-is_same_file-clause-step
 returns-then-is_same_file-clause-step c =

@@ -50,5 +50,5 @@ loop-entry-preserved g c =
           (before.rows (c.other_package.ensures.looks.silent.honest h)));
       reads = reads_then _ _ _ before.reads c.other_package.ensures.looks.reads;
       silent = silent_then _ _ _ before.silent c.other_package.ensures.looks.silent;
-      counts = c.in_ok-other_package.ensures.looks.counts ∙ before.counts;
+      counts = search rules;
     }

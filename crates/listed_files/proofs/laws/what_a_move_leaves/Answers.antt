@@ -1,4 +1,4 @@
-use Rattle.listed_files.proofs.Areas.{listed_keeps, listing_keeps, released_keeps, releasing_keeps, renewed_keeps, renewing_keeps, unlisted_keeps, unlisting_keeps}
+use Rattle.listed_files.proofs.Areas.{listed_keeps, listing_keeps, released_keeps, releasing_keeps, renewed_keeps, renewing_keeps, turned_back_keeps, turning_back_keeps, unlisted_keeps, unlisting_keeps}
 use Rattle.listed_files.proofs.laws.what_a_move_leaves.Goals as goal
 
 pub returns-clause-listed : goal.returns-clause-listed
@@ -6,6 +6,12 @@ returns-clause-listed c = λ list node works old new has. listed_keeps list node
 
 pub returns-clause-listing : goal.returns-clause-listing
 returns-clause-listing c = λ list node works old now is. listing_keeps list node works old now is
+
+pub returns-clause-turned_back : goal.returns-clause-turned_back
+returns-clause-turned_back c = λ list union listed works old new has. turned_back_keeps list union listed works old new has
+
+pub returns-clause-turning_back : goal.returns-clause-turning_back
+returns-clause-turning_back c = λ list union listed works old now is. turning_back_keeps list union listed works old now is
 
 pub returns-clause-unlisted : goal.returns-clause-unlisted
 returns-clause-unlisted c = λ list node works old new can has. unlisted_keeps list node works old new can has

@@ -29,14 +29,14 @@ returns-in-Flat-clause-any_moment g c = moments_clearing _ _ _ _ c.requires.plac
 
 pub returns-in-BadName-clause-opens : goal.returns-in-BadName-clause-opens
 returns-in-BadName-clause-opens g c = λ h.
-    leftovers_bad _ _ _ _ c.requires.place c.damaged.ensures c.inspect_flat.ensures.looks.reads.world (subst (HasFlatness _ _) c.in-BadName.is (c.in_ok-names.ensures.found h))
+    leftovers_bad _ _ _ _ c.requires.place c.damaged.ensures c.inspect_flat.ensures.looks.reads.world (subst (HasFlatness _ _) c.in-BadName.is (c.in_ok-names.ensures.looks.found h))
 
 pub returns-in-BadName-clause-any_moment : goal.returns-in-BadName-clause-any_moment
 returns-in-BadName-clause-any_moment g c = moments_read _ _ c.inspect_flat.ensures.looks.reads
 
 pub returns-in-Holds-clause-opens : goal.returns-in-Holds-clause-opens
 returns-in-Holds-clause-opens g c = λ h.
-    let held = subst (HasFlatness _ _) c.in-Holds.is (c.in_ok-names.ensures.found h) in
+    let held = subst (HasFlatness _ _) c.in-Holds.is (c.in_ok-names.ensures.looks.found h) in
     leftovers_held _ _ held.1.0 _ _ _ c.requires.place c.damaged-in-Holds.ensures c.inspect_flat.ensures.looks.reads.world held.0 held.1.1 held.1.2
 
 pub returns-in-Holds-clause-any_moment : goal.returns-in-Holds-clause-any_moment

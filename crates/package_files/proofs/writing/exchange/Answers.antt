@@ -1,4 +1,4 @@
-use Rattle.std.proofs.Common.{[], ◌∷◌, sym, ap, ◌∙◌}
+use Rattle.std.proofs.Common.{rules, ◌≡◌, [], ◌∷◌, sym, ap, ◌∙◌}
 use Rattle.host_core.specs.World.{kind_of, is_directory}
 use Rattle.host_core.proofs.Moments.{since_then, since_weaker, since_weaker_if, since_now}
 use Rattle.administration.specs.Files.{KeepsBeside}
@@ -7,6 +7,9 @@ use Rattle.package_files.proofs.WorkNames.{home_of, target_name, home_stays}
 use Rattle.package_files.proofs.Written.{loose_at, no_directory, written_amid}
 use Rattle.package_files.proofs.OnePath.{fresh_absent, backup_absent, aside_target, aside_backup, aside_rest, saved_target, saved_fresh, saved_rest, amid_fresh, amid_saving, exchanged}
 use Rattle.package_files.proofs.WriteMoments.{since_move, moved_by}
+use Rattle.host_core.specs.World.{Move}
+use Rattle.package_files.specs.Steps.{HasBegun}
+use Rattle.package_files.proofs.Tried.{begun_made, begun_saved, on_declined, declined_same}
 use Rattle.package_files.proofs.writing.exchange.Goals as goal
 
 pub make_aside-requires-clause-absent : goal.make_aside-requires-clause-absent
@@ -112,3 +115,28 @@ returns-clause-any_moment g c =
     let h0 = c.make_aside.ensures.silent.honest h1 in
     written_amid (x ∷ []) old.world _ (exchanged x old.world c.requires.named c.requires.loose (c.requires.ready h0) (c.requires.over h0) mid.world (c.in_ok-make_aside.ensures.made h1) new.world (c.in_ok-save_old.ensures.saved h2)))
     c.rename.ensures.does)
+
+pub returns-clause-tried : goal.returns-clause-tried
+returns-clause-tried g c = λ h.
+    let h2 = c.rename.ensures.silent.honest h in
+    let h1 = c.save_old.ensures.silent.honest h2 in
+    let h0 = c.make_aside.ensures.silent.honest h1 in
+    let old = (g.H.Host.state c.args.host.now).world in
+    let mid = (g.H.Host.state c.make_aside.new.host).world in
+    let end = g.H.Host.state c.save_old.new.host in
+    let new = g.H.Host.state c.rename.new.self in
+    let x = c.args.work.now in
+    on_declined c.rename.result (new.world ≡ end.world) (HasBegun x old new.world)
+    (begun_saved x old c.requires.named c.requires.loose (c.requires.ready h0) (c.requires.over h0) mid end.world new.world (c.in_ok-make_aside.ensures.made h1) (c.in_ok-save_old.ensures.saved h2))
+    (declined_same c.rename.result (Move x.fresh x.target) end new h c.rename.ensures.does)
+
+pub returns-in_err-save_old-clause-tried : goal.returns-in_err-save_old-clause-tried
+returns-in_err-save_old-clause-tried g c = λ h.
+    let h1 = c.save_old.ensures.silent.honest h in
+    let h0 = c.make_aside.ensures.silent.honest h1 in
+    let old = (g.H.Host.state c.args.host.now).world in
+    let mid = (g.H.Host.state c.make_aside.new.host).world in
+    let new = (g.H.Host.state c.save_old.new.host).world in
+    let x = c.args.work.now in
+    on_declined c.from_residual-in_err-save_old.result (new ≡ mid) (HasBegun x old new)
+    (begun_made x old c.requires.named c.requires.loose (c.requires.ready h0) (c.requires.over h0) mid new (c.in_ok-make_aside.ensures.made h1)) (search rules)

@@ -1,10 +1,13 @@
-use Rattle.std.proofs.Common.{[], ◌∷◌, sym, ap, subst, ◌∙◌}
+use Rattle.std.proofs.Common.{◌≡◌, [], ◌∷◌, inr, sym, ap, subst, ◌∙◌}
 use Rattle.host_core.proofs.Losses.{proper_synced}
 use Rattle.host_core.proofs.Moments.{since_then}
 use Rattle.package_files.specs.Files.{Written, IsAmid}
 use Rattle.package_files.proofs.WorkNames.{target_proper, home_of, backup_name, target_name, home_stays}
 use Rattle.package_files.proofs.OnePath.{IsVacant, amid_same, over_wrote, over_vacant, over_between, amid_made, made}
 use Rattle.package_files.proofs.WriteMoments.{since_move, since_make_dir, made_by}
+use Rattle.host_core.specs.World.{MakeDir}
+use Rattle.package_files.specs.Steps.{HasTried}
+use Rattle.package_files.proofs.Tried.{room_made, on_declined, declined_same}
 use Rattle.package_files.proofs.writing.make_over.Goals as goal
 
 pub rename-requires-clause-synced : goal.rename-requires-clause-synced
@@ -65,3 +68,14 @@ returns-clause-any_moment g c =
     amid_made x old.world c.requires.named c.args.access c.requires.node ready (over_wrote x old.world c.requires.named c.args.access c.requires.node ready over) mid.world
     (subst (IsVacant x old.world) (sym c.in_ok-rename.ensures.does.world) (over_vacant x old.world c.requires.named c.args.access c.requires.node ready over)) m)
     c.make_dir.ensures.does)
+
+pub returns-clause-tried : goal.returns-clause-tried
+returns-clause-tried g c = λ h.
+    let h0 = c.rename.ensures.silent.honest (c.make_dir.ensures.silent.honest h) in
+    let old = g.H.Host.state c.args.host.now in
+    let mid = g.H.Host.state c.rename.new.self in
+    let new = g.H.Host.state c.make_dir.new.self in
+    let x = c.args.work.now in
+    on_declined c.make_dir.result (new.world ≡ mid.world) (HasTried x old.world new.world)
+    (λ same. inr (room_made x old.world new.world c.requires.named c.args.access c.requires.node (c.requires.ready h0) (sym (c.requires.over h0)) (same ∙ c.in_ok-rename.ensures.does.world)))
+    (declined_same c.make_dir.result (MakeDir x.target c.args.access) mid new h c.make_dir.ensures.does)

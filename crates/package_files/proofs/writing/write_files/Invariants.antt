@@ -1,12 +1,15 @@
-use Rattle.std.proofs.Common.{◌≡◌, take, IsTrue}
+use Rattle.std.proofs.Common.{◌-◌, take, length, IsTrue}
 use Rattle.host_core.specs.Host.{AtEachMoment, Silent, NoFault}
 use Rattle.package_files.specs.Files.{Written, IsAmid}
 use Rattle.package_files.proofs.writing.write_files.Given as goal
 
-abbrev pub invariant-loop-work : goal.invariant-loop-work
-invariant-loop-work g l = record {
+abbrev pub invariant-loop-index : goal.invariant-loop-index
+invariant-loop-index g l = record {
   silent : Silent (g.H.Host.state l.fn.host) (g.H.Host.state l.host);
   counts : NoFault (g.H.Host.state l.fn.host) (g.H.Host.state l.host);
-  written : IsTrue (g.H.Host.state l.host).honest → Written (take l.work-index l.works) (g.H.Host.state l.fn.host).world (g.H.Host.state l.host).world;
+  written : IsTrue (g.H.Host.state l.host).honest → Written (take l.index l.works) (g.H.Host.state l.fn.host).world (g.H.Host.state l.host).world;
   any_moment : AtEachMoment (λ old now. IsAmid l.works old old now) (g.H.Host.state l.fn.host) (g.H.Host.state l.host);
 }
+
+abbrev pub decreases-loop-index : goal.decreases-loop-index
+decreases-loop-index g l = length l.works - l.index

@@ -11,7 +11,7 @@ pub returns-in-Some-clause-fault : goal.returns-in-Some-clause-fault
 returns-in-Some-clause-fault g c = λ h.
     let w = (g.H.Host.state c.args.host.now).world in
     let mid = c.first_astray.ensures.looks.silent.honest h in
-    let told : IsFirstAstray w c.as_slice.result.now c.in-Some.name = subst (Astray w c.as_slice.result.now) c.in-Some.is (c.in_ok-name.ensures.found h) in
+    let told : IsFirstAstray w c.as_slice.result.now c.in-Some.name = subst (Astray w c.as_slice.result.now) c.in-Some.is (c.in_ok-name.ensures.looks.found h) in
     inl (c.requires.control mid, (c.requires.good mid).0, subst (λ (l : List Entry). IsFirstAstray w l c.in-Some.name) (c.as_slice.ensures.value ∙ (c.requires.lines mid).entries) told)
 
 pub returns-in-Some-2-clause-fault : goal.returns-in-Some-2-clause-fault
@@ -20,7 +20,7 @@ returns-in-Some-2-clause-fault g c = λ h.
     let mid = c.first_astray.ensures.looks.silent.honest h in
     let good = c.requires.good mid in
     let lines = c.requires.lines mid in
-    let none : HasNoEntry (IsAstray w) c.as_slice.result.now = subst (Astray w c.as_slice.result.now) c.in_default.is (c.in_ok-name.ensures.found h) in
+    let none : HasNoEntry (IsAstray w) c.as_slice.result.now = subst (Astray w c.as_slice.result.now) c.in_default.is (c.in_ok-name.ensures.looks.found h) in
     let both : IsFirstPath (IsOfBoth c.as_slice-2.result.now c.args.paths.now) c.in-Some-2.path = subst (Shared c.as_slice-2.result.now c.args.paths.now) c.in-Some-2.is c.in_ok-path.ensures in
     let first = subst (λ (l : List Path). IsFirstPath (IsOfBoth l c.args.paths.now) c.in-Some-2.path) c.as_slice-2.ensures.value both in
     inl (
@@ -36,7 +36,7 @@ returns-in-Some-first_odd-clause-fault g c = λ h.
     let mid = c.first_astray.ensures.looks.silent.honest h in
     let good = c.requires.good mid in
     let lines = c.requires.lines mid in
-    let none : HasNoEntry (IsAstray w) c.as_slice.result.now = subst (Astray w c.as_slice.result.now) c.in_default.is (c.in_ok-name.ensures.found h) in
+    let none : HasNoEntry (IsAstray w) c.as_slice.result.now = subst (Astray w c.as_slice.result.now) c.in_default.is (c.in_ok-name.ensures.looks.found h) in
     let apart : HasNoPath (IsOfBoth c.as_slice-2.result.now c.args.paths.now) = subst (Shared c.as_slice-2.result.now c.args.paths.now) c.in_default-2.is c.in_ok-path.ensures in
     let none_of_both : HasNoPath (IsOfBoth c.args.lines.now.flagged.items c.args.paths.now) = subst (λ (l : List Path). HasNoPath (IsOfBoth l c.args.paths.now)) c.as_slice-2.ensures.value apart in
     inl (
@@ -53,7 +53,7 @@ returns-in-None-clause-good g c = λ h.
     let mid = c.first_astray.ensures.looks.silent.honest h in
     let good = c.requires.good mid in
     let lines = c.requires.lines mid in
-    let none : HasNoEntry (IsAstray w) c.as_slice.result.now = subst (Astray w c.as_slice.result.now) c.in_default.is (c.in_ok-name.ensures.found h) in
+    let none : HasNoEntry (IsAstray w) c.as_slice.result.now = subst (Astray w c.as_slice.result.now) c.in_default.is (c.in_ok-name.ensures.looks.found h) in
     let apart : HasNoPath (IsOfBoth c.as_slice-2.result.now c.args.paths.now) = subst (Shared c.as_slice-2.result.now c.args.paths.now) c.in_default-2.is c.in_ok-path.ensures in
     let none_of_both : HasNoPath (IsOfBoth c.args.lines.now.flagged.items c.args.paths.now) = subst (λ (l : List Path). HasNoPath (IsOfBoth l c.args.paths.now)) c.as_slice-2.ensures.value apart in
     record {

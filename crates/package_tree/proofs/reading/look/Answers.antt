@@ -50,5 +50,5 @@ returns-clause-found g c = λ h.
       postrm = there _ (c.in_ok-look_at-3.ensures.found honest-3) same-2;
       preinst = there _ (c.in_ok-look_at-4.ensures.found honest-4) same-3;
       prerm = there _ (c.in_ok-look_at-5.ensures.found honest-5) same-4;
-      ships = subst (λ w. IsTrue c.in_ok-contents.field-0 ↔ Ships w) same-5 (c.in_ok-contents.ensures.found h);
+      ships = subst (λ w. IsTrue c.in_ok-contents.field-0 ↔ Ships w) same-5 (c.in_ok-contents.ensures.looks.found h);
     }

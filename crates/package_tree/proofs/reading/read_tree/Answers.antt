@@ -11,6 +11,7 @@ use Rattle.package_tree.specs.Tree.{IsReadingFault}
 use Rattle.package_tree.specs.declared.fault.TreeFault.TheVariants.{NoMemory}
 use Rattle.package_tree.specs.declared.package.Package.{Package}
 use Rattle.package_tree.proofs.Passing.{passed_fault, passed_counts}
+use Rattle.host_core.proofs.Counted.{no_fault_then}
 use Rattle.package_tree.proofs.reading.read_tree.Goals as goal
 
 -- one look after another
@@ -55,7 +56,7 @@ returns-in_err-read_found-clause-fault g c = λ h.
 
 pub returns-in_err-read_found-clause-counts : goal.returns-in_err-read_found-clause-counts
 returns-in_err-read_found-clause-counts g c =
-    passed_counts (Unit {0}) Package (g.H.Host.state c.args.host.now) (g.H.Host.state c.read_contents.new.host) (g.H.Host.state c.read_found.new.host) c.in_err-read_found.field-0.0 c.from_residual-in_err-read_found.result c.from_residual-in_err-read_found.ensures.1 (c.in_ok-read_contents.ensures.counts ∙ c.in_ok-control.ensures.counts) c.in_err-read_found.ensures.counts
+    passed_counts (Unit {0}) Package (g.H.Host.state c.args.host.now) (g.H.Host.state c.read_contents.new.host) (g.H.Host.state c.read_found.new.host) c.in_err-read_found.field-0.0 c.from_residual-in_err-read_found.result c.from_residual-in_err-read_found.ensures.1 (no_fault_then _ _ _ c.in_ok-control.ensures.counts c.in_ok-read_contents.ensures.counts) c.in_err-read_found.ensures.counts
 
 pub returns-clause-read : goal.returns-clause-read
 returns-clause-read g c = λ h.

@@ -104,7 +104,7 @@ returns-in-Ok-clause-any_moment g c =
     let found = sym c.get.ensures ∙ ap option_copied c.unwrap-entry.ensures in
     let plan : IsPlanOf (at c.index.new.self) old.world mid.honest c.in-Ok.stages.items = record { entry = c.unwrap-entry.result.now; found = found; plan = c.in-Ok.ensures.planned } in
     subst (λ (f : Filed). AtEachMomentOf (IsAmidUnit (at f)) old new) c.index.ensures
-    (unit_moments old mid c.in-Ok.ensures.reads c.in-Ok.ensures.silent (at c.index.new.self) c.in-Ok.stages.items plan new c.run_stages.ensures.any_moment.honest c.in-Ok.ensures.counts c.run_stages.ensures.any_moment)
+    (unit_moments old mid c.in-Ok.ensures.reads c.in-Ok.ensures.silent (at c.index.new.self) c.in-Ok.stages.items plan new c.run_stages.ensures.any_moment.honest c.in-Ok.ensures.counts.faults c.run_stages.ensures.any_moment)
 
 pub returns-in-Err-clause-any_moment : goal.returns-in-Err-clause-any_moment
 returns-in-Err-clause-any_moment g c =

@@ -1,10 +1,9 @@
-use Rattle.std.proofs.Common.{◌<◌, [], ℕ, List, length, ap, refl, subst, sym, true, false, ◌∙◌}
+use Rattle.std.proofs.Common.{◌<◌, ℕ, List, length, ap, subst, sym, false, ◌∙◌}
 use Rattle.std.proofs.lemmas.Bool.{true≢false}
 use Rattle.unit_reports.specs.Held.{held_by}
-use Rattle.undo_rows.proofs.Makes.{tells_none}
 use Rattle.removal_run.specs.Names.{without}
 use Rattle.removal_run.specs.Next.{IsNextIn}
-use Rattle.removal_run.specs.Turns.{AreAccepted, IsTurn}
+use Rattle.removal_run.specs.Turns.{AreAccepted}
 use Rattle.removal_run.specs.Units.{AreOthersKept}
 use Rattle.removal_run.proofs.Accepting.{accepted_next, struck_fewer}
 use Rattle.removal_run.proofs.Calling.{removing_tells}

@@ -4,8 +4,9 @@ use Rattle.std.specs.Prelude.{Option}
 use Rattle.unit_reports.specs.declared.report.Reply.TheVariants.{Broken}
 use Rattle.unit_reports.specs.Held.{held_by}
 use Rattle.removal_run.proofs.Removals.{called_as, is_removal}
-use Rattle.removal_run.proofs.Replies.{answer_not_closed, counts_answered, counts_broken, fault_not_closed}
+use Rattle.removal_run.proofs.Replies.{answer_not_closed, counts_answered}
 use Rattle.removal_run.proofs.units.remove_named.Goals as goal
+use Rattle.unit_reports.proofs.Counting.{counts_broken, fault_not_closed}
 
 pub returns-in-Ok-clause-unit : goal.returns-in-Ok-clause-unit
 returns-in-Ok-clause-unit g c =

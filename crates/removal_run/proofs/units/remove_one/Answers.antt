@@ -2,8 +2,9 @@ use Rattle.std.proofs.Common.{◌∙◌}
 use Rattle.unit_reports.specs.Held.{held_by}
 use Rattle.removal_run.proofs.Calling.{removing_tells}
 use Rattle.removal_run.proofs.Removals.{called_none}
-use Rattle.removal_run.proofs.Replies.{broken_by, counts_whole, is_broken_off, is_whole, not_broken}
+use Rattle.removal_run.proofs.Replies.{broken_by, is_broken_off, is_whole, not_broken}
 use Rattle.removal_run.proofs.units.remove_one.Goals as goal
+use Rattle.unit_reports.proofs.Counting.{counts_whole}
 
 pub returns-clause-ok : goal.returns-clause-ok
 returns-clause-ok g c =

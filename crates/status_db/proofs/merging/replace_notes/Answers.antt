@@ -28,8 +28,8 @@ returns-in_err-replace-clause-any_moment g c =
     let first = subst (λ p. AtEachMoment (IsReplacing p c.args.status.now) old (g.H.Host.state c.replace.new.host)) c.in_ok-path.ensures c.replace.ensures.any_moment in
     since_weaker _ _ _ _ (λ so_far w is. replacing_file c.args.status.now old.world w is) first
 
-pub take_notes-requires-clause-files : goal.take_notes-requires-clause-files
-take_notes-requires-clause-files g c = λ h n lt.
+pub take_merged-requires-clause-files : goal.take_merged-requires-clause-files
+take_merged-requires-clause-files g c = λ h n lt.
     let old = g.H.Host.state c.args.host.now in
     let there = subst (λ p. IsReplaced p c.args.status.now old.world (g.H.Host.state c.replace.new.host).world) c.in_ok-path.ensures (c.in_ok-replace.ensures.replaced h) in
     files_after c.args.status.now old.world (g.H.Host.state c.replace.new.host).world there n (c.requires.files (c.replace.ensures.silent.honest h) n lt)
@@ -37,8 +37,8 @@ take_notes-requires-clause-files g c = λ h n lt.
 pub returns-clause-merged : goal.returns-clause-merged
 returns-clause-merged g c = λ h.
     let old = g.H.Host.state c.args.host.now in
-    let there = subst (λ p. IsReplaced p c.args.status.now old.world (g.H.Host.state c.replace.new.host).world) c.in_ok-path.ensures (c.in_ok-replace.ensures.replaced (c.take_notes.ensures.silent.honest h)) in
-    replaced_by c.take_notes.result c.args.status.now c.args.count old.world (g.H.Host.state c.replace.new.host).world (g.H.Host.state c.take_notes.new.host).world there (c.take_notes.ensures.taken h)
+    let there = subst (λ p. IsReplaced p c.args.status.now old.world (g.H.Host.state c.replace.new.host).world) c.in_ok-path.ensures (c.in_ok-replace.ensures.replaced (c.take_merged.ensures.silent.honest h)) in
+    replaced_by c.take_merged.result c.args.status.now c.args.count old.world (g.H.Host.state c.replace.new.host).world (g.H.Host.state c.take_merged.new.host).world there (c.take_merged.ensures.taken h)
 
 pub returns-clause-any_moment : goal.returns-clause-any_moment
 returns-clause-any_moment g c =
@@ -47,7 +47,7 @@ returns-clause-any_moment g c =
     let first = subst (λ p. AtEachMoment (IsReplacing p c.args.status.now) old mid) c.in_ok-path.ensures c.replace.ensures.any_moment in
     since_then _ _ _ _ (since_weaker _ (λ so_far. IsReplacingNotes c.args.status.now old.world) _ _ (λ so_far w is. replacing_file c.args.status.now old.world w is) first)
     (since_weaker_if (λ so_far. IsTakingNotes mid.world) (λ so_far. IsReplacingNotes c.args.status.now old.world) _ _ (λ h so_far w is. replacing_notes c.args.status.now old.world mid.world w
-    (subst (λ p. IsReplaced p c.args.status.now old.world mid.world) c.in_ok-path.ensures (c.in_ok-replace.ensures.replaced (c.take_notes.ensures.silent.honest h))) is) c.take_notes.ensures.any_moment)
+    (subst (λ p. IsReplaced p c.args.status.now old.world mid.world) c.in_ok-path.ensures (c.in_ok-replace.ensures.replaced (c.take_merged.ensures.silent.honest h))) is) c.take_merged.ensures.any_moment)
 
 pub returns-in_err-path-clause-any_moment : goal.returns-in_err-path-clause-any_moment
 returns-in_err-path-clause-any_moment g c = replacing_notes_not c.args.status.now _ c.requires.unblocked

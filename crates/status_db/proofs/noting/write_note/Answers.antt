@@ -1,16 +1,36 @@
-use Rattle.std.proofs.Common.{sym, subst}
-use Rattle.host_core.specs.World.{HasParent}
-use Rattle.administration.specs.Files.{NoDirectory}
-use Rattle.administration.specs.Places.{temporary}
-use Rattle.status_db.specs.Notes.{below_limit}
-use Rattle.status_db.proofs.NotedWorlds.{note_parent, replacing_not}
+use Rattle.administration.specs.Files.{NoDirectory, IsReplaced, IsReplacing}
+use Rattle.status_db.specs.Held.{IsUnblocked}
+use Rattle.status_db.specs.Notes.{below_limit, note_path}
+use Rattle.status_db.proofs.Barriered.{disk_behind, left_between, moments_before, moments_behind, needs_behind}
+use Rattle.status_db.proofs.NotedWorlds.{replacing_not}
 use Rattle.status_db.proofs.noting.write_note.Goals as goal
 
-pub returns-in_err-path-clause-any_moment : goal.returns-in_err-path-clause-any_moment
-returns-in_err-path-clause-any_moment g c = replacing_not c.args.number (below_limit c.args.number c.requires.number) c.args.node.now _ c.requires.unblocked
+pub returns-in_err-barrier-clause-any_moment : goal.returns-in_err-barrier-clause-any_moment
+returns-in_err-barrier-clause-any_moment g c =
+    let old = g.H.Host.state c.args.host.now in
+    moments_before _ old old _ (IsReplacing (note_path c.args.number) c.args.node.now) (replacing_not c.args.number (below_limit c.args.number c.requires.number) c.args.node.now _ c.requires.unblocked) c.barrier.ensures.does
 
-pub replace-requires-clause-parent : goal.replace-requires-clause-parent
-replace-requires-clause-parent g c = λ h. subst (HasParent (g.H.Host.state c.args.host.now).world) (sym c.in_ok-path.ensures) (note_parent _ c.args.number (below_limit c.args.number c.requires.number) (c.requires.unblocked h))
+pub replace_note-requires-clause-unblocked : goal.replace_note-requires-clause-unblocked
+replace_note-requires-clause-unblocked g c = needs_behind _ _ _ IsUnblocked c.barrier.ensures.does c.barrier.ensures.silent c.requires.unblocked
 
-pub replace-requires-clause-spare : goal.replace-requires-clause-spare
-replace-requires-clause-spare g c = λ h. subst (λ p. NoDirectory ((g.H.Host.state c.args.host.now).world (temporary p))) (sym c.in_ok-path.ensures) ((c.requires.unblocked h).spares c.args.number (below_limit c.args.number c.requires.number))
+pub replace_note-requires-clause-target : goal.replace_note-requires-clause-target
+replace_note-requires-clause-target g c = needs_behind _ _ _ (λ w. NoDirectory (w (note_path c.args.number))) c.barrier.ensures.does c.barrier.ensures.silent c.requires.target
+
+pub returns-in_err-replace_note-clause-any_moment : goal.returns-in_err-replace_note-clause-any_moment
+returns-in_err-replace_note-clause-any_moment g c =
+    let old = g.H.Host.state c.args.host.now in
+    moments_behind _ old _ _ (IsReplacing (note_path c.args.number) c.args.node.now) (replacing_not c.args.number (below_limit c.args.number c.requires.number) c.args.node.now _ c.requires.unblocked) c.barrier.ensures.does c.replace_note.ensures.any_moment
+
+pub returns-clause-replaced : goal.returns-clause-replaced
+returns-clause-replaced g c =
+    left_between _ _ _ _ _ _ (IsReplaced (note_path c.args.number) c.args.node.now) c.barrier.ensures.does c.replace_note.ensures.silent c.in_ok-replace_note.ensures.replaced c.barrier-2.ensures.does c.barrier-2.ensures.silent
+
+pub returns-clause-any_moment : goal.returns-clause-any_moment
+returns-clause-any_moment g c =
+    let old = g.H.Host.state c.args.host.now in
+    moments_before _ old _ _ (IsReplacing (note_path c.args.number) c.args.node.now)
+    (moments_behind _ old _ _ (IsReplacing (note_path c.args.number) c.args.node.now) (replacing_not c.args.number (below_limit c.args.number c.requires.number) c.args.node.now _ c.requires.unblocked) c.barrier.ensures.does c.replace_note.ensures.any_moment)
+    c.barrier-2.ensures.does
+
+pub returns-clause-on_disk : goal.returns-clause-on_disk
+returns-clause-on_disk g c = disk_behind _ _ _ c.barrier-2.ensures.does

@@ -21,7 +21,7 @@ loop-row-init g c =
       any_moment = at_once (A.stops t) (is_kept (A.kept c.args.around.now)) s (λ h more v only. g.met.A.Around.holds c.args.around.now s (Forward 0) more v c.requires.place h only);
       task = refl;
       reference = refl;
-      counts = refl;
+      counts = search rules;
     }
 
 pub step-requires-clause-place : goal.step-requires-clause-place
@@ -59,7 +59,7 @@ loop-row-preserved-in_default g c =
       any_moment = next_part _ A.stops _ _ inv.task _ _ _ inv.any_moment c.step.ensures.any_moment;
       task = c.step.ensures.task ∙ inv.task;
       reference = c.step.ensures.reference ∙ inv.reference;
-      counts = c.in_ok-fall.ensures.counts ∙ inv.counts;
+      counts = search rules;
     }
 
 pub loop-row-preserved : goal.loop-row-preserved
@@ -86,7 +86,7 @@ loop-row-preserved g c =
       any_moment = next_part _ A.stops _ _ inv.task _ _ _ inv.any_moment c.step.ensures.any_moment;
       task = c.step.ensures.task ∙ inv.task;
       reference = c.step.ensures.reference ∙ inv.reference;
-      counts = c.in_ok-fall.ensures.counts ∙ inv.counts;
+      counts = search rules;
     }
 
 pub returns-in_err-forward-clause-told : goal.returns-in_err-forward-clause-told

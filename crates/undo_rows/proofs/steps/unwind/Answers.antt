@@ -1,4 +1,4 @@
-use Rattle.std.proofs.Common.{◌≡◌, ◌+◌, ◌-◌, List, drop, subst, sym, ◌∙◌, arith}
+use Rattle.std.proofs.Common.{◌≡◌, ◌+◌, ◌-◌, List, drop, subst, sym, ◌∙◌, arith, rules}
 use Rattle.undo_rows.specs.declared.failed.Failed.{Failed}
 use Rattle.undo_rows.specs.Transcripts.{MayUndo, MayUnwind}
 use Rattle.undo_rows.specs.Undoing.{UndoesAll, UndoesAt}
@@ -24,7 +24,7 @@ loop-left-preserved g c =
       any_moment = next_part _ A.stops _ _ inv.task _ _ _ inv.any_moment c.undo.ensures.any_moment;
       task = c.undo.ensures.task ∙ inv.task;
       reference = c.undo.ensures.reference ∙ inv.reference;
-      counts = c.in_ok-undo.ensures.counts ∙ inv.counts;
+      counts = search rules;
     }
 
 pub returns-in_err-undo-clause-told : goal.returns-in_err-undo-clause-told

@@ -9,9 +9,11 @@ use Rattle.unit_reports.specs.declared.report.Unit.{Unit as AUnit}
 use Rattle.unit_runs.specs.Taking.{AddsTurn, GoesOn}
 use Rattle.unit_runs.specs.Turns.{GoesTo, IsAmidNext, IsBrokenNext}
 use Rattle.unit_runs.proofs.Going.{all_turned, goes_once, goes_then, no_turn, one_turn_more, since_more, since_turns_start, stopped}
-use Rattle.unit_runs.proofs.Taken.{counts_from, tells_last}
+use Rattle.unit_reports.proofs.Counting.{counts_from, no_fault_here}
+use Rattle.unit_runs.proofs.Taken.{tells_last}
 use Rattle.unit_runs.proofs.run.run_units.Goals as goal
 use Rattle.host_core.proofs.Barriers.{answered_here}
+use Rattle.host_core.proofs.Counted.{no_fault_then}
 
 pub loop-unit-init : goal.loop-unit-init
 loop-unit-init g c =
@@ -28,7 +30,7 @@ loop-unit-init g c =
       answered = answered_here old;
       told = tells_none old old (calls_of us) (calls_of us) refl refl;
       moments = since_turns_start (g.T.Turns.turn task) start before old (g.T.Turns.amid task) (λ later. GoesTo (g.T.Turns.goes task) later start) GoesTo.here;
-      no_fault = refl;
+      no_fault = no_fault_here old;
       same_task = refl;
       goes = GoesTo.here;
       watched = c.what_is_told_in_turn.ensures.none_added old c.args.watcher.now us;
@@ -62,7 +64,7 @@ loop-unit-preserved g c =
       moments = since_more (g.T.Turns.turn task) start before old (g.T.Turns.amid task) (g.T.Turns.goes task) first us q later mid now new inv.turned inv.moments
           (subst (λ k. g.T.Turns.goes k q later) inv.same_task c.run_one.ensures.goes)
           (subst (λ k. AtEachMomentOf (IsAmidNext (g.T.Turns.amid k) q later mid) now new) inv.same_task c.run_one.ensures.any_moment);
-      no_fault = c.in-Ok-true.ensures.no_fault ∙ inv.no_fault;
+      no_fault = no_fault_then old now new inv.no_fault c.in-Ok-true.ensures.no_fault;
       same_task = c.in-Ok-true.ensures.task ∙ inv.same_task;
       goes = goes_then (g.T.Turns.goes task) start q later inv.goes (goes_once (g.T.Turns.goes task) q later (subst (λ k. g.T.Turns.goes k q later) inv.same_task c.run_one.ensures.goes));
       watched = c.what_is_told_in_turn.ensures.added old now c.args.watcher.now l.watcher c.run_one.new.watcher first us more inv.watched inv.told inv.answered c.run_one.ensures.watched;
@@ -166,7 +168,7 @@ returns-in-Ok-false-clause-no_fault g c =
     let first = c.args.units.now.items in
     let us = l.units.items in
     let more = c.run_one.new.units.items in
-    c.in-Ok-false.ensures.no_fault ∙ inv.no_fault
+    no_fault_then old now new inv.no_fault c.in-Ok-false.ensures.no_fault
 
 pub returns-in-Ok-false-clause-task : goal.returns-in-Ok-false-clause-task
 returns-in-Ok-false-clause-task g c =

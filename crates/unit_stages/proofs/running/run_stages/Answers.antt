@@ -20,7 +20,7 @@ loop-stage-init g c =
       order = c.requires.order;
       is_open = c.requires.open;
       any_moment = run_starts c.args.name.now c.args.diversions.now.entries c.args.stages.items (holding d f) d f a refl c.requires.order;
-      counts = refl;
+      counts = search rules;
     }
 
 pub run_stage-requires-clause-fit : goal.run_stage-requires-clause-fit
@@ -137,7 +137,7 @@ loop-stage-preserved g c =
       order = c.in_ok-call.ensures.order;
       is_open = c.in_ok-call.ensures.open;
       any_moment = run_goes_on name entries c.args.stages.items before c.loop-stage.yielded c.next.new.self.rest.items stage walk mid a b d told more inv.ran inv.any_moment c.run_stage.ensures.any_moment;
-      counts = c.in_ok-call.ensures.counts ∙ inv.counts;
+      counts = search rules;
     }
 
 pub returns-clause-told : goal.returns-clause-told

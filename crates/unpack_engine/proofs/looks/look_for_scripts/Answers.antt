@@ -20,8 +20,8 @@ pub returns : goal.returns
 returns g c = record {
   looks = record {
     found = λ h script.
-        let first = c.in_ok-preinst.ensures.found (c.look_for_two-2.ensures.looks.reads.honest h) in
-        let second = c.in_ok-prerm.ensures.found h in
+        let first = c.in_ok-preinst.ensures.looks.found (c.look_for_two-2.ensures.looks.reads.honest h) in
+        let second = c.in_ok-prerm.ensures.looks.found h in
         all_four c.args.name.now (g.H.Host.state c.args.host.now).world (g.H.Host.state c.look_for_two.new.host).world _ c.look_for_two.ensures.looks.reads.world first.0 first.1 second.0 second.1 script;
     reads = search (rules, reads_then);
     silent = search rules;

@@ -1,5 +1,7 @@
 use Rattle.std.proofs.Common.{length, subst}
 use Rattle.host_core.proofs.Moments.{since_now}
+use Rattle.std.specs.Prelude.{IfSome}
+use Rattle.undo_rows.specs.Faults.{OnlyIfDeclined}
 use Rattle.control_members.specs.LaidOut.{IsLaying}
 use Rattle.unpack_rows.specs.EndStates.{own_name}
 use Rattle.unpack_steps.specs.Task.{task_by}
@@ -7,7 +9,7 @@ use Rattle.unpack_steps.specs.At.{At, holding_by}
 use Rattle.unpack_engine.specs.Units.{HasBegun}
 use Rattle.unpack_engine.proofs.Carrying.{same_end}
 use Rattle.unpack_engine.proofs.Order.{home_there, list_begun, members_begun, records_begun}
-use Rattle.unpack_engine.proofs.Sequel.{if_ok_both, later, since_beginning, since_running}
+use Rattle.unpack_engine.proofs.Sequel.{denied_behind, if_ok_both, if_ok_one, later, since_beginning, since_running}
 use Rattle.unpack_engine.proofs.running.begin_and_run.Goals as goal
 
 pub lay_out-requires-clause-home : goal.lay_out-requires-clause-home
@@ -70,3 +72,11 @@ returns-in-Err-clause-any_moment g c =
     let mid = g.H.Host.state c.lay_out.new.host in
     since_beginning (HasBegun c.args.members.now) IsLaying
     (λ s. task_by s c.args.administration.now c.args.diversions.now.entries c.args.works.now.items rows) old mid c.lay_out.ensures.silent c.lay_out.ensures.any_moment
+
+pub returns-in-Ok-clause-denied : goal.returns-in-Ok-clause-denied
+returns-in-Ok-clause-denied g c =
+    let old = g.H.Host.state c.args.host.now in
+    let mid = g.H.Host.state c.lay_out.new.host in
+    let new = g.H.Host.state c.run_unpack_rows.new.host in
+    if_ok_one c.run_unpack_rows.result (λ u. IfSome u (λ one. OnlyIfDeclined one.fall.fault mid new)) (λ u. IfSome u (λ one. OnlyIfDeclined one.fall.fault old new))
+    (λ u. denied_behind u old mid new c.in-Ok.ensures.counts) c.run_unpack_rows.ensures.denied

@@ -1,6 +1,8 @@
 use Rattle.std.proofs.Common.{◌≡◌, ◌++◌, List, length, sym, ap, subst, ◌∙◌}
+use Rattle.std.specs.Prelude.{IfSome}
 use Rattle.host_core.specs.Host.{AtEachMoment}
 use Rattle.undo_rows.specs.Ended.{IsCauseOf, ended_as}
+use Rattle.undo_rows.specs.Faults.{OnlyIfDeclined}
 use Rattle.status_records.specs.Records.{AreStanding}
 use Rattle.status_db.proofs.Ordered.{order_apart, same_standing}
 use Rattle.package_files.specs.declared.work.Work.{Work}
@@ -12,7 +14,7 @@ use Rattle.unpack_engine.specs.Endings.{changes_from, ended_lists, ended_records
 use Rattle.unpack_engine.specs.Touched.{AreTold, deconfigured}
 use Rattle.unpack_engine.specs.Units.{HasCarriedOut, HasLeft, IsTouched, MayLeave, ground_by}
 use Rattle.unpack_engine.proofs.Carrying.{carried_out}
-use Rattle.unpack_engine.proofs.Sequel.{called_then, if_ok_one}
+use Rattle.unpack_engine.proofs.Sequel.{called_then, denied_then, if_ok_counted, if_ok_one}
 use Rattle.unpack_engine.proofs.UnitMoments.{plan_begins, plan_moments}
 use Rattle.unpack_engine.proofs.Whole.{can_write_still, if_ok_all, if_ok_with, parts_info, parts_kept, parts_kinds, parts_laid, parts_length, parts_loose, parts_rows, parts_sound, parts_stand, parts_touched}
 use Rattle.unpack_engine.proofs.unit.carry_out.Goals as goal
@@ -77,6 +79,15 @@ returns-in-Ok-clause-unit g c =
 
 pub returns-in-Ok-clause-cause : goal.returns-in-Ok-clause-cause
 returns-in-Ok-clause-cause g c = if_ok_one c.finish.result (λ u. u.unwinding ≡ c.in-Ok.unwinding) (λ u. IsCauseOf c.args.plan.calls.items u.unwinding) (λ u same. subst (IsCauseOf c.args.plan.calls.items) (sym same) c.in-Ok.ensures.cause) c.finish.ensures.unwinding
+
+pub returns-in-Ok-clause-denied : goal.returns-in-Ok-clause-denied
+returns-in-Ok-clause-denied g c =
+    let old = g.H.Host.state c.args.host.now in
+    let mid = g.H.Host.state c.begin_and_run.new.host in
+    let new = g.H.Host.state c.finish.new.host in
+    if_ok_counted c.finish.result mid new (λ u. u.unwinding ≡ c.in-Ok.unwinding) (λ u. IfSome u.unwinding (λ one. OnlyIfDeclined one.fall.fault old new))
+    (λ u counts same. denied_then u.unwinding old mid new (subst (λ v. IfSome v (λ one. OnlyIfDeclined one.fall.fault old mid)) (sym same) c.in-Ok.ensures.denied) counts)
+    c.finish.ensures.counts c.finish.ensures.unwinding
 
 pub returns-in-Ok-clause-touched : goal.returns-in-Ok-clause-touched
 returns-in-Ok-clause-touched g c =

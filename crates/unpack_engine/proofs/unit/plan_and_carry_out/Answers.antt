@@ -1,17 +1,18 @@
 use Rattle.std.proofs.Common.{List, refl, subst}
 use Rattle.std.specs.List.{AllByRecursion}
 use Rattle.std.specs.Str.{IsUtf8}
-use Rattle.std.specs.Prelude.{IfOk}
+use Rattle.std.specs.Prelude.{IfOk, IfSome}
 use Rattle.host_core.specs.Host.{AtEachMomentOf}
 use Rattle.host_core.specs.Paths.{Path}
 use Rattle.undo_rows.specs.Ended.{IsCauseOf, ended_as}
+use Rattle.undo_rows.specs.Faults.{OnlyIfDeclined}
 use Rattle.unpack_plan.specs.Planned.{planned}
 use Rattle.unpack_rows.specs.EndStates.{own_name}
 use Rattle.unpack_engine.specs.Units.{HasCarriedOut, HasFailedFor, HasUnpacked, IsTouched, IsUnderWay, given_from, ground_by, ground_of, job_of}
 use Rattle.unpack_engine.proofs.EndLists.{listed_if_ok}
 use Rattle.unpack_engine.proofs.EndOrder.{order_if_ok}
 use Rattle.unpack_engine.proofs.Planning.{called_of, carried_behind, only_looked, planned_for, unit_amid, unpacked_by}
-use Rattle.unpack_engine.proofs.Sequel.{if_ok_one}
+use Rattle.unpack_engine.proofs.Sequel.{denied_behind, if_ok_one}
 use Rattle.unpack_engine.proofs.unit.plan_and_carry_out.Goals as goal
 
 pub carry_out-requires-clause-plan : goal.carry_out-requires-clause-plan
@@ -48,6 +49,14 @@ returns-in-Ok-clause-cause g c =
     let falls = c.carry_out.ensures.any_moment.honest in
     if_ok_one c.carry_out.result (λ u. IsCauseOf plan.rows u.unwinding) (λ u. HasFailedFor G old new u.unwinding)
     (λ u is. record { plan = plan; plan_for = planned_for G places old mid c.plan_unit.ensures.reads c.plan_unit.ensures.silent plan c.in-Ok.ensures.planned new falls; cause = is }) c.carry_out.ensures.cause
+
+pub returns-in-Ok-clause-denied : goal.returns-in-Ok-clause-denied
+returns-in-Ok-clause-denied g c =
+    let old = g.H.Host.state c.args.host.now in
+    let mid = g.H.Host.state c.plan_unit.new.host in
+    let new = g.H.Host.state c.carry_out.new.host in
+    if_ok_one c.carry_out.result (λ u. IfSome u.unwinding (λ one. OnlyIfDeclined one.fall.fault mid new)) (λ u. IfSome u.unwinding (λ one. OnlyIfDeclined one.fall.fault old new))
+    (λ u. denied_behind u.unwinding old mid new c.in-Ok.ensures.counts) c.carry_out.ensures.denied
 
 pub returns-in-Ok-clause-touched : goal.returns-in-Ok-clause-touched
 returns-in-Ok-clause-touched g c =

@@ -2,7 +2,7 @@ use Rattle.std.proofs.Common.{List, sym, subst}
 use Rattle.file_check.proofs.Permuting.{each_permuted, homed_permuted}
 use Rattle.package_files.specs.declared.work.Work.{Work}
 use Rattle.package_files.specs.Files.{Each}
-use Rattle.package_files.specs.Free.{IsFreeIn}
+use Rattle.package_files.specs.Free.{IsFreeIn, IsSeen}
 use Rattle.package_files.specs.Names.{IsHomed, IsNamed}
 use Rattle.unpack_steps.proofs.file_moves.write_ordered.Goals as goal
 
@@ -13,6 +13,11 @@ pub write_listed-requires-clause-free : goal.write_listed-requires-clause-free
 write_listed-requires-clause-free g c = λ h.
     let w = (g.H.Host.state c.args.host.now).world in
     subst (Each (IsFreeIn w)) (sym c.as_slice.ensures.value) (each_permuted (IsFreeIn w) c.args.works.now.items _ c.order_works.ensures.same (c.requires.free h))
+
+pub write_listed-requires-clause-seen : goal.write_listed-requires-clause-seen
+write_listed-requires-clause-seen g c = λ h.
+    let w = (g.H.Host.state c.args.host.now).world in
+    subst (Each (IsSeen w)) (sym c.as_slice.ensures.value) (each_permuted (IsSeen w) c.args.works.now.items _ c.order_works.ensures.same (c.requires.seen h))
 
 pub write_listed-requires-clause-homed : goal.write_listed-requires-clause-homed
 write_listed-requires-clause-homed g c = λ h.

@@ -5,7 +5,7 @@ use Rattle.host_files.proofs.Replayed.{does_by}
 use Rattle.host_files.proofs.files_host.FilesHostHost.barrier.Goals as goal
 
 pub returns-clause-does : goal.returns-clause-does
-returns-clause-does g c = does_by g.D.Disk.model g.D.Disk.sound c.settle-settled.result (Barrier) c.args.self.now.told.log.notes c.settle-settled.new.self.told.log.notes c.settle-settled.ensures.done c.settle-settled.ensures.device c.settle-settled.ensures.memory
+returns-clause-does g c = does_by g.D.Disk.model g.D.Disk.sound c.settle-settled.result (Barrier) c.args.self.now.told.log.notes c.settle-settled.new.self.told.log.notes c.settle-settled.ensures.done c.settle-settled.ensures.device c.settle-settled.ensures.memory c.settle-settled.ensures.declined
 
 pub returns-clause-silent : goal.returns-clause-silent
 returns-clause-silent g c = silent_does c.settle-settled.result (step_of (Barrier)) (replay g.D.Disk.model c.args.self.now.told.log.notes) (replay g.D.Disk.model c.settle-settled.new.self.told.log.notes) (returns-clause-does g c)

@@ -14,7 +14,7 @@ pub returns-in-Ok-clause-counts : goal.returns-in-Ok-clause-counts
 returns-in-Ok-clause-counts g c = counts_runs (is_kept c.args.keep.now) c.args.call.now (Ok c.in-Ok.outcome) (replay g.D.Disk.model c.args.self.now.told.log.notes) (replay g.D.Disk.model c.end.new.self.told.log.notes) (returns-in-Ok-clause-runs g c)
 
 pub returns-in-Err-clause-runs : goal.returns-in-Err-clause-runs
-returns-in-Err-clause-runs g c = broken g.D.Disk.model g.D.Disk.sound c.args.call.now c.args.keep.now c.fail.result c.args.self.now.told.log.notes c.fail.new.self.told.log.notes
+returns-in-Err-clause-runs g c = broken g.D.Disk.model g.D.Disk.sound c.args.call.now c.args.keep.now c.fail.result c.args.self.now.told.log.notes c.fail.new.self.told.log.notes c.fail.ensures.undeclined
     (λ d. c.fail.ensures.device d ∙ ap (λ l. Broke c.args.call.now c.places_of-kept.result.now ∷ l) c.in_ok-reserve.ensures.notes ∙ ap (λ k. Broke c.args.call.now k ∷ c.args.self.now.told.log.notes) c.places_of-kept.ensures) (λ n. c.fail.ensures.memory n ∙ c.in_ok-reserve.ensures.notes)
 
 pub returns-in-Err-clause-counts : goal.returns-in-Err-clause-counts

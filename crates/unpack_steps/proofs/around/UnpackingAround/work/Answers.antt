@@ -23,6 +23,10 @@ pub check_and_write-requires-clause-paths : goal.check_and_write-requires-clause
 check_and_write-requires-clause-paths g c =
     c.requires.place.sound.union
 
+pub check_and_write-requires-clause-listed_paths : goal.check_and_write-requires-clause-listed_paths
+check_and_write-requires-clause-listed_paths g c =
+    c.requires.place.sound.listed
+
 pub check_and_write-requires-clause-ready : goal.check_and_write-requires-clause-ready
 check_and_write-requires-clause-ready g c =
     λ h. (c.requires.place.world h).ready
@@ -59,7 +63,7 @@ returns-clause-place g c =
     let s = g.H.Host.state c.args.host.now in
     let row = file_row (name t) (kinds t) c.args._index c.args._row.now c.requires.row c.requires.files in
     let u = g.H.Host.state c.check_and_write.new.host in
-    row_placed t self.administration.now.database self.administration.now.lists self.administration.now.places self.works.now.items s c.args._index row c.requires.place u c.check_and_write.ensures.silent c.check_and_write.result (λ so_far. MayWriteRow (list_path (name t)) (list_file t.union) self.works.now.items s.world) c.check_and_write.ensures.any_moment
+    row_placed t self.administration.now.database self.administration.now.lists self.administration.now.places self.works.now.items s c.args._index row c.requires.place u c.check_and_write.ensures.silent c.check_and_write.result (λ so_far. MayWriteRow (list_path (name t)) (list_file t.union) (list_file t.listed) self.works.now.items s.world) c.check_and_write.ensures.any_moment
     c.check_and_write.new.lists c.check_and_write.new.places c.check_and_write.new.works.items c.check_and_write.ensures.lists c.check_and_write.ensures.places c.check_and_write.ensures.works c.check_and_write.ensures.named
     c.check_and_write.ensures.order c.check_and_write.ensures.written
 

@@ -1,5 +1,5 @@
 use Rattle.host_files.specs.Replay.{unknown_needs}
-use Rattle.tests_worked.proofs.real_host_rows.remembered_rows.write.Goals as goal
+use Rattle.tests_worked.proofs.real_host_rows.write.Goals as goal
 
 pub write_new-requires-clause-absent : goal.write_new-requires-clause-absent
 write_new-requires-clause-absent c = λ h. unknown_needs _ h

@@ -1,5 +1,5 @@
 use Rattle.std.proofs.Common.{rules}
-use Rattle.host_files.proofs.system.is_start_error.Goals as goal
+use Rattle.host_files.proofs.errors.is_declined.Goals as goal
 
 pub returns-in_default : goal.returns-in_default
 returns-in_default c = search rules
