@@ -1,4 +1,4 @@
-// Faults that the operating system tells. Once the root can be written again the next command opens it and goes on.
+// Faults that the operating system tells, and steps that it declines. Once the root can be written again the next command opens it and goes on.
 use super::{Step, check};
 use std::test::Fail;
 
@@ -38,7 +38,8 @@ fn root_cannot_be_written_at_first(rt: HostRuntime) -> Result<(), Fail> {
     check(&rt, ROOT_IN_PROC)
 }
 
-// Its mode doesn't bind root, which is held off by the directory's attribute. The notes can't be merged then.
+// Its mode doesn't bind root, which is held off by the directory's attribute. The notes can't be merged then: the system declines
+// that, and it is no fault of the device.
 const CLOSED: &[Step] = &[
     Step {
         before: "mkdir root
@@ -66,8 +67,8 @@ Version: 1.0
 [ \"$(id -u)\" -ne 0 ] || chattr +i root/var/lib/dpkg",
         tree: "b",
         calls: "",
-        rest: "|broken device\n|2\n",
-        left: "calls 0 faults 1
+        rest: "|broken declined\n|2\n",
+        left: "calls 0 faults 0
 555 root/var/lib/dpkg
 644 info/alpha.list
 /.
