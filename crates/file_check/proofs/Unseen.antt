@@ -6,7 +6,7 @@ use Rattle.host_core.specs.Paths.{Path}
 use Rattle.host_core.specs.World.{World, kind_of}
 use Rattle.host_core.specs.declared.fault.HostFault.{HostFault}
 use Rattle.undo_rows.specs.declared.fall.StepFault.{StepFault}
-use Rattle.undo_rows.specs.declared.fall.StepFault.TheVariants.{LinkParent, NoParent, DirInWay, Clash, DiversionTarget}
+use Rattle.undo_rows.specs.declared.fall.StepFault.TheVariants.{LinkParent, NoParent, DirInWay, Clash, DiversionTarget, Declined}
 use Rattle.package_files.specs.declared.work.Work.{Work}
 use Rattle.file_check.specs.Clashes.{Owning}
 use Rattle.file_check.specs.Index.{makes_directory, is_made, is_place, is_twice}
@@ -53,6 +53,7 @@ module _ (o : Owning) (made twice : Path → Bool) (w : World) where
   fault_to s (DirInWay p) is = is
   fault_to s (Clash p owner) is = is
   fault_to s (DiversionTarget p diverter) is = is
+  fault_to s (Declined p) is = is
 
   fault_from : (s : Work) (fault : StepFault) → IsFaultOf o made twice w (unseen s) fault → IsFaultOf o made twice w s fault
   fault_from s (LinkParent p) is = is
@@ -60,6 +61,7 @@ module _ (o : Owning) (made twice : Path → Bool) (w : World) where
   fault_from s (DirInWay p) is = is
   fault_from s (Clash p owner) is = is
   fault_from s (DiversionTarget p diverter) is = is
+  fault_from s (Declined p) is = is
 
   first_same : (xs ys : List Work) (fault : StepFault) → map unseen ys ≡ map unseen xs → IsFirstOf o made twice w ys fault → IsFirstOf o made twice w xs fault
   first_same [] [] fault same is = is

@@ -73,10 +73,10 @@ adds_behind call rest older old new (Err NoMemory) is step adds = absurd step
 adds_behind call rest older old new (Err Declined) is step adds = first_behind call rest older old new is adds
 
 -- the first of them were made where one failed or was declined
-pub adds_first : {T : Type 0} (rest old new : List SystemCall) (fault : HostFault) → IsOfStep fault → Adds {T = T} rest old new (Err fault) → AddsFirst rest old new
-adds_first rest old new Device step adds = adds
-adds_first rest old new NoMemory step adds = absurd step
-adds_first rest old new Declined step adds = adds
+pub adds_first : (T : Type 0) (rest old new : List SystemCall) (fault : HostFault) → IsOfStep fault → Adds {T = T} rest old new (Err fault) → AddsFirst rest old new
+adds_first T rest old new Device step adds = adds
+adds_first T rest old new NoMemory step adds = absurd step
+adds_first T rest old new Declined step adds = adds
 
 -- a part of it failed
 pub made_some : (first undo : SystemCall) (rest old new : List SystemCall) → changes_in old ≡ first ∷ [] → AddsFirst rest old new → IsUnmade first undo (rest ++ first ∷ []) new
@@ -89,11 +89,11 @@ taken_away first undo rest old new made is adds taken =
     (adds.0, adds.1, ap (λ (l : List SystemCall). l ++ first ∷ []) adds.2, taken ∙ ap (λ (l : List SystemCall). undo ∷ l) (adds.3 ∙ ap (λ (l : List SystemCall). adds.1 ++ l) is))
 
 -- and the last call of that ended so
-pub unmade : {T : Type 0} (first undo : SystemCall) (rest old new made : List SystemCall) (fault : HostFault) → IsOfStep fault → changes_in old ≡ first ∷ [] → AddsFirst rest old new → changes_in made ≡ undo ∷ changes_in new
+pub unmade : (T : Type 0) (first undo : SystemCall) (rest old new made : List SystemCall) (fault : HostFault) → IsOfStep fault → changes_in old ≡ first ∷ [] → AddsFirst rest old new → changes_in made ≡ undo ∷ changes_in new
     → IsMakingBy first undo (rest ++ first ∷ []) {T = T} made (Err fault)
-unmade first undo rest old new made Device step is adds taken = inr (taken_away first undo rest old new made is adds taken)
-unmade first undo rest old new made NoMemory step is adds taken = absurd step
-unmade first undo rest old new made Declined step is adds taken = inr (taken_away first undo rest old new made is adds taken)
+unmade T first undo rest old new made Device step is adds taken = inr (taken_away first undo rest old new made is adds taken)
+unmade T first undo rest old new made NoMemory step is adds taken = absurd step
+unmade T first undo rest old new made Declined step is adds taken = inr (taken_away first undo rest old new made is adds taken)
 
 -- the former of two names of one file was removed
 pub former_removed : {T : Type 0} (from to : List ℕ) (over : Option Metadata) (before made : List SystemCall) (result : Result T HostFault) → from ≢ to → IsSome over → changes_in before ≡ []

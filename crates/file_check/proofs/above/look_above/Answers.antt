@@ -6,7 +6,7 @@ use Rattle.host_core.proofs.Moments.{reads_then, silent_then}
 use Rattle.host_core.proofs.PathLaws.{front_is_path}
 use Rattle.diversions.specs.Sights.{is_directory_kind}
 use Rattle.file_check.specs.Above.{IsAbove, IsLink, is_link_kind}
-use Rattle.file_check.proofs.Looking.{IsLooking, looked_all, looked_directory, looked_on, dir_is, no_dir, no_link}
+use Rattle.file_check.proofs.Looking.{IsLooking, looked_all, looked_directory, looked_link, looked_on, dir_is, link_is, no_dir, no_link}
 use Rattle.file_check.proofs.above.look_above.Goals as goal
 
 pub kind_at-requires : goal.kind_at-requires
@@ -44,7 +44,15 @@ returns-then-is_directory g c = record {
 pub returns-then-is_link : goal.returns-then-is_link
 returns-then-is_link g c = record {
   looks = record {
-    found = search rules;
+    found = λ h.
+        let inv = c.loop-front.invariant in
+        let made = contains_text c.args.made.now in
+        let w = (g.H.Host.state c.args.host.now).world in
+        let front = c.in-Some.front.now in
+        let cut = c.in-Some.ensures in
+        let h0 = c.kind_at.ensures.looks.silent.honest h in
+        let link : IsLink (w front) = subst (λ (v : World). IsLink (v front)) inv.reads.world (link_is _ (ap is_link_kind (sym (c.in_ok-kind.ensures.looks.found h)) ∙ sym c.is_link.ensures ∙ c.if-is_link.true)) in
+        looked_link made w c.args.place.now c.loop-front.rest.now c.loop-front.lacking (inv.looking h0) front c.in-Some.field-0-1.now cut.0 cut.1 link;
     reads = reads_then _ _ _ c.loop-front.invariant.reads c.kind_at.ensures.looks.reads;
     silent = search rules;
     counts = search rules;

@@ -21,6 +21,6 @@ returns-in_err-to-clause-step c =
 
 pub returns-clause-sure : goal.returns-clause-sure
 returns-clause-sure c = on_ok_weaker c.rename_at.result (λ sure. elim sure [
-  | inl looked ↦ inl (subst (λ p. IsLookedAt p c.rename_at.new.system.trace.calls) (c.as_str.ensures.value ∙ c.in_ok-from.ensures) looked)
+  | inl looked ↦ inl (subst (λ p. IsLookedAt p c.rename_at.new.system.trace.calls) (c.as_str.ensures.value ∙ c.in_ok-from.ensures.place) looked)
   | inr new ↦ inr (c.is_new-is_new.ensures.0 new)
 ]) c.rename_at.ensures.sure

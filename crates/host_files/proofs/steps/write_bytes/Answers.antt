@@ -19,7 +19,7 @@ returns-in_err-create c =
 
 pub returns-in-Err-Declined : goal.returns-in-Err-Declined
 returns-in-Err-Declined c =
-    unmade (Create c.args.place.now) (Unlink c.args.place.now) (fill_calls c.args.owners c.args.place.now c.args.bytes.now c.args.access) c.create.new.self.trace.calls c.fill_file.new.system.trace.calls c.take_away_file.new.system.trace.calls
+    unmade (Unit {0}) (Create c.args.place.now) (Unlink c.args.place.now) (fill_calls c.args.owners c.args.place.now c.args.bytes.now c.args.access) c.create.new.self.trace.calls c.fill_file.new.system.trace.calls c.take_away_file.new.system.trace.calls
     c.take_away_file.result c.take_away_file.ensures.fault (ap changes_in (c.in_ok-create.ensures.made ∙ ap (λ l. Create c.args.place.now ∷ l) c.requires.begun))
-    (adds_first (fill_calls c.args.owners c.args.place.now c.args.bytes.now c.args.access) c.create.new.self.trace.calls c.fill_file.new.system.trace.calls c.in-Err-Declined.field-0 c.in-Err-Declined.ensures.err c.in-Err-Declined.ensures.made)
+    (adds_first (Unit {0}) (fill_calls c.args.owners c.args.place.now c.args.bytes.now c.args.access) c.create.new.self.trace.calls c.fill_file.new.system.trace.calls c.in-Err-Declined.field-0 c.in-Err-Declined.ensures.err c.in-Err-Declined.ensures.made)
     (ap changes_in c.take_away_file.ensures.made)

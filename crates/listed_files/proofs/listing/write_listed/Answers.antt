@@ -72,13 +72,11 @@ returns-in-None-clause-any_moment g c =
 pub returns-in-None-clause-listed : goal.returns-in-None-clause-listed
 returns-in-None-clause-listed g c = λ h.
     let old = g.H.Host.state c.args.host.now in
-    let rep = g.H.Host.state c.replace_list.new.host in
     let bar = g.H.Host.state c.barrier.new.self in
     let fil = g.H.Host.state c.write_files.new.host in
     let works = c.args.works.now in
     let list = list_path c.args.name.now in
     let union = list_file c.args.union in
-    let listed = list_file c.args.listed in
     let replaced : IsTrue bar.honest → IsReplaced list union old.world bar.world = λ h. subst (IsReplaced list union old.world) (sym c.in_ok-barrier.ensures.does.world) (c.in_ok-replace_list.ensures.replaced (c.barrier.ensures.silent.honest h)) in
     record {
       mid = bar.world;
@@ -107,16 +105,13 @@ returns-in_err-barrier-in-Some-clause-any_moment g c =
 pub replace_list-requires-in-Some-clause-ready : goal.replace_list-requires-in-Some-clause-ready
 replace_list-requires-in-Some-clause-ready g c = λ h.
     let old = g.H.Host.state c.args.host.now in
-    let rep = g.H.Host.state c.replace_list.new.host in
     let bar = g.H.Host.state c.barrier.new.self in
     let fil = g.H.Host.state c.write_files.new.host in
     let works = c.args.works.now in
     let list = list_path c.args.name.now in
     let union = list_file c.args.union in
-    let listed = list_file c.args.listed in
     let replaced : IsTrue bar.honest → IsReplaced list union old.world bar.world = λ h. subst (IsReplaced list union old.world) (sym c.in_ok-barrier.ensures.does.world) (c.in_ok-replace_list.ensures.replaced (c.barrier.ensures.silent.honest h)) in
     let undone : IsTrue fil.honest → Undone works bar.world fil.world = λ h. subst (λ d. MatchOption d (Written works bar.world fil.world) (λ k. Undone works bar.world fil.world)) c.in-Some.is (c.in_ok-write_files.ensures.written h) in
-    let bak = g.H.Host.state c.barrier-in-Some.new.self in
     let h2 = c.barrier-in-Some.ensures.silent.honest h in
     let h1 = c.write_files.ensures.silent.honest h2 in
     let name = c.args.name.now in

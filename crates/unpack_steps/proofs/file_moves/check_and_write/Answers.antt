@@ -86,26 +86,26 @@ returns-in_err-path-clause-any_moment g c =
     writing_moments (list_path (own_name c.args.rows.now.found c.args.rows.now.incoming)) (list_file c.args.rows.now.union) (list_file c.args.rows.now.listed) c.args.works.now.items (g.H.Host.state c.args.host.now) (g.H.Host.state c.check_works.new.host) c.check_works.ensures.looks.reads c.write_checked.new.works.items (g.H.Host.state c.write_checked.new.host)
     (rearranged c.args.works.now.items c.check_works.new.works.items c.write_checked.new.works.items c.check_works.ensures.same_works c.write_checked.ensures.works) c.write_checked.ensures.any_moment
 
-pub returns-in_default-clause-works : goal.returns-in_default-clause-works
-returns-in_default-clause-works g c =
+pub returns-in_default-2-clause-works : goal.returns-in_default-2-clause-works
+returns-in_default-2-clause-works g c =
     rearranged c.args.works.now.items c.check_works.new.works.items c.write_checked.new.works.items c.check_works.ensures.same_works c.write_checked.ensures.works
 
-pub returns-in_default-clause-named : goal.returns-in_default-clause-named
-returns-in_default-clause-named g c =
+pub returns-in_default-2-clause-named : goal.returns-in_default-2-clause-named
+returns-in_default-2-clause-named g c =
     each_permuted IsNamed c.check_works.new.works.items c.write_checked.new.works.items c.write_checked.ensures.works
     (named_still c.args.works.now.items c.check_works.new.works.items c.check_works.ensures.same_works c.requires.named)
 
-pub returns-in_default-clause-any_moment : goal.returns-in_default-clause-any_moment
-returns-in_default-clause-any_moment g c =
+pub returns-in_default-2-clause-any_moment : goal.returns-in_default-2-clause-any_moment
+returns-in_default-2-clause-any_moment g c =
     writing_moments (list_path (own_name c.args.rows.now.found c.args.rows.now.incoming)) (list_file c.args.rows.now.union) (list_file c.args.rows.now.listed) c.args.works.now.items (g.H.Host.state c.args.host.now) (g.H.Host.state c.check_works.new.host) c.check_works.ensures.looks.reads c.write_checked.new.works.items (g.H.Host.state c.write_checked.new.host)
     (rearranged c.args.works.now.items c.check_works.new.works.items c.write_checked.new.works.items c.check_works.ensures.same_works c.write_checked.ensures.works) c.write_checked.ensures.any_moment
 
-pub returns-in_default-clause-judged : goal.returns-in_default-clause-judged
-returns-in_default-clause-judged g c =
+pub returns-in_default-2-clause-judged : goal.returns-in_default-2-clause-judged
+returns-in_default-2-clause-judged g c =
     λ h. where_none _ _ _ c.in_default.is (c.in_ok-found.ensures.looks.found (c.write_checked.ensures.silent.honest h))
 
-pub returns-in_default-clause-written : goal.returns-in_default-clause-written
-returns-in_default-clause-written g c =
+pub returns-in_default-2-clause-written : goal.returns-in_default-2-clause-written
+returns-in_default-2-clause-written g c =
     λ h.
     let v = (g.H.Host.state c.args.host.now).world in
     let end = (g.H.Host.state c.write_checked.new.host).world in
@@ -117,16 +117,16 @@ returns-in_default-clause-written g c =
     (none_told c.in_ok-found.found _ c.in_default.is (c.in_ok-found.ensures.free h1)) (none_told c.in_ok-found.found _ c.in_default.is (c.in_ok-found.ensures.seen h1))
     (subst (λ (w : World). HasListed (list_path name) node c.write_checked.new.works.items w end) c.check_works.ensures.looks.reads.world (where_none _ _ _ c.in_default-2.is (c.in_ok-path.ensures.listed h)))
 
-pub returns-in_default-clause-order : goal.returns-in_default-clause-order
-returns-in_default-clause-order g c =
+pub returns-in_default-2-clause-order : goal.returns-in_default-2-clause-order
+returns-in_default-2-clause-order g c =
     c.in_ok-path.ensures.order
 
-pub returns-in_default-clause-lists : goal.returns-in_default-clause-lists
-returns-in_default-clause-lists g c =
+pub returns-in_default-2-clause-lists : goal.returns-in_default-2-clause-lists
+returns-in_default-2-clause-lists g c =
     where_none _ _ _ c.in_default-2.is c.in_ok-path.ensures.lists
 
-pub returns-in_default-clause-places : goal.returns-in_default-clause-places
-returns-in_default-clause-places g c =
+pub returns-in_default-2-clause-places : goal.returns-in_default-2-clause-places
+returns-in_default-2-clause-places g c =
     where_none _ _ _ c.in_default-2.is c.in_ok-path.ensures.places ∙ ap (λ (l : List Path). c.args.places.now ++ l) (places_same c.args.works.now.items c.check_works.new.works.items c.check_works.ensures.same_works)
 
 pub returns-clause-works : goal.returns-clause-works
@@ -147,8 +147,8 @@ pub returns-clause-judged : goal.returns-clause-judged
 returns-clause-judged g c =
     λ h.
     let moved = rearranged c.args.works.now.items c.check_works.new.works.items c.write_checked.new.works.items c.check_works.ensures.same_works c.write_checked.ensures.works in
-    let told = subst (λ (o : Option Path). IfSome o (IsPathOf c.write_checked.new.works.items)) c.in-Some.is c.in_ok-path.ensures.path in
-    (where_none _ _ _ c.in_default.is (c.in_ok-found.ensures.looks.found (c.write_checked.ensures.silent.honest h)), path_rearranged c.args.works.now.items c.write_checked.new.works.items c.in-Some.path moved told)
+    let told = subst (λ (o : Option Path). IfSome o (IsPathOf c.write_checked.new.works.items)) c.in-Some-2.is c.in_ok-path.ensures.path in
+    (where_none _ _ _ c.in_default.is (c.in_ok-found.ensures.looks.found (c.write_checked.ensures.silent.honest h)), path_rearranged c.args.works.now.items c.write_checked.new.works.items c.in-Some-2.path moved told)
 
 pub returns-clause-written : goal.returns-clause-written
 returns-clause-written g c =
@@ -156,7 +156,7 @@ returns-clause-written g c =
     let end = (g.H.Host.state c.write_checked.new.host).world in
     let name = own_name c.args.rows.now.found c.args.rows.now.incoming in
     subst (λ (w : World). HasTurnedBack (list_path name) (list_file c.args.rows.now.union) (list_file c.args.rows.now.listed) c.write_checked.new.works.items w end) c.check_works.ensures.looks.reads.world
-    (where_some _ _ _ c.in-Some.path c.in-Some.is (c.in_ok-path.ensures.listed h))
+    (where_some _ _ _ c.in-Some-2.path c.in-Some-2.is (c.in_ok-path.ensures.listed h))
 
 pub returns-clause-order : goal.returns-clause-order
 returns-clause-order g c =
@@ -164,15 +164,15 @@ returns-clause-order g c =
 
 pub returns-clause-lists : goal.returns-clause-lists
 returns-clause-lists g c =
-    where_some _ _ _ c.in-Some.path c.in-Some.is c.in_ok-path.ensures.lists
+    where_some _ _ _ c.in-Some-2.path c.in-Some-2.is c.in_ok-path.ensures.lists
 
 pub returns-clause-places : goal.returns-clause-places
 returns-clause-places g c =
-    where_some _ _ _ c.in-Some.path c.in-Some.is c.in_ok-path.ensures.places
+    where_some _ _ _ c.in-Some-2.path c.in-Some-2.is c.in_ok-path.ensures.places
 
 pub returns-clause-denied : goal.returns-clause-denied
 returns-clause-denied g c =
     λ is.
     let same = c.in_ok-found.ensures.looks.counts in
-    let told = subst (λ (o : Option Path). IfSome o (λ path. denials (g.H.Host.state c.check_works.new.host) < denials (g.H.Host.state c.write_checked.new.host))) c.in-Some.is c.in_ok-path.ensures.denied in
+    let told = subst (λ (o : Option Path). IfSome o (λ path. denials (g.H.Host.state c.check_works.new.host) < denials (g.H.Host.state c.write_checked.new.host))) c.in-Some-2.is c.in_ok-path.ensures.denied in
     omega (arith, same.denials, told)
