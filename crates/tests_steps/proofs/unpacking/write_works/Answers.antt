@@ -1,9 +1,11 @@
-use Rattle.std.proofs.Common.{List, sym, subst}
+use Rattle.std.proofs.Common.{List, ◌<◌, length, sym, subst}
+use Rattle.std.specs.Prelude.{IfOk, IfSome, MatchOption}
 use Rattle.package_files.specs.declared.work.Work.{Work}
-use Rattle.package_files.specs.Files.{Each}
+use Rattle.package_files.specs.Files.{Each, Undone, Written}
 use Rattle.package_files.specs.Free.{IsFreeIn, IsSeen}
 use Rattle.package_files.specs.Names.{IsNamed, IsHomed}
 use Rattle.file_check.proofs.Permuting.{each_permuted, homed_permuted}
+use Rattle.tests_steps.proofs.Answered.{none_of}
 use Rattle.tests_steps.proofs.unpacking.write_works.Goals as goal
 
 pub write_files-requires-clause-named : goal.write_files-requires-clause-named
@@ -23,3 +25,14 @@ pub write_files-requires-clause-seen : goal.write_files-requires-clause-seen
 write_files-requires-clause-seen g c = λ h.
     let w = (g.H.Host.state c.args.host.now).world in
     subst (Each (IsSeen w)) (sym c.as_slice.ensures.value) (each_permuted (IsSeen w) c.args.works.now.items _ c.order_works.ensures.same (c.requires.seen h))
+
+pub returns-clause-within : goal.returns-clause-within
+returns-clause-within g c = subst (λ (xs : List Work). IfOk c.write_files.result (λ declined. IfSome declined (λ k. k < length xs))) c.as_slice.ensures.value c.write_files.ensures.within
+
+pub returns-clause-written : goal.returns-clause-written
+returns-clause-written g c = λ h.
+    let xs = c.order_works.new.works.items in
+    let old = (g.H.Host.state c.args.host.now).world in
+    let new = (g.H.Host.state c.write_files.new.host).world in
+    none_of c.write_files.result (Written xs old new) (λ k. Undone xs old new)
+    (subst (λ (ys : List Work). IfOk c.write_files.result (λ declined. MatchOption declined (Written ys old new) (λ k. Undone ys old new))) c.as_slice.ensures.value (c.write_files.ensures.written h))
