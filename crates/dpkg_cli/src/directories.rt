@@ -183,9 +183,6 @@ impl<'a, D: Disk> Directories<'a, D> {
             Err(RootFault::Host(HostFault::NoMemory)) => {
                 Err(RootFault::Host(HostFault::NoMemory))
             }
-            Err(RootFault::Host(HostFault::Declined)) => {
-                Err(RootFault::Host(HostFault::Declined))
-            }
             Err(RootFault::Locked) => Err(RootFault::Locked),
         }
     }
