@@ -151,13 +151,17 @@ impl<'a, D: Disk> Directories<'a, D> {
         }
         match FilesHost::open(self.rt, directory) {
             Ok(host) => Ok(host),
-            Err(HostFault::Device) | Err(HostFault::Declined) => {
+            Err(HostFault::Device) => {
                 self.line.clear();
                 tell_why(&self.rt, directory);
                 self.faults += 1;
                 Err(HostFault::Device)
             }
             Err(HostFault::NoMemory) => Err(HostFault::NoMemory),
+            Err(HostFault::Declined) => {
+                self.faults += 1;
+                Err(HostFault::Device)
+            }
         }
     }
 
@@ -176,7 +180,7 @@ impl<'a, D: Disk> Directories<'a, D> {
                 self.lock = Some(lock);
                 Ok(())
             }
-            Err(RootFault::Host(HostFault::Device)) | Err(RootFault::Host(HostFault::Declined)) => {
+            Err(RootFault::Host(HostFault::Device)) => {
                 self.faults += 1;
                 Err(RootFault::Host(HostFault::Device))
             }
@@ -184,7 +188,8 @@ impl<'a, D: Disk> Directories<'a, D> {
                 Err(RootFault::Host(HostFault::NoMemory))
             }
             Err(RootFault::Host(HostFault::Declined)) => {
-                Err(RootFault::Host(HostFault::Declined))
+                self.faults += 1;
+                Err(RootFault::Host(HostFault::Device))
             }
             Err(RootFault::Locked) => Err(RootFault::Locked),
         }

@@ -1,5 +1,5 @@
 -- What the calls of the system that were made so far say of a step's answer.
-use Rattle.std.proofs.Common.{◌≡◌, ◌≢◌, ◌⊎◌, ℕ, inl, inr, Option, Some, None, List, [], ◌∷◌, ◌++◌, Result, Ok, Err, IfErr, refl, sym, ap, subst, ◌∙◌, append_assoc}
+use Rattle.std.proofs.Common.{◌≡◌, ◌≢◌, ℕ, inl, inr, Option, Some, None, List, [], ◌∷◌, ◌++◌, Result, Ok, Err, IfErr, refl, sym, ap, subst, ◌∙◌, append_assoc}
 use Rattle.std.proofs.lemmas.Bool.{false≢true}
 use Rattle.std.proofs.lemmas.List.{append-nil}
 use Rattle.std.specs.Fs.{metadata_mode}
@@ -10,7 +10,7 @@ use Rattle.host_core.specs.declared.fault.HostFault.{HostFault}
 use Rattle.host_core.specs.declared.fault.HostFault.TheVariants.{Device, NoMemory, Declined}
 use Rattle.host_files.specs.Faults.{IsOfStep, IsUndeclined}
 use Rattle.host_files.specs.SystemCalls.{changes_in, look_call}
-use Rattle.host_files.specs.Shown.{Adds, AddsFirst, IsAnsweredBy, IsAsked, IsBegun, IsMakingBy, IsNotMade, IsTakenAway, IsUnmade, HasRenamed, IsRenamedBy, IsRenaming}
+use Rattle.host_files.specs.Shown.{Adds, AddsFirst, IsAnsweredBy, IsAsked, IsBegun, IsMakingBy, IsTakenAway, IsUnmade, HasRenamed, IsRenamedBy, IsRenaming}
 use Rattle.host_files.specs.declared.trace.SystemCall.{SystemCall}
 use Rattle.host_files.specs.declared.trace.SystemCall.TheVariants.{Unlink}
 

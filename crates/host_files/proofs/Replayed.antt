@@ -6,7 +6,7 @@ use Rattle.host_core.specs.World.{Step, Write, Move, Take, MakeDir, RemoveDir, H
 use Rattle.host_core.specs.Events.{Event, Did, Finished, Cut, Failed, Denied}
 use Rattle.host_core.specs.Unsynced.{IsSettled, KeepsSettled}
 use Rattle.host_core.proofs.Losses.{settled_none, settled_event, keeps_part}
-use Rattle.host_core.specs.Host.{Same, Happens, Reads, Silent, Counts, Stops, Declines, Does, Runs, faults}
+use Rattle.host_core.specs.Host.{Same, Happens, Reads, Silent, Counts, Stops, Declines, Does, Runs}
 use Rattle.host_core.proofs.Counted.{has_failed, no_fault_same, silent_failed, silent_same}
 use Rattle.host_core.specs.declared.call.Call.{Call}
 use Rattle.host_core.specs.declared.call.Outcome.{Outcome}

@@ -75,7 +75,8 @@ impl Hosts for RealHosts {
         match FilesHost::open(self.rt, tree) {
             Ok(host) => Ok(host),
             Err(HostFault::NoMemory) => Err(HostFault::NoMemory),
-            Err(HostFault::Device) | Err(HostFault::Declined) => Err(HostFault::Device),
+            Err(HostFault::Device) => Err(HostFault::Device),
+            Err(HostFault::Declined) => Err(HostFault::Device),
         }
     }
 
