@@ -10,7 +10,7 @@ use Rattle.host_memory.proofs.Recorded.{behind_kept, makes_step}
 use Rattle.host_memory.proofs.memory.MemoryHost.make_step.Goals as goal
 
 pub returns-in_ok-do_step-in-Made : goal.returns-in_ok-do_step-in-Made
-returns-in_ok-do_step-in-Made c = makes_step (Ok tt) (step_of c.args.step) c.args.self.now _ (sym c.fate.ensures ∙ c.in-Made.is, subst (λ (h : History). Steps (step_of c.args.step) c.args.self.now.history h) (sym c.pass_step.ensures.history) c.in_ok-do_step-in-Made.ensures.ok.0, c.pass_step.ensures.passed) c.pass_step.ensures.passed.planned
+returns-in_ok-do_step-in-Made c = makes_step (Ok tt) (step_of c.args.step) c.args.self.now _ (sym c.fate.ensures ∙ c.in-Made.is, subst (λ (h : History). Steps (step_of c.args.step) c.args.self.now.history h) (sym c.pass_step.ensures.history) c.in_ok-do_step-in-Made.ensures.ok.0, record { planned = c.pass_step.ensures.passed.planned; faults = c.pass_step.ensures.passed.faults; denials = c.pass_step.ensures.passed.denials }) c.pass_step.ensures.passed.planned
 
 pub returns-in_ok-break_step-in-Failed : goal.returns-in_ok-break_step-in-Failed
 returns-in_ok-break_step-in-Failed c =
@@ -25,5 +25,5 @@ returns-in_ok-make_room_for_fault-in-Declined c =
     makes_step (Err Declined) (step_of c.args.step) c.args.self.now _ (
       sym c.fate.ensures ∙ c.in-Declined.is,
       subst (λ (h : History). Goes (Denied (place_of (step_of c.args.step))) c.args.self.now.history h) (sym c.pass_step-in-Declined.ensures.history) there,
-      c.pass_step-in-Declined.ensures.passed,
+      record { planned = c.pass_step-in-Declined.ensures.passed.planned; faults = c.pass_step-in-Declined.ensures.passed.faults; denials = c.pass_step-in-Declined.ensures.passed.denials },
     ) c.pass_step-in-Declined.ensures.passed.planned
