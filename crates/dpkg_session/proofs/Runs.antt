@@ -186,4 +186,3 @@ counts_answered name records copies half unwinding failed touched displaced u a 
 
 pub counts_refused : (rule : Rule) (name : List ℕ) (u : AUnit) (a : State) → IsRefusedUnit rule name u → CountsReply a a u.reply
 counts_refused rule name u a refused = subst (CountsReply a a) (sym refused.reply) (no_fault_here a)
-

@@ -9,4 +9,3 @@ use Rattle.held_administration.specs.Order.{IsInOrder}
 
 pub order_behind : (d : Recorded) (lists : List PackageList) (m t : State) → Happens (Did Barrier ∷ []) m t → Needs m (IsInOrder d lists) → Needs t (IsInOrder d lists)
 order_behind d lists m t goes order = λ h. subst (IsInOrder d lists) (sym goes.world) (order (goes.honest h))
-

@@ -51,4 +51,3 @@ counts_reply name (Some call) a b same = same
 pub counts_answered : (name : List ℕ) (records : List Record) (failed : Option Call) (u : AUnit) (a b : State) → NoFault a b → IsBrokenBy NoMemory u.reply ⊎ Answers name records failed u → CountsReply a b u.reply
 counts_answered name records failed u a b same (inl broken) = subst (CountsReply a b) (sym broken) same
 counts_answered name records failed u a b same (inr answers) = subst (CountsReply a b) (sym answers.replied) (counts_reply name failed a b same)
-

@@ -1,8 +1,6 @@
 // What a host remembers is forgotten once it may be otherwise: a script ran, a directory was removed, a file got a second name.
 use super::{NEW_DIRECTORY, RealHost, fault_text, path_of, shell};
-use host_core::{
-    Call, Host, HostFault, Keep, Outcome, Places, RootPath, Script, Side,
-};
+use host_core::{Call, Host, HostFault, Keep, Outcome, Places, RootPath, Script, Side};
 use host_files::FilesHost;
 use std::alloc::{AllocError, Global};
 use std::fs;
