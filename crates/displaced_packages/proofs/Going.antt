@@ -18,7 +18,7 @@ use Rattle.status_records.specs.declared.record.Record.{Record}
 use Rattle.unit_stages.specs.Holding.{Holding}
 use Rattle.undo_rows.specs.declared.rows.Called.{Called}
 use Rattle.displaced_packages.specs.Displacing.{AreGoing, HasCalled, HasCalledFirst, HaveBeenRemovedBehind, HaveGone, IsAmidDisplacing}
-use Rattle.host_core.proofs.Barriers.{since_to_disk}
+use Rattle.displaced_packages.proofs.Barriers.{since_brought}
 
 module _ (incoming version : List ℕ) (entries : List Diversion) (losing : List Losing) (conflicting : List (List ℕ)) (before : Holding) where
   -- the moments
@@ -74,7 +74,7 @@ module _ (incoming version : List ℕ) (entries : List Diversion) (losing : List
   since_displacing s t since = since_weaker (AreGoing incoming version entries losing conflicting before s) (IsAmidDisplacing incoming version entries losing conflicting before s) s t (λ so_far w is. amid_of s so_far w is) since
 
   pub since_displaced : (result : Result Unit HostFault) (s m t : State) → Since (AreGoing incoming version entries losing conflicting before s) s m → (t ≡ m) ⊎ Does Barrier m t result → Since (IsAmidDisplacing incoming version entries losing conflicting before s) s t
-  since_displaced result s m t since does = since_to_disk (IsAmidDisplacing incoming version entries losing conflicting before s) result s m t (λ x quiet w none amid. amid_still s x quiet w none amid) (since_displacing s m since) does
+  since_displaced result s m t since does = since_brought (IsAmidDisplacing incoming version entries losing conflicting before s) result s m t (λ x quiet w none amid. amid_still s x quiet w none amid) (since_displacing s m since) does
 
   pub called_to_disk : (s m t : State) (told now : List Called) → HasCalledFirst incoming version entries losing conflicting before s m told now → Silent m t → HasCalled incoming version entries losing conflicting before s t told now
   called_to_disk s m t told now called silent = record { m = m; called = called; silent = silent }
