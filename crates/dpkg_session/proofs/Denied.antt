@@ -29,11 +29,17 @@ fault_counts (step.Declined path) a b same only = record { faults = same.faults;
 
 call_counts : (call : Option Call) (f : Failure) (a b : State) → NoFault a b → call_of call ≡ Some f → CountsCause a b f
 call_counts None f a b same is = absurd (let e : None ≡ Some f = is in cc)
-call_counts (Some call) f a b same is = subst (CountsCause a b) (let e : Some (OfCall call) ≡ Some f = is in cc) same
+call_counts (Some call) f a b same is = by (let e : Some (OfCall call) ≡ Some f = is in cc)
+  where
+    by : OfCall call ≡ f → CountsCause a b f
+    by e = subst (CountsCause a b) e same
 
 cause_counts : (fault : Option StepFault) (call : Option Call) (f : Failure) (a b : State) → NoFault a b → OnlyIfDeclined fault a b → cause_of fault call ≡ Some f → CountsCause a b f
 cause_counts None call f a b same only is = call_counts call f a b same is
-cause_counts (Some fault) call f a b same only is = subst (CountsCause a b) (let e : Some (OfFiles fault) ≡ Some f = is in cc) (fault_counts fault a b same only)
+cause_counts (Some fault) call f a b same only is = by (let e : Some (OfFiles fault) ≡ Some f = is in cc)
+  where
+    by : OfFiles fault ≡ f → CountsCause a b f
+    by e = subst (CountsCause a b) e (fault_counts fault a b same only)
 
 unwound_counts : (rows : List Row) (u : Unwinding) (a b : State) → IsCauseOf rows (Some u) → NoFault a b → OnlyIfDeclined u.fall.fault a b → CountsCause a b u.failure
 unwound_counts rows u a b cause same only = cause_counts u.fall.fault (forward_of (row_at rows u.fall.row)) u.failure a b same only cause
