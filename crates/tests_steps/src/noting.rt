@@ -1,11 +1,12 @@
 // What is noted beside the calls of rows: how far each package is, each in a file of its own, and the file of the file row.
-ghost use Rattle.std.specs.Prelude.{◌≡◌, [], ◌∷◌, true, false, drop, nat_eq, IfOk, IsTrue};
+ghost use Rattle.std.specs.Prelude.{◌≡◌, [], ◌∷◌, Some, true, false, drop, nat_eq, IfOk, IsTrue};
 ghost use Rattle.std.specs.List.{list_any};
 ghost use Rattle.host_core.specs.Host.{Counts, Reads, Silent, Tells};
 ghost use Rattle.host_core.specs.Paths.{is_path};
 ghost use Rattle.host_core.specs.World.{IsDirectory, IsFile};
 ghost use Rattle.administration.specs.Files.{NoDirectory};
 ghost use Rattle.administration.specs.Places.{temporary};
+ghost use Rattle.undo_rows.specs.Place.{is_declined};
 ghost use Rattle.undo_rows.specs.Stops.{AtEachStop};
 
 use crate::stack_calls::RowOf;
@@ -170,7 +171,9 @@ impl Noting {
     }
 }
 
-fn clash(alloc: Global) -> Result<StepFault, AllocError> {
+fn clash(alloc: Global) -> Result<StepFault, AllocError>
+    ensures { IfOk result (λ fault. is_declined (Some fault) ≡ false) }
+{
     let path = RootPath::from_str(alloc, "/usr/bin/x")?;
     Ok(StepFault::Clash(path, Text::from_str(alloc, "gamma")?))
 }
