@@ -4,10 +4,13 @@ use Rattle.std.specs.Prelude.{option_to_list, IfOk}
 use Rattle.std.specs.Option.{option_map_or}
 use Rattle.std.specs.Io.KnownBytes.{Appends, Keeps}
 use Rattle.std.specs.List.{flat_map}
+use Rattle.std.specs.Result.{IsErrAnd}
 use Rattle.std.proofs.lemmas.Grind.{flat_map-append}
 use Rattle.version_order.specs.declared.fault.VersionFault.{VersionFault}
 use Rattle.conffiles.specs.declared.decisions.ConfPolicy.{ConfPolicy}
 use Rattle.host_core.specs.Host.{State}
+use Rattle.host_core.specs.declared.fault.HostFault.{HostFault}
+use Rattle.report_lines.specs.Notes.{notes_line}
 use Rattle.report_lines.specs.Reports.{report_lines, unit_lines}
 use Rattle.command_words.specs.Comparisons.{bad_version}
 use Rattle.command_words.specs.declared.comparison.Comparison.{Comparison}
@@ -19,10 +22,11 @@ use Rattle.undo_rows.specs.declared.rows.Called.{Called}
 use Rattle.unit_reports.specs.Watching.{IsToldBehind}
 use Rattle.unit_reports.specs.declared.report.Report.{Report}
 use Rattle.unit_reports.specs.declared.report.Unit.{Unit as AUnit}
-use Rattle.command_line.specs.Printing.{AppendsFront, AppendsPart, AreTold, HasPrinted, Prints, last_in, output_left, units_answer, units_of}
+use Rattle.command_line.specs.Endings.{with_notes}
+use Rattle.command_line.specs.Printing.{AppendsFront, AppendsPart, AreTold, HasPrinted, IsLeft, Prints, last_in, output_left, units_answer, units_of}
 use Rattle.command_line.specs.Reports.{IsGiven, IsGivenInPart, bad_answer, comparison_answer, done_answer, memory_answer, wanting_answer}
 use Rattle.command_line.specs.Roots.{Around}
-use Rattle.command_line.specs.Unpacks.{HasUnpacked}
+use Rattle.command_line.specs.Unpacks.{HasRunTrees}
 use Rattle.command_line.specs.declared.answer.Answer.{Answer}
 use Rattle.command_line.specs.declared.answer.Left.{Left}
 use Rattle.command_line.specs.declared.printing.Flow.{Flow}
@@ -75,11 +79,33 @@ module _ {W : Type 0} (tells : W → AUnit → State → W → Type 0) (flow_of 
 
 -- What is left of the answer on units.
 
-pub left_cut : (lines : List ℕ) (last : Option AUnit) (status : ℕ) (old new : Option (List ℕ)) → HasPrinted lines flow.Cut old new → AppendsPart old new (units_answer lines last status).output
-left_cut lines last status old new printed = part_more old new new lines (flat_map unit_lines (option_to_list last)) printed (keeps_held new)
+output_with : (notes : Option HostFault) (answer : Answer) → (with_notes notes answer).output ≡ answer.output
+output_with None answer = refl
+output_with (Some fault) answer = refl
 
-pub left_wanting : (lines : List ℕ) (last : Option AUnit) (status : ℕ) (old new : Option (List ℕ)) → HasPrinted lines flow.Wanting old new → AppendsFront old new (units_answer lines last status).output
-left_wanting lines last status old new printed = front_more old new new lines (flat_map unit_lines (option_to_list last)) printed (keeps_held new)
+pub left_cut : (notes : Option HostFault) (lines : List ℕ) (last : Option AUnit) (status : ℕ) (old new : Option (List ℕ)) → HasPrinted lines flow.Cut old new → AppendsPart old new (with_notes notes (units_answer lines last status)).output
+left_cut notes lines last status old new printed =
+    subst (AppendsPart old new) (sym (output_with notes (units_answer lines last status))) (part_more old new new lines (flat_map unit_lines (option_to_list last)) printed (keeps_held new))
+
+pub left_wanting : (notes : Option HostFault) (lines : List ℕ) (last : Option AUnit) (status : ℕ) (old new : Option (List ℕ)) → HasPrinted lines flow.Wanting old new → AppendsFront old new (with_notes notes (units_answer lines last status)).output
+left_wanting notes lines last status old new printed =
+    subst (AppendsFront old new) (sym (output_with notes (units_answer lines last status))) (front_more old new new lines (flat_map unit_lines (option_to_list last)) printed (keeps_held new))
+
+-- the lines of units were written, and for the rest memory was wanting
+pub left_unsaid : {E : Type 0} (Q : E → Type 0) (notes : Option HostFault) (lines : List ℕ) (last : Option AUnit) (status : ℕ) (old new : Option (List ℕ)) (result : Result Left E) → IsErrAnd result Q → Appends old new lines
+    → IsLeft (with_notes notes (units_answer lines last status)) old new result
+left_unsaid Q notes lines last status old new (Ok left) is printed = absurd is
+left_unsaid Q notes lines last status old new (Err e) is printed =
+    subst (AppendsFront old new) (sym (output_with notes (units_answer lines last status))) (lines, flat_map unit_lines (option_to_list last), refl, printed)
+
+-- the lines of units were written, and the rest is still to be
+pub left_units : (notes : Option HostFault) (lines text : List ℕ) (last : Option AUnit) (status : ℕ) (rest : Answer) (old new : Option (List ℕ)) → Appends old new lines → text ≡ flat_map unit_lines (option_to_list last)
+    → rest ≡ with_notes notes (record { output = text; error = []; status = status })
+    → (front : List ℕ) × Appends old new front × (with_notes notes (units_answer lines last status) ≡ record rest { output = front ++ rest.output })
+left_units None lines text last status rest old new printed is told =
+    (lines, printed, ap (λ (t : List ℕ). record { output = lines ++ t; error = []; status = status }) (sym is) ∙ ap (λ (a : Answer). record a { output = lines ++ a.output }) (sym told))
+left_units (Some fault) lines text last status rest old new printed is told =
+    (lines, printed, ap (λ (t : List ℕ). record { output = lines ++ t; error = notes_line fault; status = 2 }) (sym is) ∙ ap (λ (a : Answer). record a { output = lines ++ a.output }) (sym told))
 
 -- The lines of what came of trees are those of its units, and of the one that was broken off.
 
@@ -97,14 +123,14 @@ installed_lines auto cs policy us (Some u) configured before s t is =
     let same : us ≡ us ++ configured.units.items = sym (append-nil us) ∙ ap (λ (l : List AUnit). us ++ l) (sym empty.units) in
     ap (λ (l : List ℕ). lines ++ l) none ∙ append-nil lines ∙ ap (λ (l : List AUnit). flat_map unit_lines l ++ flat_map unit_lines (u ∷ [])) same
 
-pub done_lines : (a : Around) (policy : Option ConfPolicy) (u : Unpacking) (came : Done) → HasUnpacked a policy u came
+pub done_lines : (a : Around) (policy : Option ConfPolicy) (u : Unpacking) (came : Done) (before after : Held) (s end : State) → HasRunTrees a policy u came before after s end
     → done_answer came ≡ units_answer (flat_map unit_lines (units_of came)) (last_in came) (done_answer came).status
-done_lines a policy u (done.Unpacked report) has = refl
-done_lines a None u (done.Installed reports) has = absurd has.2.ran.all
-done_lines a (Some policy) u (done.Installed reports) has =
-    let all = has.2.ran.all in
+done_lines a policy u (done.Unpacked report) before after s end ran = refl
+done_lines a None u (done.Installed reports) before after s end ran = absurd ran.all
+done_lines a (Some policy) u (done.Installed reports) before after s end ran =
+    let all = ran.all in
     ap (λ (l : List ℕ). record { output = l; error = []; status = (done_answer (done.Installed reports)).status })
-    (installed_lines u.auto_deconfigure has.2.ran.candidates policy reports.unpacked.units.items reports.unpacked.last reports.configured _ _ _ all.install.part)
+    (installed_lines u.auto_deconfigure ran.candidates policy reports.unpacked.units.items reports.unpacked.last reports.configured _ _ _ all.install.part)
 
 -- what is written of an answer that nothing is written of yet
 pub left_none : (wanted told : Answer) (held : Option (List ℕ)) → told ≡ wanted → (front : List ℕ) × Appends held held front × (wanted ≡ record told { output = front ++ told.output })

@@ -14,6 +14,7 @@ use Rattle.package_tree.specs.declared.package.Package.{Package}
 use Rattle.unit_reports.specs.Held.{Held, held}
 use Rattle.dpkg_session.specs.Trees.{AreRead}
 use Rattle.dpkg_session.specs.declared.report.Candidate.{Candidate}
+use Rattle.command_line.specs.declared.ending.Ended.{Ended}
 use Rattle.command_line.specs.declared.unpacking.Done.{Done}
 use Rattle.command_line.specs.declared.fault.NotOpened.{NotOpened}
 use Rattle.command_words.specs.declared.owners.TreeOwners.{TreeOwners}
@@ -22,7 +23,7 @@ use Rattle.command_line.specs.Reports.{HasEndedAs}
 use Rattle.command_line.specs.Reading.{AreReadFor, AreReadOnce, HaveGoneOn, IsReadFor, IsReadOnce, is_among, words_before}
 use Rattle.command_line.specs.Roots.{Around, around, held_anew}
 use Rattle.command_line.specs.declared.hosts.Hosts.{Ghosts}
-use Rattle.command_line.specs.Unpacks.{HasRunTrees, IsUnpackedOn}
+use Rattle.command_line.specs.Unpacks.{HasRunToEnd, HasRunTrees, IsUnpackedOn}
 
 -- what is known of trees between two moments is known between an earlier one and a later one
 pub record Within (outer inner : Around) : Type 0 where
@@ -56,13 +57,23 @@ all_within outer inner within owners earlier [] h = h
 all_within outer inner within owners earlier (c ∷ cs) h =
     (once_within outer inner within owners earlier c.label c.tree h.0, all_within outer inner within owners (earlier ++ c.label ∷ []) cs h.1)
 
-pub run_within : (outer inner : Around) → Within outer inner → (policy : Option ConfPolicy) (u : Unpacking) (done : Done) (before : Held) (s end : State)
-    → HasRunTrees inner policy u done before s end → HasRunTrees outer policy u done before s end
-run_within outer inner within policy u done before s end ran = record {
+run_within : (outer inner : Around) → Within outer inner → (policy : Option ConfPolicy) (u : Unpacking) (done : Done) (before after : Held) (s end : State)
+    → HasRunTrees inner policy u done before after s end → HasRunTrees outer policy u done before after s end
+run_within outer inner within policy u done before after s end ran = record {
   candidates = ran.candidates;
   left = ran.left;
   read = record { labels = ran.read.labels; read = all_within outer inner within u.owners [] ran.candidates ran.read.read };
   all = ran.all;
+}
+
+-- and so to the end of the command
+pub ended_within : (outer inner : Around) → Within outer inner → (policy : Option ConfPolicy) (u : Unpacking) (ended : Ended Done) (before : Held) (s end : State)
+    → HasRunToEnd inner policy u ended before s end → HasRunToEnd outer policy u ended before s end
+ended_within outer inner within policy u ended before s end has = record {
+  after = has.after;
+  mid = has.mid;
+  ran = run_within outer inner within policy u ended.done before has.after s has.mid has.ran;
+  ending = has.ending;
 }
 
 -- the words before those that are left are the earlier ones
@@ -121,8 +132,8 @@ module _ {T Hosts Opened : Type 0} (reads : T → Candidate → T → Type 0) (o
         record { labels = sym unread ∙ all.0; read = all.1 }
 
 pub unpacked_within : (outer inner : Around) → Within outer inner → ((s : State) → inner.left s → outer.left s)
-    → (begun : State) (policy : Option ConfPolicy) (asked : Unpacking) (done : Done) → IsUnpackedOn inner begun policy asked done → IsUnpackedOn outer begun policy asked done
-unpacked_within outer inner within left begun policy asked done u = record {
+    → (begun : State) (policy : Option ConfPolicy) (asked : Unpacking) (ended : Ended Done) → IsUnpackedOn inner begun policy asked ended → IsUnpackedOn outer begun policy asked ended
+unpacked_within outer inner within left begun policy asked ended u = record {
   table = u.table;
   lists = u.lists;
   entries = u.entries;
@@ -130,7 +141,7 @@ unpacked_within outer inner within left begun policy asked done u = record {
   opened = u.opened;
   end = u.end;
   given = left u.end u.given;
-  ran = run_within outer inner within policy asked done (held_anew u.table u.lists u.entries) u.state u.end u.ran;
+  ran = ended_within outer inner within policy asked ended (held_anew u.table u.lists u.entries) u.state u.end u.ran;
 }
 
 -- what is held after an opening that merged the notes
@@ -140,5 +151,5 @@ opened_anew database lists diversions number noting =
     ∙ ap (λ (b : Bool). record { records = record { records = database.records; notes = 0; closed = b }; lists = lists.lists; entries = diversions.entries }) noting
 
 -- the same policy by another word
-pub with_policy : (a : Around) (p q : ConfPolicy) (u : Unpacking) (ended : Result Done NotOpened) → p ≡ q → HasEndedAs a (Some p) u ended → HasEndedAs a (Some q) u ended
+pub with_policy : (a : Around) (p q : ConfPolicy) (u : Unpacking) (ended : Result (Ended Done) NotOpened) → p ≡ q → HasEndedAs a (Some p) u ended → HasEndedAs a (Some q) u ended
 with_policy a p q u ended e h = subst (λ (x : ConfPolicy). HasEndedAs a (Some x) u ended) e h

@@ -1,4 +1,5 @@
 pub mod Roots
+pub mod Endings
 pub mod Unpacks
 pub mod Queries
 pub mod Changes

@@ -19,7 +19,9 @@ use Rattle.removal_run.specs.Run as removing
 use Rattle.dpkg_session.specs.Asked.{names_asked}
 use Rattle.command_words.specs.declared.forced.Forced.{Forced}
 use Rattle.command_words.specs.declared.packages.Configuring.{Configuring}
+use Rattle.command_line.specs.Endings.{HasEnded}
 use Rattle.command_line.specs.Roots.{Around, Given, IsOpenedOn, IsRootFault, held_anew}
+use Rattle.command_line.specs.declared.ending.Ended.{Ended}
 use Rattle.command_line.specs.declared.packages.Work.{Work}
 use Rattle.command_line.specs.declared.packages.Work.TheVariants as work
 
@@ -52,22 +54,24 @@ IsWorking (work.Configure names policy) before s so_far now = configuring.IsAmid
 IsWorking (work.Remove names) before s so_far now = removing.IsAmidRun names false before s so_far now
 IsWorking (work.Purge names) before s so_far now = removing.IsAmidRun names true before s so_far now
 
--- all units were run, and this is held and the host left so
-pub record IsWorkedWhole (asked : Work) (us : List AUnit) (before : Held) (s end : State) : Type 0 where
-  pub after : Held
-  pub run : IsWorkedBy asked us before after s end
-
--- The units are those of the work, from what was held before; all of them, unless one was broken off. In any case the calls
--- that are told are the host's own list, and each world since is one of a moment of the work.
-pub record HasWorked (asked : Work) (done : Report) (before : Held) (s end : State) : Type 0 where
+-- The units are those of the work, from what was held before to what is held then; all of them, unless one was broken off. In any
+-- case the calls that are told are the host's own list, and each world since is one of a moment of the work.
+pub record HasWorked (asked : Work) (done : Report) (before after : Held) (s end : State) : Type 0 where
   pub part : IsWorkedUpTo asked done.units.items done.last before s end
-  pub whole : IsNone done.last → IsWorkedWhole asked done.units.items before s end
+  pub whole : IsNone done.last → IsWorkedBy asked done.units.items before after s end
   pub counts : CountsLast s end done.last
   pub told : TellsCalls s end done
   pub any_moment : Since (IsWorking asked before s) s end
 
+-- the units, and the end of the command behind them
+pub record HasWorkedToEnd (asked : Work) (ended : Ended Report) (before : Held) (s end : State) : Type 0 where
+  pub after : Held
+  pub mid : State
+  pub worked : HasWorked asked ended.done before after s mid
+  pub ending : HasEnded ended.done.last after.records ended.left mid end
+
 -- the same, from what the administration that was opened on a host holds, to the state in which this host was given back
-pub record IsWorkedOn (left : Given) (begun : State) (asked : Work) (done : Report) : Type 0 where
+pub record IsWorkedOn (left : Given) (begun : State) (asked : Work) (ended : Ended Report) : Type 0 where
   pub table : List Record
   pub lists : List PackageList
   pub entries : List Diversion
@@ -75,13 +79,13 @@ pub record IsWorkedOn (left : Given) (begun : State) (asked : Work) (done : Repo
   pub opened : IsOpenedOn begun state table lists entries
   pub end : State
   pub given : left end
-  pub worked : HasWorked asked done (held_anew table lists entries) state end
+  pub worked : HasWorkedToEnd asked ended (held_anew table lists entries) state end
 
 -- the same, on a host behind the root's word
-abbrev pub HasWorkedUnder : Around → List ℕ → Work → Report → Type 0
-HasWorkedUnder a word asked done = (begun : State) × a.root word begun × IsWorkedOn a.left begun asked done
+abbrev pub HasWorkedUnder : Around → List ℕ → Work → Ended Report → Type 0
+HasWorkedUnder a word asked ended = (begun : State) × a.root word begun × IsWorkedOn a.left begun asked ended
 
 -- what came of it: its report, or why the root couldn't be opened
-abbrev pub HasEndedWork : Around → List ℕ → Work → Result Report NotOpened → Type 0
-HasEndedWork a word asked (Ok done) = HasWorkedUnder a word asked done
+abbrev pub HasEndedWork : Around → List ℕ → Work → Result (Ended Report) NotOpened → Type 0
+HasEndedWork a word asked (Ok ended) = HasWorkedUnder a word asked ended
 HasEndedWork a word asked (Err fault) = IsRootFault a word fault

@@ -18,6 +18,8 @@ use Rattle.command_line.specs.declared.changing.Change.{Change}
 use Rattle.command_line.specs.Printing.{AppendsPart}
 use Rattle.command_line.specs.Roots.{Around, IsRootFault, opening_answer}
 use Rattle.command_line.specs.Unpacks.{HasUnpacked}
+use Rattle.command_line.specs.Endings.{with_notes}
+use Rattle.command_line.specs.declared.ending.Ended.{Ended}
 use Rattle.command_line.specs.declared.unpacking.Done.{Done}
 use Rattle.command_line.specs.declared.unpacking.Done.TheVariants as done
 use Rattle.dpkg_session.specs.declared.installing.Installed.{Installed}
@@ -65,15 +67,20 @@ done_answer (done.Installed reports) = install_answer reports
 
 -- what came of trees, whose packages are configured too where a policy for conffiles is given: reports, or why the root
 -- couldn't be opened
-abbrev pub HasEndedAs : Around → Option ConfPolicy → Unpacking → Result Done NotOpened → Type 0
-HasEndedAs a policy u (Ok came) = HasUnpacked a policy u came
+abbrev pub HasEndedAs : Around → Option ConfPolicy → Unpacking → Result (Ended Done) NotOpened → Type 0
+HasEndedAs a policy u (Ok ended) = HasUnpacked a policy u ended
 HasEndedAs a policy u (Err fault) = IsRootFault a u.root fault
 
-abbrev pub trees_answer : List ℕ → Result Done NotOpened → Answer
-trees_answer word (Ok came) = done_answer came
+abbrev pub trees_answer : List ℕ → Result (Ended Done) NotOpened → Answer
+trees_answer word (Ok ended) = with_notes ended.left (done_answer ended.done)
 trees_answer word (Err fault) = opening_answer word fault
 
--- what came of a command under the root of a word: its report, or why the root couldn't be opened
+-- what came of work on packages under the root of a word: its report, or why the root couldn't be opened
+abbrev pub work_answer : List ℕ → Result (Ended Report) NotOpened → Answer
+work_answer word (Ok ended) = with_notes ended.left (report_answer ended.done)
+work_answer word (Err fault) = opening_answer word fault
+
+-- what came of a change of the diversions, which notes no record
 abbrev pub ended_answer : List ℕ → Result Report NotOpened → Answer
 ended_answer word (Ok done) = report_answer done
 ended_answer word (Err fault) = opening_answer word fault
@@ -89,11 +96,11 @@ IsReadChange a word (Some text) P answer = answer ≡ bad_path_answer text
 
 -- packages are unpacked, or installed, and this has ended as its answer tells
 abbrev pub IsTreesAnswer : Around → Option ConfPolicy → Unpacking → Answer → Type 0
-IsTreesAnswer a policy u answer = (ended : Result Done NotOpened) × HasEndedAs a policy u ended × (answer ≡ trees_answer u.root ended)
+IsTreesAnswer a policy u answer = (ended : Result (Ended Done) NotOpened) × HasEndedAs a policy u ended × (answer ≡ trees_answer u.root ended)
 
 -- work on packages by their names has ended as its answer tells
 abbrev pub IsWorkAnswer : Around → List ℕ → Work → Answer → Type 0
-IsWorkAnswer a word asked answer = (ended : Result Report NotOpened) × HasEndedWork a word asked ended × (answer ≡ ended_answer word ended)
+IsWorkAnswer a word asked answer = (ended : Result (Ended Report) NotOpened) × HasEndedWork a word asked ended × (answer ≡ work_answer word ended)
 
 -- help is the screen of the topic, on standard output
 abbrev pub IsHelpAnswer : Topic → Answer → Type 0

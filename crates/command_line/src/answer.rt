@@ -8,17 +8,20 @@ ghost use Rattle.command_words.specs.Commands.{asked_of};
 ghost use Rattle.command_words.specs.Topics.{named_in};
 ghost use Rattle.command_line.specs.Changes.{HasEndedChange, IsDivertOf, IsUndivertOf, bad_of_divert, bad_of_undivert, is_good, owner_in};
 ghost use Rattle.command_line.specs.Packages.{HasEndedWork, HasWorkedUnder, work_of};
+ghost use Rattle.command_line.specs.Endings.{with_notes};
 ghost use Rattle.command_line.specs.Printing.{HasPrinted, IsLeft, output_left, status_left, units_answer, units_of};
 ghost use Rattle.command_line.specs.Queries.{IsInquired, IsQueryAnswer, bad_path_answer, inquiry_of};
-ghost use Rattle.command_line.specs.Reports.{HasEndedAs, IsAnswerOf, IsHelpAnswer, IsReadChange, comparison_answer, done_answer, ended_answer, has_units, memory_answer, names_answer, opens_root, prints, report_answer, trees_answer, version_answer};
+ghost use Rattle.command_line.specs.Reports.{HasEndedAs, IsAnswerOf, IsHelpAnswer, IsReadChange, comparison_answer, done_answer, ended_answer, has_units, memory_answer, names_answer, opens_root, prints, report_answer, trees_answer, version_answer, work_answer};
 ghost use Rattle.command_line.specs.Roots.{IsRootFault, around, locked_line, opening_answer};
 ghost use Rattle.command_line.specs.Unpacks.{HasUnpacked};
 ghost use Rattle.command_line.specs.declared.answer.Answer.{Answer as AnAnswer};
+ghost use Rattle.command_line.specs.declared.ending.Ended.{Ended as AnEnded};
 ghost use Rattle.command_line.specs.declared.fault.NotOpened.{NotOpened as ANotOpened};
 ghost use Rattle.command_line.specs.declared.printing.Flow.TheVariants.{Whole};
 ghost use Rattle.command_line.specs.declared.unpacking.Done.{Done as ADone};
 
 use crate::changing::{Change, change_under, diverting_in, undiverting_in};
+use crate::ending::Ended;
 use crate::fault::NotOpened;
 use crate::hosts::Hosts;
 use crate::packages::{Work, policy_of, work_under};
@@ -32,7 +35,8 @@ use command_words::{
 };
 use conffiles::ConfPolicy;
 use dpkg_session::{Report, Unit};
-use report_lines::{opening_line, report_status, report_text, unit_text};
+use host_core::HostFault;
+use report_lines::{notes_line, opening_line, report_status, report_text, unit_text};
 use shown_lines::line;
 use std::alloc::{AllocError, Global};
 use std::io::Write;
@@ -156,21 +160,37 @@ fn last_text(alloc: Global, last: &Option<Unit>) -> Result<String, AllocError>
     }
 }
 
+// The answer, with the notes that are left.
+fn with_notes(alloc: Global, answer: Answer, notes: Option<HostFault>) -> Result<Answer, AllocError>
+    ensures { IfOk result (λ told. told ≡ with_notes notes answer) }
+{
+    match notes {
+        None => Ok(answer),
+        Some(fault) => Ok(Answer {
+            output: answer.output,
+            error: Text::from_str(alloc, notes_line(fault))?,
+            status: FAILED,
+        }),
+    }
+}
+
 // What is left of the answer on units whose lines were written as they were finished.
 fn units_left(
     alloc: Global,
     flow: Flow,
     last: &Option<Unit>,
     status: u8,
+    notes: Option<HostFault>,
 ) -> Result<Left, AllocError>
     ensures left { (lines : List ℕ) (old new : Option (List ℕ)) → HasPrinted lines flow old new
-        → IsLeft (units_answer lines last.now status) old new result }
+        → IsLeft (with_notes notes (units_answer lines last.now status)) old new result }
     ensures bound { status ≤ 2 → IfOk result (λ left. status_left left ≤ 2) }
 {
     match flow {
         Flow::Whole => {
             let text = last_text(alloc, last)?;
-            Ok(Left::Rest(printed(alloc, text, status)))
+            let answer = printed(alloc, text, status);
+            Ok(Left::Rest(with_notes(alloc, answer, notes)?))
         }
         Flow::Cut => Ok(Left::Cut),
         Flow::Wanting => Err(AllocError),
@@ -223,14 +243,14 @@ fn unpack_telling<S: Hosts, O: Write>(
     unpacking: &Unpacking,
     policy: Option<ConfPolicy>,
     printer: &mut Printer<'_, O>,
-) -> Result<Done, NotOpened>
+) -> Result<Ended<Done>, NotOpened>
     ensures same_output { printer.new.out.ghost_name ≡ printer.old.out.ghost_name }
     ensures done { IfOk result (HasUnpacked (around S.Hosts hosts.old hosts.new) policy
         unpacking.now) }
     ensures refused { IfErr result (IsRootFault (around S.Hosts hosts.old hosts.new)
         unpacking.now.root) }
     ensures told { printer.old.flow ≡ Whole → IfOk
-        result (λ done. HasPrinted (flat_map unit_lines (units_of done)) printer.new.flow
+        result (λ ended. HasPrinted (flat_map unit_lines (units_of ended.done)) printer.new.flow
         (O.contents printer.old.out.now) (O.contents printer.new.out.now)) }
     ensures untold { OnErr result (printer.new ≡ printer.old) }
 {
@@ -244,7 +264,7 @@ fn unpacked<S: Hosts, O: Write>(
     policy: Option<ConfPolicy>,
     out: &mut O,
 ) -> Result<Left, AllocError>
-    ensures ended { (ended : Result ADone ANotOpened)
+    ensures ended { (ended : Result (AnEnded ADone) ANotOpened)
         × HasEndedAs (around S.Hosts hosts.old hosts.new) policy unpacking.now ended
         × IsLeft (trees_answer unpacking.now.root ended) (O.contents out.old) (O.contents out.new)
         result }
@@ -258,7 +278,13 @@ fn unpacked<S: Hosts, O: Write>(
     let ended = unpack_telling(alloc, hosts, unpacking, policy, &mut printer);
     let flow = printer.flow;
     match ended {
-        Ok(done) => units_left(alloc, flow, done.last(), done_status(&done)),
+        Ok(came) => units_left(
+            alloc,
+            flow,
+            came.done.last(),
+            done_status(&came.done),
+            came.left,
+        ),
         Err(fault) => whole(not_opened(alloc, &unpacking.root, &fault)),
     }
 }
@@ -288,13 +314,13 @@ fn work_telling<S: Hosts, O: Write>(
     streams: ScriptStreams,
     asked: &Work,
     printer: &mut Printer<'_, O>,
-) -> Result<Report, NotOpened>
+) -> Result<Ended<Report>, NotOpened>
     ensures same_output { printer.new.out.ghost_name ≡ printer.old.out.ghost_name }
     ensures done { IfOk result (HasWorkedUnder (around S.Hosts hosts.old hosts.new) root.now
         asked.now) }
     ensures refused { IfErr result (IsRootFault (around S.Hosts hosts.old hosts.new) root.now) }
     ensures told { printer.old.flow ≡ Whole → IfOk
-        result (λ done. HasPrinted (flat_map unit_lines done.units.items) printer.new.flow
+        result (λ ended. HasPrinted (flat_map unit_lines ended.done.units.items) printer.new.flow
         (O.contents printer.old.out.now) (O.contents printer.new.out.now)) }
     ensures untold { OnErr result (printer.new ≡ printer.old) }
 {
@@ -309,9 +335,9 @@ fn worked<S: Hosts, O: Write>(
     asked: &Work,
     out: &mut O,
 ) -> Result<Left, AllocError>
-    ensures ended { (ended : Result AReport ANotOpened)
+    ensures ended { (ended : Result (AnEnded AReport) ANotOpened)
         × HasEndedWork (around S.Hosts hosts.old hosts.new) root.now asked.now ended
-        × IsLeft (ended_answer root.now ended) (O.contents out.old) (O.contents out.new) result }
+        × IsLeft (work_answer root.now ended) (O.contents out.old) (O.contents out.new) result }
     ensures bound { IfOk result (λ left. status_left left ≤ 2) }
 {
     let mut printer = Printer {
@@ -322,7 +348,13 @@ fn worked<S: Hosts, O: Write>(
     let ended = work_telling(alloc, hosts, root, streams, asked, &mut printer);
     let flow = printer.flow;
     match ended {
-        Ok(done) => units_left(alloc, flow, &done.last, report_status(&done)),
+        Ok(came) => units_left(
+            alloc,
+            flow,
+            &came.done.last,
+            report_status(&came.done),
+            came.left,
+        ),
         Err(fault) => whole(not_opened(alloc, root, &fault)),
     }
 }
@@ -333,9 +365,9 @@ fn configured<S: Hosts, O: Write>(
     asked: Configuring,
     out: &mut O,
 ) -> Result<Left, AllocError>
-    ensures ended { (ended : Result AReport ANotOpened)
+    ensures ended { (ended : Result (AnEnded AReport) ANotOpened)
         × HasEndedWork (around S.Hosts hosts.old hosts.new) asked.root (work_of asked) ended
-        × IsLeft (ended_answer asked.root ended) (O.contents out.old) (O.contents out.new) result }
+        × IsLeft (work_answer asked.root ended) (O.contents out.old) (O.contents out.new) result }
     ensures bound { IfOk result (λ left. status_left left ≤ 2) }
 {
     let Configuring {
@@ -354,9 +386,9 @@ fn removed<S: Hosts, O: Write>(
     asked: Removing,
     out: &mut O,
 ) -> Result<Left, AllocError>
-    ensures ended { (ended : Result AReport ANotOpened)
+    ensures ended { (ended : Result (AnEnded AReport) ANotOpened)
         × HasEndedWork (around S.Hosts hosts.old hosts.new) asked.root (Work.Remove asked.names)
-        ended × IsLeft (ended_answer asked.root ended) (O.contents out.old) (O.contents out.new)
+        ended × IsLeft (work_answer asked.root ended) (O.contents out.old) (O.contents out.new)
         result }
     ensures bound { IfOk result (λ left. status_left left ≤ 2) }
 {
@@ -375,9 +407,9 @@ fn purged<S: Hosts, O: Write>(
     asked: Removing,
     out: &mut O,
 ) -> Result<Left, AllocError>
-    ensures ended { (ended : Result AReport ANotOpened)
+    ensures ended { (ended : Result (AnEnded AReport) ANotOpened)
         × HasEndedWork (around S.Hosts hosts.old hosts.new) asked.root (Work.Purge asked.names)
-        ended × IsLeft (ended_answer asked.root ended) (O.contents out.old) (O.contents out.new)
+        ended × IsLeft (work_answer asked.root ended) (O.contents out.old) (O.contents out.new)
         result }
     ensures bound { IfOk result (λ left. status_left left ≤ 2) }
 {

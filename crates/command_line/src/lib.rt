@@ -9,6 +9,11 @@
 //! opened on the host behind the root's word to the state in which this host was given back; or by
 //! why the administration couldn't be opened, with the state that this left.
 //!
+//! Behind the units of these commands, refused and failed ones too, the notes are merged into the
+//! status file before anything more is answered (`HasEnded`): where none stand nothing is done, and
+//! behind a unit that was broken off they stay. Where the merging is broken off that is told on
+//! standard error, with status 2, and the notes that are left are valid.
+//!
 //! For `install` it is the same with two reports, that of the unpacks and that of what was
 //! configured then, whose lines are told one after the other. For `configure`, `remove` and `purge`
 //! it tells likewise by the report of the units of the named packages. For `divert` and `undivert`
@@ -39,6 +44,7 @@
 mod answer;
 mod changing;
 mod command;
+mod ending;
 mod fault;
 mod hosts;
 mod packages;

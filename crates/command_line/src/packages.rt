@@ -1,11 +1,12 @@
 // Packages are configured, removed or purged by their names: the root is opened to do it.
-ghost use Rattle.std.specs.Prelude.{◌≡◌, ◌≤◌, false, IfErr, IfOk, OnErr, option_map};
+ghost use Rattle.std.specs.Prelude.{◌≡◌, ◌≤◌, false, IfErr, IfOk, OnErr, is_some, option_map};
 ghost use Rattle.unit_reports.specs.Held.{held_by};
 ghost use Rattle.unit_reports.specs.Watching.{IsTold};
-ghost use Rattle.command_line.specs.Packages.{HasWorked, HasWorkedUnder, IsWorkedOn, changed_of, policy_of};
+ghost use Rattle.command_line.specs.Packages.{HasWorked, HasWorkedToEnd, HasWorkedUnder, IsWorkedOn, changed_of, policy_of};
 ghost use Rattle.command_line.specs.Printing.{AreTold};
 ghost use Rattle.command_line.specs.Roots.{IsGivenUpOn, IsRootFault, around};
 
+use crate::ending::{Ended, end};
 use crate::fault::{NotOpened, RootFault};
 use crate::hosts::Hosts;
 use administration::AdministrationFault;
@@ -73,8 +74,10 @@ fn carry_out<H: Host, W: Watcher>(
 ) -> Result<Report, AllocError>
     requires { session.old.closed ≡ false }
     ensures done { IfOk result (λ done. HasWorked asked.now done
-        (held_by session.old.administration session.old.diversions) (H.state session.old.host)
+        (held_by session.old.administration session.old.diversions)
+        (held_by session.new.administration session.new.diversions) (H.state session.old.host)
         (H.state session.new.host)) }
+    ensures closes { IfOk result (λ done. session.new.closed ≡ is_some done.last) }
     ensures unmoved { OnErr result (H.state session.new.host ≡ H.state session.old.host) }
     ensures watched { IfOk result (λ done. IsTold W.tells (H.state session.old.host) watcher.old
         done.units.items watcher.new) }
@@ -96,6 +99,27 @@ fn carry_out<H: Host, W: Watcher>(
     }
 }
 
+// The work of an open session, and the end of the command behind it.
+fn work_to_end<H: Host, W: Watcher>(
+    alloc: Global,
+    session: &mut Session<H>,
+    asked: &Work,
+    watcher: &mut W,
+) -> Result<Ended<Report>, AllocError>
+    requires { session.old.closed ≡ false }
+    ensures done { IfOk result (λ ended. HasWorkedToEnd asked.now ended
+        (held_by session.old.administration session.old.diversions) (H.state session.old.host)
+        (H.state session.new.host)) }
+    ensures unmoved { OnErr result (H.state session.new.host ≡ H.state session.old.host) }
+    ensures watched { IfOk result (λ ended. IsTold W.tells (H.state session.old.host) watcher.old
+        ended.done.units.items watcher.new) }
+    ensures unwatched { OnErr result (watcher.new ≡ watcher.old) }
+{
+    let done = carry_out(alloc, session, asked, watcher)?;
+    let left = end(session, &done.last);
+    Ok(Ended { done, left })
+}
+
 // The work on the host of the root, which is given back.
 fn work_on<S: Hosts, W: Watcher>(
     alloc: Global,
@@ -103,19 +127,19 @@ fn work_on<S: Hosts, W: Watcher>(
     host: S::Opened,
     asked: &Work,
     watcher: &mut W,
-) -> Result<Report, AdministrationFault>
+) -> Result<Ended<Report>, AdministrationFault>
     ensures done { IfOk result (IsWorkedOn (S.left hosts.new) (S.Opened.state host) asked.now) }
     ensures refused { IfErr result (IsGivenUpOn (S.left hosts.new) (S.Opened.state host)) }
     ensures faults { S.faults hosts.old ≤ S.faults hosts.new }
-    ensures watched { IfOk result (λ done. AreTold W.tells watcher.old done.units.items
+    ensures watched { IfOk result (λ ended. AreTold W.tells watcher.old ended.done.units.items
         watcher.new) }
     ensures unwatched { OnErr result (watcher.new ≡ watcher.old) }
 {
     match Session::open(alloc, host) {
         Ok(mut session) => {
-            let done = carry_out(alloc, &mut session, asked, watcher);
+            let ended = work_to_end(alloc, &mut session, asked, watcher);
             hosts.close_root(session.into_host());
-            Ok(done?)
+            Ok(ended?)
         }
         Err((host, fault)) => {
             hosts.close_root(host);
@@ -133,17 +157,17 @@ pub(crate) fn work_under<S: Hosts, W: Watcher>(
     streams: ScriptStreams,
     asked: &Work,
     watcher: &mut W,
-) -> Result<Report, NotOpened>
+) -> Result<Ended<Report>, NotOpened>
     ensures done { IfOk result (HasWorkedUnder (around S.Hosts hosts.old hosts.new) root.now
         asked.now) }
     ensures refused { IfErr result (IsRootFault (around S.Hosts hosts.old hosts.new) root.now) }
-    ensures watched { IfOk result (λ done. AreTold W.tells watcher.old done.units.items
+    ensures watched { IfOk result (λ ended. AreTold W.tells watcher.old ended.done.units.items
         watcher.new) }
     ensures unwatched { OnErr result (watcher.new ≡ watcher.old) }
 {
     match hosts.open_root(root.as_str(), streams) {
         Ok(host) => match work_on(alloc, hosts, host, asked, watcher) {
-            Ok(done) => Ok(done),
+            Ok(ended) => Ok(ended),
             Err(fault) => Err(NotOpened::Opening(fault)),
         },
         Err(RootFault::Locked) => Err(NotOpened::Locked),

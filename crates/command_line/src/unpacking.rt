@@ -1,13 +1,14 @@
 // Trees: the root is opened, they are read one after another, and their packages are unpacked or installed.
-ghost use Rattle.std.specs.Prelude.{◌≡◌, ◌≤◌, IfErr, IfOk, OnErr, false};
+ghost use Rattle.std.specs.Prelude.{◌≡◌, ◌≤◌, IfErr, IfOk, OnErr, false, is_some};
 ghost use Rattle.std.specs.Vec.Iter.{into_iter_items};
 ghost use Rattle.unit_reports.specs.Held.{held_by};
 ghost use Rattle.unit_reports.specs.Watching.{IsTold};
 ghost use Rattle.command_line.specs.Printing.{AreTold, last_in, units_of};
 ghost use Rattle.command_line.specs.Reading.{HaveGoneOn};
 ghost use Rattle.command_line.specs.Roots.{around, IsGivenUpOn, IsRootFault};
-ghost use Rattle.command_line.specs.Unpacks.{HasRunTrees, HasUnpacked, IsUnpackedOn};
+ghost use Rattle.command_line.specs.Unpacks.{HasRunToEnd, HasRunTrees, HasUnpacked, IsUnpackedOn};
 
+use crate::ending::{Ended, end};
 use crate::fault::{NotOpened, RootFault};
 use crate::hosts::Hosts;
 use crate::packages::listed;
@@ -52,7 +53,9 @@ fn run_session<S: Hosts, W: Watcher>(
     ensures same_hosts { trees.new.hosts.ghost_name ≡ trees.old.hosts.ghost_name }
     ensures done { HasRunTrees (around S.Hosts trees.old.hosts.now trees.new.hosts.now) policy
         trees.old.asked.now result (held_by session.old.administration session.old.diversions)
+        (held_by session.new.administration session.new.diversions)
         (S.Opened.state session.old.host) (S.Opened.state session.new.host) }
+    ensures closes { session.new.closed ≡ is_some (last_in result) }
     ensures on { HaveGoneOn S.Hosts trees.old.hosts.now trees.new.hosts.now }
     ensures watched { IsTold W.tells (S.Opened.state session.old.host) watcher.old (units_of result)
         watcher.new }
@@ -78,7 +81,9 @@ fn run_trees<S: Hosts, W: Watcher>(
     requires { session.old.closed ≡ false }
     ensures done { IfOk result (λ done. HasRunTrees (around S.Hosts hosts.old hosts.new) policy
         unpacking.now done (held_by session.old.administration session.old.diversions)
+        (held_by session.new.administration session.new.diversions)
         (S.Opened.state session.old.host) (S.Opened.state session.new.host)) }
+    ensures closes { IfOk result (λ done. session.new.closed ≡ is_some (last_in done)) }
     ensures unread { OnErr result (S.Opened.state session.new.host ≡ S.Opened.state
         session.old.host) }
     ensures on { HaveGoneOn S.Hosts hosts.old hosts.new }
@@ -96,6 +101,31 @@ fn run_trees<S: Hosts, W: Watcher>(
     Ok(run_session(session, &mut trees, policy, watcher))
 }
 
+// What a session makes of trees, and the end of the command behind them.
+fn run_to_end<S: Hosts, W: Watcher>(
+    alloc: Global,
+    hosts: &mut S,
+    session: &mut Session<S::Opened>,
+    unpacking: &Unpacking,
+    policy: Option<ConfPolicy>,
+    watcher: &mut W,
+) -> Result<Ended<Done>, AllocError>
+    requires { session.old.closed ≡ false }
+    ensures done { IfOk result (λ ended. HasRunToEnd (around S.Hosts hosts.old hosts.new) policy
+        unpacking.now ended (held_by session.old.administration session.old.diversions)
+        (S.Opened.state session.old.host) (S.Opened.state session.new.host)) }
+    ensures unread { OnErr result (S.Opened.state session.new.host ≡ S.Opened.state
+        session.old.host) }
+    ensures on { HaveGoneOn S.Hosts hosts.old hosts.new }
+    ensures watched { IfOk result (λ ended. IsTold W.tells (S.Opened.state session.old.host)
+        watcher.old (units_of ended.done) watcher.new) }
+    ensures unwatched { OnErr result (watcher.new ≡ watcher.old) }
+{
+    let done = run_trees(alloc, hosts, session, unpacking, policy, watcher)?;
+    let left = end(session, done.last());
+    Ok(Ended { done, left })
+}
+
 // The units on the host of the root, which is given back.
 fn unpack_on<S: Hosts, W: Watcher>(
     alloc: Global,
@@ -104,20 +134,20 @@ fn unpack_on<S: Hosts, W: Watcher>(
     unpacking: &Unpacking,
     policy: Option<ConfPolicy>,
     watcher: &mut W,
-) -> Result<Done, AdministrationFault>
+) -> Result<Ended<Done>, AdministrationFault>
     ensures done { IfOk result (IsUnpackedOn (around S.Hosts hosts.old hosts.new)
         (S.Opened.state host) policy unpacking.now) }
     ensures refused { IfErr result (IsGivenUpOn (S.left hosts.new) (S.Opened.state host)) }
     ensures faults { S.faults hosts.old ≤ S.faults hosts.new }
-    ensures watched { IfOk result (λ done. AreTold W.tells watcher.old (units_of done)
+    ensures watched { IfOk result (λ ended. AreTold W.tells watcher.old (units_of ended.done)
         watcher.new) }
     ensures unwatched { OnErr result (watcher.new ≡ watcher.old) }
 {
     match Session::open(alloc, host) {
         Ok(mut session) => {
-            let done = run_trees(alloc, hosts, &mut session, unpacking, policy, watcher);
+            let ended = run_to_end(alloc, hosts, &mut session, unpacking, policy, watcher);
             hosts.close_root(session.into_host());
-            Ok(done?)
+            Ok(ended?)
         }
         Err((host, fault)) => {
             hosts.close_root(host);
@@ -134,19 +164,19 @@ pub(crate) fn unpack<S: Hosts, W: Watcher>(
     unpacking: &Unpacking,
     policy: Option<ConfPolicy>,
     watcher: &mut W,
-) -> Result<Done, NotOpened>
+) -> Result<Ended<Done>, NotOpened>
     ensures done { IfOk result (HasUnpacked (around S.Hosts hosts.old hosts.new) policy
         unpacking.now) }
     ensures refused { IfErr result (IsRootFault (around S.Hosts hosts.old hosts.new)
         unpacking.now.root) }
     ensures faults { S.faults hosts.old ≤ S.faults hosts.new }
-    ensures watched { IfOk result (λ done. AreTold W.tells watcher.old (units_of done)
+    ensures watched { IfOk result (λ ended. AreTold W.tells watcher.old (units_of ended.done)
         watcher.new) }
     ensures unwatched { OnErr result (watcher.new ≡ watcher.old) }
 {
     match hosts.open_root(unpacking.root.as_str(), unpacking.streams) {
         Ok(host) => match unpack_on(alloc, hosts, host, unpacking, policy, watcher) {
-            Ok(done) => Ok(done),
+            Ok(ended) => Ok(ended),
             Err(fault) => Err(NotOpened::Opening(fault)),
         },
         Err(RootFault::Locked) => Err(NotOpened::Locked),

@@ -14,9 +14,8 @@ ghost use Rattle.diversions.specs.Writing.{entry_text, table_text};
 use crate::entry::{Diversion, Owner};
 use crate::table::Table;
 use administration::{DIVERSIONS, replace};
-use host_core::{Access, Host, HostFault, Node, RootPath, ShipPath};
+use host_core::{Access, Content, Host, HostFault, Node, RootPath, ShipPath};
 use std::alloc::{AllocError, Global};
-use texts::Bytes;
 
 fn owner_line(owner: &Owner) -> &str
     ensures { result.now ≡ owner_line owner.now }
@@ -79,7 +78,7 @@ fn file_of(text: Vec<u8>) -> Node
     ensures { result ≡ File text.items (own_access 0o644) }
 {
     Node::File {
-        bytes: Bytes::new(text),
+        bytes: Content::new(text),
         access: Access {
             mode: 0o644,
             user: 0,

@@ -106,6 +106,14 @@ impl<'a, D: Disk> Host for Watched<'a, D> {
         self.host.barrier()
     }
 
+    fn sync_written(&mut self) -> Result<(), HostFault> {
+        self.host.sync_written()
+    }
+
+    fn sync_root(&mut self) -> Result<(), HostFault> {
+        self.host.sync_root()
+    }
+
     fn rename(&mut self, from: &RootPath, to: &RootPath) -> Result<(), HostFault> {
         self.host.rename(from, to)
     }

@@ -8,7 +8,7 @@ use Rattle.host_core.specs.World.{World, Barrier}
 use Rattle.host_core.specs.Events.{Ran, Did}
 use Rattle.host_core.specs.Host.{State, Does, Falls, Happens, Needs, Silent, Since}
 use Rattle.host_core.specs.Loss.{IsLater}
-use Rattle.host_core.proofs.Moments.{since_then, silent_then}
+use Rattle.host_core.proofs.Moments.{since_barrier, since_then, silent_then}
 use Rattle.host_core.specs.declared.fault.HostFault.{HostFault}
 use Rattle.host_core.specs.declared.fault.HostFault.TheVariants.{Device, NoMemory, Declined}
 use Rattle.undo_rows.specs.Transcripts.{Ended, MayRun}
@@ -24,6 +24,8 @@ use Rattle.unpack_plan.specs.Planned.{Planned}
 use Rattle.undo_rows.specs.declared.rows.Called.{Called}
 use Rattle.undo_rows.specs.declared.rows.Row.{Row}
 use Rattle.host_core.proofs.Barriers.{since_to_disk}
+use Rattle.opening.specs.Stopped.{BeginsOnDisk}
+use Rattle.opening.proofs.Brought.{begins_then}
 
 -- the unit of a package, with a barrier behind it
 
@@ -85,6 +87,10 @@ order_behind d lists m t goes order = λ h. subst (IsInOrder d lists) (sym goes.
 
 pub opening_to_disk : (result : Result Unit HostFault) (a b c : State) → Since (λ so_far. IsOpeningOrMerging a.world) a b → Does Barrier b c result → Since (λ so_far. IsOpeningOrMerging a.world) a c
 opening_to_disk result a b c first does = since_to_disk (λ so_far. IsOpeningOrMerging a.world) result a b c (λ x quiet w none is. is) first does
+
+-- what a stopped command has left was on the disk first, and then came a barrier
+pub brought_behind : (result : Result Unit HostFault) (a b c : State) → BeginsOnDisk a b → Does Barrier b c result → BeginsOnDisk a c
+brought_behind result a b c begins does = begins_then a b c begins (since_barrier (λ w. Unit {0}) result b c does (λ h. tt))
 
 -- where the barrier failed it is refused for that, and all else stands
 pub opens_stopped : (fault : HostFault) (given : AdministrationFault) (old now later : World) → given ≡ fault_of fault → later ≡ now → OpensAndMerges None old now → OpensAndMerges (Some given) old later

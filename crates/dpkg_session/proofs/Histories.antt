@@ -11,6 +11,7 @@ use Rattle.diversions.specs.Lines.{HasEntries}
 use Rattle.file_lists.specs.Info.{entry_path, IsSound}
 use Rattle.file_lists.specs.declared.paths.PackageList.{PackageList}
 use Rattle.opening.proofs.KeptLists.{has_lists_kept}
+use Rattle.opening.proofs.Merging.{found_noted}
 use Rattle.opening.specs.Opened.{IsFound}
 use Rattle.opening.specs.Parts.{names_of}
 use Rattle.status_db.proofs.NotedWorlds.{records_same}
@@ -19,7 +20,7 @@ use Rattle.status_db.specs.Notes.{note_path}
 use Rattle.status_db.specs.Recorded.{Recorded}
 use Rattle.status_records.specs.declared.record.Record.{Record}
 use Rattle.unit_reports.specs.Held.{Held}
-use Rattle.dpkg_session.specs.History.{Configured, Diverted, HasDone, Installed, IsCommand, IsHistory, KeepsRest, Ran, Removed, Stands, Undiverted, Unpacked}
+use Rattle.dpkg_session.specs.History.{Configured, Diverted, HasDone, Installed, IsCommand, IsHistory, KeepsRest, Merged, Ran, Removed, Stands, Undiverted, Unpacked}
 use Rattle.dpkg_session.proofs.Carries.{carries_found}
 use Rattle.dpkg_session.proofs.Configures.{configure_carries}
 use Rattle.dpkg_session.proofs.Found.{found_run}
@@ -80,6 +81,8 @@ done_stands (Undiverted asked unit) before after s t done h found =
     kept_rest before after t.world done.1 (found_undiverted before.records before.lists asked before.entries after.entries unit s t done.0 h found)
 done_stands (Configured names policy units) before after s t done h found = carries_found before after s t (configure_carries names policy units before after s t done) h found
 done_stands (Removed names purge units) before after s t done h found = carries_found before after s t (removal_carries names purge units before after s t done) h found
+done_stands Merged before after s t done h found =
+    subst (λ (x : Held). Stands x t.world) (sym done.0) (found_noted before.records.records before.records.notes before.lists before.entries s.world t.world found (done.1 h))
 done_stands (Installed auto candidates policy unpacked configured) before after s t done h found = install_found auto candidates policy unpacked configured before after s t done h found
 
 stands_command : (ran : Ran) (before after : Held) (old new : World) → IsCommand ran before after old new → Stands after new

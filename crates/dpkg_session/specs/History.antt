@@ -1,5 +1,5 @@
 -- Commands given one after another.
-use Rattle.std.specs.Prelude.{◌≡◌, ℕ, Bool, IsTrue, List, [], ◌∷◌, None, false}
+use Rattle.std.specs.Prelude.{◌≡◌, ℕ, Bool, IsTrue, List, [], ◌∷◌, None}
 use Rattle.conffiles.specs.declared.decisions.ConfPolicy.{ConfPolicy}
 use Rattle.configure_run.specs.Run.{IsConfigureRun}
 use Rattle.host_core.specs.Paths.{is_own}
@@ -8,10 +8,12 @@ use Rattle.host_core.specs.Host.{State}
 use Rattle.opening.specs.Opened.{IsFound}
 use Rattle.opening.specs.Parts.{OpensAndMerges}
 use Rattle.removal_run.specs.Run.{IsRemovalRun}
+use Rattle.status_db.specs.Noting.{AreNoted}
 use Rattle.dpkg_session.specs.declared.asked.Diverting.{Diverting}
 use Rattle.dpkg_session.specs.declared.asked.Undiverting.{Undiverting}
 use Rattle.dpkg_session.specs.declared.report.Candidate.{Candidate}
 use Rattle.unit_reports.specs.declared.report.Unit.{Unit as AUnit}
+use Rattle.dpkg_session.specs.Checkpoints.{merged}
 use Rattle.dpkg_session.specs.Diversions.{IsDiverted, IsUndiverted, seen_of}
 use Rattle.unit_reports.specs.Held.{Held}
 use Rattle.dpkg_session.specs.Installs.{IsInstall}
@@ -29,6 +31,8 @@ pub data Ran : Type 0 where
   Removed : (names : List (List ℕ)) (purge : Bool) (units : List AUnit) → Ran
   -- trees that were to be unpacked and configured, with the units of both
   Installed : (auto_deconfigure : Bool) (candidates : List Candidate) (policy : ConfPolicy) (unpacked configured : List AUnit) → Ran
+  -- the end of a command, behind its units: all notes were merged
+  Merged : Ran
 
 -- only the diversions may be others
 pub record KeepsRest (before after : Held) : Type 0 where
@@ -44,6 +48,7 @@ HasDone (Undiverted asked unit) before after s t = IsUndiverted asked before.ent
 HasDone (Configured names policy units) before after s t = IsConfigureRun names policy units before after s t
 HasDone (Removed names purge units) before after s t = IsRemovalRun names purge units before after s t
 HasDone (Installed auto_deconfigure candidates policy unpacked configured) before after s t = IsInstall auto_deconfigure candidates policy unpacked configured before after s t
+HasDone Merged before after s t = (after ≡ merged before) × (IsTrue t.honest → AreNoted before.records.records 0 s.world t.world)
 
 -- the administration stands for these records, lists and diversions, and all parts of it can be read
 abbrev pub Stands : Held → World → Type 0
@@ -59,10 +64,6 @@ pub record IsCommand (ran : Ran) (before after : Held) (old new : World) : Type 
   pub to : end.world ≡ new
   pub opened : Stands before old
   pub done : HasDone ran before after start end
-
--- what another session holds of the same administration once all notes are merged
-abbrev pub merged : Held → Held
-merged h = record { records = record { records = h.records.records; notes = 0; closed = false }; lists = h.lists; entries = h.entries }
 
 -- Between two commands any path but the program's own may have changed; and then another session may have been opened, which
 -- merges the notes.

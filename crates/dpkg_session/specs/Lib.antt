@@ -7,6 +7,7 @@ pub mod Trees
 pub mod Turns
 pub mod History
 pub mod PowerLoss
+pub mod Checkpoints
 pub mod Queries
 pub mod Diversions
 pub mod Asked

@@ -56,6 +56,11 @@
 //! closes the session, tells no call and no package, and is all that is reported (`broken`,
 //! `closes`); no script is called (`silent`, `told`), records and lists stay.
 //!
+//! `checkpoint` ends a command: the notes are merged into the status file, and that is on the disk
+//! (`merged`, `written`, `answered`); where none stand the host is as it was (`none`). At each
+//! moment of it, also where it is broken off or power is lost, the next opening finds the same
+//! records (`any_moment`, `loss`).
+//!
 //! `history_stands`: after any commands (unpacks, diversions that are added or taken away), with
 //! any change between them at other paths than the program's own, all parts of the administration
 //! can be read, and it stands for the records and diversions that the last of them left, and for
@@ -66,6 +71,7 @@
 #![tactic(auto)]
 
 mod asked;
+mod checkpointing;
 mod configuring;
 mod displacing;
 mod diverting;

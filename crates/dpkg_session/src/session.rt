@@ -8,6 +8,7 @@ ghost use Rattle.held_administration.specs.Open.{IsOpen};
 ghost use Rattle.opening.specs.Leaving.{IsOpeningOrMerging};
 ghost use Rattle.opening.specs.Opened.{IsOpened};
 ghost use Rattle.opening.specs.Parts.{OpensAndMerges, fault_in};
+ghost use Rattle.opening.specs.Stopped.{AfterAStop, BeginsOnDisk, BeginsOnDiskIfAtAll, IsBrought};
 ghost use Rattle.recorded_packages.specs.Packages.{ArePackagesOf};
 ghost use Rattle.unit_reports.specs.Held.{held_by};
 ghost use Rattle.unit_reports.specs.declared.report.Breakage.TheVariants.{Closed};
@@ -59,6 +60,7 @@ fn open_to_disk<H: Host>(alloc: Global, host: &mut H) -> Result<Opened, Administ
     ensures any_moment { AtEachMoment IsOpeningOrMerging (H.state host.old) (H.state host.new) }
     ensures silent { Silent (H.state host.old) (H.state host.new) }
     ensures counts { CountsAdministration (H.state host.old) (H.state host.new) result }
+    ensures brought { AfterAStop (IsBrought result) (H.state host.old) (H.state host.new) }
 {
     match open_administration(alloc, host) {
         Ok(opened) => match host.barrier() {
@@ -102,6 +104,10 @@ impl<H: Host> Session<H> {
         ensures silent_refused { IfErr result (λ e. Silent (H.state host) (H.state e.0)) }
         ensures no_fault { IfOk result (λ s. NoFault (H.state host) (H.state s.host)) }
         ensures counts { IfErr result (λ e. CountsRefusal e.1 (H.state host) (H.state e.0)) }
+        ensures brought { IfOk result (λ s. AfterAStop BeginsOnDisk (H.state host)
+            (H.state s.host)) }
+        ensures brought_refused { IfErr result (λ e. AfterAStop BeginsOnDiskIfAtAll (H.state host)
+            (H.state e.0)) }
         ensures closed { IfOk result (λ s. s.closed ≡ false) }
         ensures on_disk { IfOk result (λ s. IsOnDisk (H.state s.host).events) }
     {

@@ -12,9 +12,9 @@ use crate::index::Index;
 use crate::paths::Paths;
 use crate::table::Table;
 use administration::{list_path, replace};
-use host_core::{Access, Host, HostFault, Node, RootPath};
+use host_core::{Access, Content, Host, HostFault, Node, RootPath};
 use std::alloc::{AllocError, Global};
-use texts::{Bytes, Text};
+use texts::Text;
 
 fn line_of(path: &RootPath) -> &str
     ensures { result.now ≡ line_of path.now }
@@ -47,7 +47,7 @@ fn list_text(alloc: Global, paths: &[RootPath]) -> Result<Vec<u8>, AllocError>
 fn list_file(alloc: Global, paths: &[RootPath]) -> Result<Node, AllocError>
     ensures { IfOk result (λ node. node ≡ list_file paths.now) }
 {
-    let bytes = Bytes::new(list_text(alloc, paths)?);
+    let bytes = Content::new(list_text(alloc, paths)?);
     Ok(Node::File {
         bytes,
         access: Access::own(0o644),

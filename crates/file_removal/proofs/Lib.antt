@@ -1,5 +1,4 @@
 pub mod Visiting
-pub mod Bareness
 pub mod Removing
 pub mod Clears
 pub mod Leavings

@@ -8,13 +8,11 @@
 //! same removal finishes one that was stopped (`what_a_removal_leaves`).
 #![tactic(auto)]
 
-mod bare;
 mod clearing;
 mod laws;
 mod leaving;
 mod removal;
 
-pub use bare::is_bare;
 pub use clearing::{clear_name, clear_names};
 pub use laws::{what_a_clearing_leaves, what_a_removal_leaves};
 pub use leaving::Leaving;

@@ -4,8 +4,8 @@ ghost use Rattle.host_core.specs.Host.{AtEachMoment, Counts, Leaves, Silent};
 ghost use Rattle.file_removal.specs.Removal.{RemovedBy, IsRemovingBy, Removed, IsRemoving, RemovedDirectories, IsRemovingDirectories};
 ghost use Rattle.file_removal.specs.Visits.{IsVisited, IsVisiting};
 
-use crate::{Leaving, is_bare};
-use administration::{Standing, look};
+use crate::Leaving;
+use administration::{Standing, is_bare, look};
 use host_core::{Host, HostFault};
 
 // Takes away what stands at one listed path: a directory that has entries stays.

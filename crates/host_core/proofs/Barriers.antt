@@ -2,7 +2,7 @@
 use Rattle.std.specs.Prelude.{◌≡◌, List, [], ◌∷◌, ◌++◌, Result, Ok, Err, IsTrue}
 use Rattle.std.proofs.Common.{inl, inr, refl, sym, ap, subst, ◌∙◌}
 use Rattle.std.proofs.lemmas.List.{append-nil}
-use Rattle.host_core.specs.World.{World, Step, Barrier}
+use Rattle.host_core.specs.World.{World, Step, Barrier, SyncAll, SyncRoot, after, IsPart}
 use Rattle.host_core.specs.Events.{Event, Did, Failed, Denied, scripts_of, follow, follow_all}
 use Rattle.host_core.specs.Host.{State, Does, Happens, Since, Stops, Declines}
 use Rattle.host_core.specs.Loss.{IsAnswered, IsOnDisk}
@@ -18,16 +18,26 @@ on_disk s t goes = (s.events, [], goes.events, tt)
 pub answered_here : (s : State) → IsAnswered s s
 answered_here s = inr (record { honest = λ h. h; world = refl; added = []; failed = tt; events = sym (append-nil s.events) })
 
--- nothing changes in the world
-pub barrier_world : {T : Type 0} (result : Result T HostFault) (s t : State) → Does Barrier s t result → IsTrue t.honest → t.world ≡ s.world
-barrier_world (Ok x) s t does h = does.world
-barrier_world (Err Device) s t (Stops.nothing goes) h = goes.world
-barrier_world (Err Device) s t (Stops.some u is goes) h = elim (is h) [
-  | inl same ↦ goes.world ∙ ap (λ x. follow_all (Did x ∷ Failed ∷ []) s.world) same
-  | inr part ↦ absurd part
+-- a step that changes nothing, whole or in part
+pub still_world : {T : Type 0} (step : Step) (result : Result T HostFault) (s t : State) → ((w : World) → after step w ≡ w) → ((part : Step) → IsPart step part → ⊥) → Does step s t result → IsTrue t.honest
+    → t.world ≡ s.world
+still_world step (Ok x) s t still whole does h = does.world ∙ still s.world
+still_world step (Err Device) s t still whole (Stops.nothing goes) h = goes.world
+still_world step (Err Device) s t still whole (Stops.some u is goes) h = elim (is h) [
+  | inl same ↦ goes.world ∙ ap (λ x. follow_all (Did x ∷ Failed ∷ []) s.world) same ∙ still s.world
+  | inr part ↦ absurd (whole u part)
 ]
-barrier_world (Err NoMemory) s t does h = does.world
-barrier_world (Err Declined) s t does h = declined_world Barrier s t does h
+still_world step (Err NoMemory) s t still whole does h = does.world
+still_world step (Err Declined) s t still whole does h = declined_world step s t does h
+
+pub barrier_world : {T : Type 0} (result : Result T HostFault) (s t : State) → Does Barrier s t result → IsTrue t.honest → t.world ≡ s.world
+barrier_world result s t does h = still_world Barrier result s t (λ w. refl) (λ part is. is) does h
+
+pub sync_root_world : {T : Type 0} (result : Result T HostFault) (s t : State) → Does SyncRoot s t result → IsTrue t.honest → t.world ≡ s.world
+sync_root_world result s t does h = still_world SyncRoot result s t (λ w. refl) (λ part is. is) does h
+
+pub sync_all_world : {T : Type 0} (result : Result T HostFault) (s t : State) → Does SyncAll s t result → IsTrue t.honest → t.world ≡ s.world
+sync_all_world result s t does h = still_world SyncAll result s t (λ w. refl) (λ part is. is) does h
 
 -- what holds at each moment, and asks no more of what was done than which scripts were called and what they changed, goes on to
 -- hold

@@ -7,7 +7,7 @@ use Rattle.std.proofs.lemmas.List.{append-nil}
 use Rattle.std.specs.Str.{bytes_eq}
 use Rattle.std.proofs.lemmas.Slice.Eq.{bytes_eq-Decides}
 use Rattle.host_core.specs.Paths.{Path}
-use Rattle.host_core.specs.World.{World, Change, Avoids, Step, Write, Move, Take, MakeDir, RemoveDir, HardLink, MakeLink, Sync, Barrier, IsPart, SameOn, KeepsBut}
+use Rattle.host_core.specs.World.{World, Change, Avoids, Step, Write, Move, Take, MakeDir, RemoveDir, HardLink, MakeLink, Sync, Barrier, SyncAll, SyncRoot, IsPart, SameOn, KeepsBut}
 use Rattle.host_core.specs.Events.{Event, Did, Finished, Cut, Failed, Denied, follow, follow_all, IsCutOf, Ran, scripts_of, changes_of}
 use Rattle.host_core.specs.Unsynced.{unsynced, unsynced_all, unsynced_after, unsynced_step, marked, is_temporary, IsSettled, KeepsSettled}
 use Rattle.host_core.specs.Host.{State, AllFailed, Throughout, Since, Silent, Runs, Calls, finished, ScriptsBut, OnlyScripts}
@@ -90,6 +90,8 @@ part_unsynced (HardLink a b) t u part = absurd part
 part_unsynced (MakeLink p l) t u part = absurd part
 part_unsynced (Sync p) t u part = absurd part
 part_unsynced Barrier t u part = absurd part
+part_unsynced SyncAll t u part = absurd part
+part_unsynced SyncRoot t u part = absurd part
 
 cut_unsynced : (e d : Event) (u : Path → Bool) → IsCutOf e d → unsynced_after d u ≡ unsynced_after e u
 cut_unsynced (Did s) d u cut = ap (λ x. unsynced_after x u) cut.2 ∙ part_unsynced s cut.0 u cut.1
@@ -133,6 +135,8 @@ temporary_step events (RemoveDir p) owed all = all
 temporary_step events (MakeLink p t) owed all = temporary_marked (unsynced events) p false all (no false refl)
 temporary_step events (Sync p) owed all = temporary_marked (unsynced events) p false all (no false refl)
 temporary_step events Barrier owed all = all
+temporary_step events SyncAll owed all = λ q is. no false refl is
+temporary_step events SyncRoot owed all = all
 
 -- what is owed before a step is enough for a part of it
 pub keeps_part : (events : List Event) (s t : Step) → IsPart s t → KeepsSettled events s → KeepsSettled events t
@@ -147,6 +151,8 @@ keeps_part events (HardLink a b) t part owed = absurd part
 keeps_part events (MakeLink p l) t part owed = absurd part
 keeps_part events (Sync p) t part owed = absurd part
 keeps_part events Barrier t part owed = absurd part
+keeps_part events SyncAll t part owed = absurd part
+keeps_part events SyncRoot t part owed = absurd part
 
 -- the same of an event: only a step owes something
 abbrev pub EventKeepsSettled : List Event → Event → Type 0
@@ -660,6 +666,10 @@ settled_by old new s owed settled is = subst IsSettled (sym is) (settled_event o
 -- an event that is no step
 pub settled_still : (old new : List Event) (e : Event) → EventKeepsSettled old e → IsSettled old → new ≡ old ++ e ∷ [] → IsSettled new
 settled_still old new e owed settled is = subst IsSettled (sym is) (settled_event old e owed settled)
+
+-- once all files are on the disk, each is
+pub all_synced_by : (old new : List Event) → new ≡ old ++ Did SyncAll ∷ [] → (p : Path) → unsynced new p ≡ false
+all_synced_by old new is p = ap (λ l. unsynced l p) is ∙ ap (λ f. f p) (unsynced_more old (Did SyncAll))
 
 pub synced_by : (old new : List Event) (p : Path) → new ≡ old ++ Did (Sync p) ∷ [] → unsynced new p ≡ false
 synced_by old new p is = ap (λ l. unsynced l p) is ∙ ap (λ f. f p) (unsynced_more old (Did (Sync p))) ∙ ap (λ b. cond b false (unsynced old p)) ((bytes_eq-Decides p p).1 refl)

@@ -1,5 +1,5 @@
 -- What the calls of the system that were made so far say of a step's answer.
-use Rattle.std.proofs.Common.{◌≡◌, ◌≢◌, ℕ, inl, inr, Option, Some, None, List, [], ◌∷◌, ◌++◌, Result, Ok, Err, IfErr, refl, sym, ap, subst, ◌∙◌, append_assoc}
+use Rattle.std.proofs.Common.{◌≡◌, ◌≢◌, ℕ, Bool, inl, inr, Option, Some, None, List, [], ◌∷◌, ◌++◌, Result, Ok, Err, IfErr, refl, sym, ap, subst, ◌∙◌, append_assoc}
 use Rattle.std.proofs.lemmas.Bool.{false≢true}
 use Rattle.std.proofs.lemmas.List.{append-nil}
 use Rattle.std.specs.Fs.{metadata_mode}
@@ -10,9 +10,15 @@ use Rattle.host_core.specs.declared.fault.HostFault.{HostFault}
 use Rattle.host_core.specs.declared.fault.HostFault.TheVariants.{Device, NoMemory, Declined}
 use Rattle.host_files.specs.Faults.{IsOfStep, IsUndeclined}
 use Rattle.host_files.specs.SystemCalls.{changes_in, look_call}
-use Rattle.host_files.specs.Shown.{Adds, AddsFirst, IsAnsweredBy, IsAsked, IsBegun, IsMakingBy, IsTakenAway, IsUnmade, HasRenamed, IsRenamedBy, IsRenaming}
+use Rattle.host_files.specs.Shown.{Adds, AddsFirst, IsAnsweredBy, IsAsked, IsBegun, IsMakingBy, IsStepBy, IsTakenAway, HasRenamed, IsRenamedBy, IsRenaming, write_calls}
 use Rattle.host_files.specs.declared.trace.SystemCall.{SystemCall}
-use Rattle.host_files.specs.declared.trace.SystemCall.TheVariants.{Unlink}
+use Rattle.host_files.specs.declared.trace.SystemCall.TheVariants.{Create, Gone, Unlink}
+use Rattle.host_core.specs.Paths.{Path}
+use Rattle.host_core.specs.declared.content.Modified.{Modified}
+use Rattle.host_core.specs.declared.node.Access.{Access}
+use Rattle.host_core.specs.declared.node.Node.TheVariants.{File}
+use Rattle.host_files.specs.Places.{place_of}
+use Rattle.host_files.specs.declared.record.Asked.TheVariants as asked
 
 -- nothing was changed, so that all the changes are to come
 begun_none : (changing : List SystemCall → Type 0) (later made : List SystemCall) → changing later → changes_in made ≡ [] → IsBegun changing made
@@ -61,16 +67,23 @@ adds_some later more changes old new (Err Declined) failed step all some = (late
 more_made : (first : SystemCall) (rest later more : List SystemCall) → rest ≡ later ++ more → rest ++ first ∷ [] ≡ later ++ (more ++ first ∷ [])
 more_made first rest later more is = ap (λ (l : List SystemCall). l ++ first ∷ []) is ∙ append_assoc later more (first ∷ [])
 
-first_behind : (call : SystemCall) (rest older old new : List SystemCall) → changes_in old ≡ call ∷ changes_in older → AddsFirst rest old new → AddsFirst (rest ++ call ∷ []) older new
-first_behind call rest older old new is adds =
-    (adds.0, adds.1 ++ call ∷ [], more_made call rest adds.0 adds.1 adds.2, adds.3 ∙ ap (λ (l : List SystemCall). adds.1 ++ l) is ∙ sym (append_assoc adds.1 (call ∷ []) (changes_in older)))
+first_after : (before rest older old new : List SystemCall) → changes_in old ≡ before ++ changes_in older → AddsFirst rest old new → AddsFirst (rest ++ before) older new
+first_after before rest older old new is adds =
+    (adds.0, adds.1 ++ before, ap (λ (l : List SystemCall). l ++ before) adds.2 ∙ append_assoc adds.0 adds.1 before, adds.3 ∙ ap (λ (l : List SystemCall). adds.1 ++ l) is ∙ sym (append_assoc adds.1 before (changes_in older)))
 
--- what was added behind one call was added with it
-pub adds_behind : {T : Type 0} (call : SystemCall) (rest older old new : List SystemCall) (result : Result T HostFault) → changes_in old ≡ call ∷ changes_in older → IfErr result IsOfStep → Adds rest old new result → Adds (rest ++ call ∷ []) older new result
-adds_behind call rest older old new (Ok x) is step adds = adds ∙ ap (λ (l : List SystemCall). rest ++ l) is ∙ sym (append_assoc rest (call ∷ []) (changes_in older))
-adds_behind call rest older old new (Err Device) is step adds = first_behind call rest older old new is adds
-adds_behind call rest older old new (Err NoMemory) is step adds = absurd step
-adds_behind call rest older old new (Err Declined) is step adds = first_behind call rest older old new is adds
+-- what was added behind others was added with them
+pub adds_after : {T : Type 0} (before rest older old new : List SystemCall) (result : Result T HostFault) → changes_in old ≡ before ++ changes_in older → IfErr result IsOfStep → Adds rest old new result → Adds (rest ++ before) older new result
+adds_after before rest older old new (Ok x) is step adds = adds ∙ ap (λ (l : List SystemCall). rest ++ l) is ∙ sym (append_assoc rest before (changes_in older))
+adds_after before rest older old new (Err Device) is step adds = first_after before rest older old new is adds
+adds_after before rest older old new (Err NoMemory) is step adds = absurd step
+adds_after before rest older old new (Err Declined) is step adds = first_after before rest older old new is adds
+
+-- the first of them were made
+begun : {T : Type 0} (changes old new : List SystemCall) (result : Result T HostFault) → IsErr result → IfErr result IsOfStep → AddsFirst changes old new → Adds changes old new result
+begun changes old new (Ok x) failed step first = absurd (false≢true failed)
+begun changes old new (Err Device) failed step first = first
+begun changes old new (Err NoMemory) failed step first = absurd step
+begun changes old new (Err Declined) failed step first = first
 
 -- the first of them were made where one failed or was declined
 pub adds_first : (T : Type 0) (rest old new : List SystemCall) (fault : HostFault) → IsOfStep fault → Adds {T = T} rest old new (Err fault) → AddsFirst rest old new
@@ -78,22 +91,39 @@ adds_first T rest old new Device step adds = adds
 adds_first T rest old new NoMemory step adds = absurd step
 adds_first T rest old new Declined step adds = adds
 
--- a part of it failed
-pub made_some : (first undo : SystemCall) (rest old new : List SystemCall) → changes_in old ≡ first ∷ [] → AddsFirst rest old new → IsUnmade first undo (rest ++ first ∷ []) new
-made_some first undo rest old new is adds =
-    inl (adds.0, sym (more_made first rest adds.0 adds.1 adds.2 ∙ ap (λ (l : List SystemCall). adds.0 ++ l) (sym (adds.3 ∙ ap (λ (l : List SystemCall). adds.1 ++ l) is))))
+-- one of them failed or was declined behind these
+pub behind_begun : {T : Type 0} (U : Type 0) (before rest older old new : List SystemCall) (fault : HostFault) (result : Result T HostFault) → IsErr result → IfErr result IsOfStep → IsOfStep fault
+    → changes_in old ≡ before ++ changes_in older → Adds {T = U} rest old new (Err fault) → Adds (rest ++ before) older new result
+behind_begun U before rest older old new fault result failed step of is adds =
+    begun (rest ++ before) older new result failed step (first_after before rest older old new is (adds_first U rest old new fault of adds))
+
+-- one of them failed or was declined, so that those that were to come weren't made either
+pub before_begun : {T : Type 0} (U : Type 0) (later rest old new : List SystemCall) (fault : HostFault) (result : Result T HostFault) → IsErr result → IfErr result IsOfStep → IsOfStep fault
+    → Adds {T = U} rest old new (Err fault) → Adds (later ++ rest) old new result
+before_begun U later rest old new fault result failed step of adds =
+    let first = adds_first U rest old new fault of adds in
+    begun (later ++ rest) old new result failed step (later ++ first.0, first.1, ap (λ (l : List SystemCall). later ++ l) first.2 ∙ sym (append_assoc later first.0 first.1), first.3)
 
 -- it was taken away
-pub taken_away : (first undo : SystemCall) (rest old new made : List SystemCall) → changes_in old ≡ first ∷ [] → AddsFirst rest old new → changes_in made ≡ undo ∷ changes_in new → IsTakenAway first undo (rest ++ first ∷ []) made
-taken_away first undo rest old new made is adds taken =
-    (adds.0, adds.1, ap (λ (l : List SystemCall). l ++ first ∷ []) adds.2, taken ∙ ap (λ (l : List SystemCall). undo ∷ l) (adds.3 ∙ ap (λ (l : List SystemCall). adds.1 ++ l) is))
+pub taken_away : (first : SystemCall) (undone rest old new made : List SystemCall) → changes_in old ≡ first ∷ [] → AddsFirst rest old new → changes_in made ≡ undone ++ changes_in new → IsTakenAway first undone (rest ++ first ∷ []) made
+taken_away first undone rest old new made is adds taken =
+    (adds.0, adds.1, ap (λ (l : List SystemCall). l ++ first ∷ []) adds.2, taken ∙ ap (λ (l : List SystemCall). undone ++ l) (adds.3 ∙ ap (λ (l : List SystemCall). adds.1 ++ l) is))
 
 -- and the last call of that ended so
-pub unmade : (T : Type 0) (first undo : SystemCall) (rest old new made : List SystemCall) (fault : HostFault) → IsOfStep fault → changes_in old ≡ first ∷ [] → AddsFirst rest old new → changes_in made ≡ undo ∷ changes_in new
-    → IsMakingBy first undo (rest ++ first ∷ []) {T = T} made (Err fault)
-unmade T first undo rest old new made Device step is adds taken = inr (taken_away first undo rest old new made is adds taken)
-unmade T first undo rest old new made NoMemory step is adds taken = absurd step
-unmade T first undo rest old new made Declined step is adds taken = inr (taken_away first undo rest old new made is adds taken)
+pub unmade : (T : Type 0) (first undo : SystemCall) (rest old new made : List SystemCall) (fault : HostFault) → IsOfStep fault → changes_in old ≡ first ∷ [] → AddsFirst rest old new
+    → (fault ≡ Device → made ≡ undo ∷ new) → (fault ≡ Declined → made ≡ Gone ∷ undo ∷ new) → changes_in (undo ∷ new) ≡ undo ∷ changes_in new → IsMakingBy first undo (rest ++ first ∷ []) {T = T} made (Err fault)
+unmade T first undo rest old new made Device step is adds left gone change = inr (taken_away first (undo ∷ []) rest old new made is adds (ap changes_in (left refl) ∙ change))
+unmade T first undo rest old new made NoMemory step is adds left gone change = absurd step
+unmade T first undo rest old new made Declined step is adds left gone change =
+    inr (taken_away first (Gone ∷ undo ∷ []) rest old new made is adds (ap changes_in (gone refl) ∙ ap (λ (l : List SystemCall). Gone ∷ l) change))
+
+-- a file that was made so was written, whichever time it was given
+pub written_by : {T : Type 0} (front : List ℕ) (owners : Bool) (p : Path) (bytes : List ℕ) (access : Access) (modified : Option Modified) (made : List SystemCall) (result : Result T HostFault)
+    → IsMakingBy (Create (place_of front p)) (Unlink (place_of front p)) (write_calls owners (place_of front p) bytes access modified) made result → IsStepBy front owners (asked.Write p (File bytes access)) made result
+written_by front owners p bytes access modified made (Ok x) is = (modified, is)
+written_by front owners p bytes access modified made (Err Device) is = (modified, is)
+written_by front owners p bytes access modified made (Err NoMemory) is = is
+written_by front owners p bytes access modified made (Err Declined) is = (modified, is)
 
 -- the former of two names of one file was removed
 pub former_removed : {T : Type 0} (from to : List ℕ) (over : Option Metadata) (before made : List SystemCall) (result : Result T HostFault) → from ≢ to → IsSome over → changes_in before ≡ []

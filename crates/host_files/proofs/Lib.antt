@@ -1,6 +1,7 @@
 pub mod Walks
 pub mod Answered
 pub mod DirectoryLaws
+pub mod OnDisk
 pub mod Replayed
 pub mod RememberedLaws
 pub mod Supposed

@@ -39,6 +39,8 @@ known_step_more d (asked.HardLink a b) A B f k = ∥∥₁_map (f k.1) (λ b. (k
 known_step_more d (asked.MakeLink p target) A B f k = ∥∥₁_map (f k.1) (λ b. (k.0, b))
 known_step_more d (asked.Sync p) A B f k = f k
 known_step_more d asked.Barrier A B f k = f k
+known_step_more d asked.SyncAll A B f k = f k
+known_step_more d asked.SyncRoot A B f k = f k
 
 known_more : (d : Path) (n : Noted) (A B : Type 0) → (A → ∥ B ∥₁) → IsKnownBy d n A → ∥ IsKnownBy d n B ∥₁
 known_more d (was.Looked p found) A B f (inl seen) = ∣ inl seen ∣₁
@@ -63,6 +65,8 @@ new_step_more g (asked.HardLink a b) A B f k = ∥∥₁_map (f k.2) (λ b. (k.0
 new_step_more g (asked.MakeLink p target) A B f k = ∥∥₁_map (f k.1) (λ b. (k.0, b))
 new_step_more g (asked.Sync p) A B f k = f k
 new_step_more g asked.Barrier A B f k = f k
+new_step_more g asked.SyncAll A B f k = f k
+new_step_more g asked.SyncRoot A B f k = f k
 
 new_more : (g : Path) (n : Noted) (A B : Type 0) → (A → ∥ B ∥₁) → IsNewBy g n A → ∥ IsNewBy g n B ∥₁
 new_more g (was.Looked p found) A B f k = f k
@@ -140,6 +144,8 @@ module _ (m : Model) (sound : IsSound m) where
       other IsDirectory (replay m h).world p d (Some (Link target)) apart (known_stands d h known (before (was.Done (asked.MakeLink p target)) h honest))
   known_stands d (was.Done (asked.Sync p) ∷ h) known honest = known_stands d h known (before (was.Done (asked.Sync p)) h honest)
   known_stands d (was.Done asked.Barrier ∷ h) known honest = known_stands d h known (before (was.Done asked.Barrier) h honest)
+  known_stands d (was.Done asked.SyncAll ∷ h) known honest = known_stands d h known (before (was.Done asked.SyncAll) h honest)
+  known_stands d (was.Done asked.SyncRoot ∷ h) known honest = known_stands d h known (before (was.Done asked.SyncRoot) h honest)
   known_stands d (was.Undone a ∷ h) known honest = absurd known
   known_stands d (was.Declined a ∷ h) known honest = absurd known
   known_stands d (was.Ended call kept outcome ∷ h) known honest = absurd known
@@ -167,6 +173,8 @@ module _ (m : Model) (sound : IsSound m) where
       other IsSome (replay m h).world p g (Some (Link target)) apart (new_stands g h new (before (was.Done (asked.MakeLink p target)) h honest))
   new_stands g (was.Done (asked.Sync p) ∷ h) new honest = new_stands g h new (before (was.Done (asked.Sync p)) h honest)
   new_stands g (was.Done asked.Barrier ∷ h) new honest = new_stands g h new (before (was.Done asked.Barrier) h honest)
+  new_stands g (was.Done asked.SyncAll ∷ h) new honest = new_stands g h new (before (was.Done asked.SyncAll) h honest)
+  new_stands g (was.Done asked.SyncRoot ∷ h) new honest = new_stands g h new (before (was.Done asked.SyncRoot) h honest)
   new_stands g (was.Undone a ∷ h) new honest = absurd new
   new_stands g (was.Declined a ∷ h) new honest = absurd new
   new_stands g (was.Ended call kept outcome ∷ h) new honest = absurd new

@@ -2,7 +2,7 @@
 use Rattle.std.proofs.Common.{◌≡◌, ◌⊎◌, inl, inr, Bool, true, false, ◌&&◌, IsTrue, List, [], ◌∷◌, ◌++◌, Option, Some, None, Result, Ok, Err, OnOk, refl, sym, ap, subst, ◌∙◌, append_assoc}
 use Rattle.std.proofs.lemmas.Bool.{false≢true}
 use Rattle.std.proofs.lemmas.List.{append-nil}
-use Rattle.host_core.specs.World.{Step, Write, Move, Take, MakeDir, RemoveDir, HardLink, MakeLink, Sync, Barrier, IsPart, is_kept, undo_of}
+use Rattle.host_core.specs.World.{Step, Write, Move, Take, MakeDir, RemoveDir, HardLink, MakeLink, Sync, Barrier, SyncAll, SyncRoot, IsPart, is_kept, undo_of}
 use Rattle.host_core.specs.Events.{Event, Did, Finished, Cut, Failed, Denied}
 use Rattle.host_core.specs.Unsynced.{IsSettled, KeepsSettled}
 use Rattle.host_core.proofs.Losses.{settled_none, settled_event, keeps_part}
@@ -107,6 +107,8 @@ module _ (m : Model) where
     undo_owed events (MakeLink p t) = tt
     undo_owed events (Sync p) = tt
     undo_owed events Barrier = tt
+    undo_owed events SyncAll = tt
+    undo_owed events SyncRoot = tt
 
     -- a step that was declined, at the end
     settled_declining : (a : Asked) (events : List Event) (w : _) (left : Option Step) → IsTakenBack (step_of a) w left → KeepsSettled events (step_of a) → IsSettled events → IsSettled (events ++ declining a left)

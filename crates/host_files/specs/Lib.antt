@@ -6,6 +6,7 @@ pub mod Commands
 pub mod SystemCalls
 pub mod Notes
 pub mod Remembered
+pub mod Unsynced
 pub mod Shown
 pub mod Replay
 pub mod FilesState

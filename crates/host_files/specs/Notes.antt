@@ -22,6 +22,8 @@ asked_by (asks.HardLink a b) = asked.HardLink a.now b.now
 asked_by (asks.MakeLink p t) = asked.MakeLink p.now t.now
 asked_by (asks.Sync p) = asked.Sync p.now
 asked_by asks.Barrier = asked.Barrier
+asked_by asks.SyncAll = asked.SyncAll
+asked_by asks.SyncRoot = asked.SyncRoot
 
 abbrev pub noted : Note → Noted
 noted (note.Looked p n) = was.Looked p.now n.now

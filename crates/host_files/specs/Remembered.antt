@@ -20,6 +20,8 @@ IsKnownByStep d (asked.HardLink a b) before = (b ≢ d) × before
 IsKnownByStep d (asked.MakeLink p target) before = (p ≢ d) × before
 IsKnownByStep d (asked.Sync p) before = before
 IsKnownByStep d asked.Barrier before = before
+IsKnownByStep d asked.SyncAll before = before
+IsKnownByStep d asked.SyncRoot before = before
 
 -- It is known by a call: it was seen, or something below it, or it was known before. After a script, a fault and a step that was declined nothing is.
 abbrev pub IsKnownBy : Path → Noted → Type 0 → Type 0
@@ -49,6 +51,8 @@ IsNewByStep f (asked.HardLink a b) before = (a ≢ f) × (b ≢ f) × before
 IsNewByStep f (asked.MakeLink p target) before = (p ≢ f) × before
 IsNewByStep f (asked.Sync p) before = before
 IsNewByStep f asked.Barrier before = before
+IsNewByStep f asked.SyncAll before = before
+IsNewByStep f asked.SyncRoot before = before
 
 -- It is new by a call. After a script, a fault and a step that was declined none is.
 abbrev pub IsNewBy : Path → Noted → Type 0 → Type 0

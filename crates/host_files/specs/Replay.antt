@@ -1,7 +1,7 @@
 -- What the calls of a real directory and their answers say of it.
 use Rattle.std.specs.Prelude.{◌≡◌, ◌⊎◌, Bool, false, ◌&&◌, IsTrue, List, [], ◌∷◌, ◌++◌, Option, Some, None}
 use Rattle.std.proofs.lemmas.Bool.{false≢true}
-use Rattle.host_core.specs.World.{World, Change, Avoids, Step, Write, Move, Take, MakeDir, RemoveDir, HardLink, MakeLink, Sync, Barrier, after, kind_of, undo_of, IsPart, is_kept}
+use Rattle.host_core.specs.World.{World, Change, Avoids, Step, Write, Move, Take, MakeDir, RemoveDir, HardLink, MakeLink, Sync, Barrier, SyncAll, SyncRoot, after, kind_of, undo_of, IsPart, is_kept}
 use Rattle.host_core.specs.Paths.{Path}
 use Rattle.host_core.specs.Events.{Event, Did, Finished, Cut, Failed, Denied, follow_all}
 use Rattle.host_core.specs.Unsynced.{KeepsSettled}
@@ -33,6 +33,8 @@ step_of (asked.HardLink a b) = HardLink a b
 step_of (asked.MakeLink p t) = MakeLink p t
 step_of (asked.Sync p) = Sync p
 step_of asked.Barrier = Barrier
+step_of asked.SyncAll = SyncAll
+step_of asked.SyncRoot = SyncRoot
 
 abbrev pub failing : Option Step → List Event
 failing None = Failed ∷ []
@@ -49,6 +51,8 @@ path_of (asked.HardLink a b) = a
 path_of (asked.MakeLink p t) = p
 path_of (asked.Sync p) = p
 path_of asked.Barrier = []
+path_of asked.SyncAll = []
+path_of asked.SyncRoot = []
 
 -- nothing was done of a step that was declined, or a part, which was taken away
 abbrev pub declining : Asked → Option Step → List Event

@@ -1,6 +1,7 @@
 -- Which calls of the system stand behind a call of the host and its answer, the newest first.
-use Rattle.std.specs.Prelude.{◌≡◌, ◌≢◌, ◌⊎◌, ℕ, ℤ, Bool, true, false, List, [], ◌∷◌, ◌++◌, Option, Some, None, Result, Ok, Err, String, string_bytes, map, reverse}
+use Rattle.std.specs.Prelude.{◌≡◌, ◌≢◌, ◌⊎◌, ℕ, ℤ, Bool, true, false, List, [], ◌∷◌, ◌++◌, Option, Some, None, Result, Ok, Err, String, string_bytes, map, reverse, codes, Contains}
 use Rattle.std.specs.BTreeSet.{BTreeSet}
+use Rattle.std.specs.List.{All}
 use Rattle.std.specs.Fs.{file_type, IsFile, IsSymlink}
 use Rattle.std.specs.declared.alloc.Global.{Global}
 use Rattle.std.specs.declared.fs.Metadata.{Metadata}
@@ -11,6 +12,7 @@ use Rattle.host_core.specs.declared.call.Outcome.{Outcome}
 use Rattle.host_core.specs.declared.call.Outcome.TheVariants.{NotStarted}
 use Rattle.host_core.specs.declared.fault.HostFault.{HostFault}
 use Rattle.host_core.specs.declared.fault.HostFault.TheVariants.{Device, NoMemory, Declined}
+use Rattle.host_core.specs.declared.content.Modified.{Modified}
 use Rattle.host_core.specs.declared.node.Access.{Access}
 use Rattle.host_core.specs.declared.node.Kind.{Kind}
 use Rattle.host_core.specs.declared.node.Node.{Node}
@@ -21,29 +23,41 @@ use Rattle.host_files.specs.Entries.{IsNodeOf, IsKindOf}
 use Rattle.host_files.specs.Places.{place_of, place_in}
 use Rattle.host_files.specs.Remembered.{IsNew}
 use Rattle.host_files.specs.SystemCalls.{changes_in, Looks, start_call}
+use Rattle.host_files.specs.Unsynced.{IsListed, is_readable}
 use Rattle.host_files.specs.declared.record.Asked.{Asked}
 use Rattle.host_files.specs.declared.record.Asked.TheVariants as asked
 use Rattle.host_files.specs.declared.record.Noted.{Noted}
 use Rattle.host_files.specs.declared.record.Noted.TheVariants as was
 use Rattle.host_files.specs.declared.trace.SystemCall.{SystemCall}
 use Rattle.host_files.specs.declared.trace.SystemCall.TheVariants as ask
+use Rattle.host_files.specs.declared.written.Unsynced.{Unsynced}
 
--- what gives a new file or directory its access: a change of the owner takes bits of the mode away, so it comes first
-abbrev pub access_calls : Bool → List ℕ → Access → List SystemCall
-access_calls true place access = ask.SetMode place access.mode ∷ ask.SetOwner place access.user access.group ∷ []
-access_calls false place access = ask.SetMode place access.mode ∷ []
+-- what gives a new file or directory its access, by what is open of it: a change of the owner takes bits of the mode away, so it comes
+-- first
+abbrev pub access_calls : Bool → Access → List SystemCall
+access_calls true access = ask.SetModeMade access.mode ∷ ask.SetOwnerMade access.user access.group ∷ []
+access_calls false access = ask.SetModeMade access.mode ∷ []
 
--- what gives a new file its bytes and its access
-abbrev pub fill_calls : Bool → List ℕ → List ℕ → Access → List SystemCall
-fill_calls owners place bytes access = access_calls owners place access ++ ask.Append bytes ∷ []
+-- what sets when a new file was last modified, where that is to be kept
+abbrev pub time_calls : Option Modified → List SystemCall
+time_calls (Some time) = ask.SetTimeMade time ∷ []
+time_calls None = []
+
+-- what gives a new file its bytes, its access and its time
+abbrev pub fill_calls : Bool → List ℕ → Access → Option Modified → List SystemCall
+fill_calls owners bytes access modified = time_calls modified ++ (access_calls owners access ++ ask.Append bytes ∷ [])
 
 -- what writes a file where nothing stands
-abbrev pub write_calls : Bool → List ℕ → List ℕ → Access → List SystemCall
-write_calls owners place bytes access = fill_calls owners place bytes access ++ ask.Create place ∷ []
+abbrev pub write_calls : Bool → List ℕ → List ℕ → Access → Option Modified → List SystemCall
+write_calls owners place bytes access modified = fill_calls owners bytes access modified ++ ask.Create place ∷ []
+
+-- what gives a new directory its access
+abbrev pub opened_calls : Bool → List ℕ → Access → List SystemCall
+opened_calls owners place access = access_calls owners access ++ ask.OpenMade place ∷ []
 
 -- what makes a directory where nothing stands
 abbrev pub directory_calls : Bool → List ℕ → Access → List SystemCall
-directory_calls owners place access = access_calls owners place access ++ ask.MakeDirectory place ∷ []
+directory_calls owners place access = opened_calls owners place access ++ ask.MakeDirectory place ∷ []
 
 -- of some changes more the first were made
 abbrev pub AddsFirst : List SystemCall → List SystemCall → List SystemCall → Type 0
@@ -91,20 +105,20 @@ IsBegun changing made = (later : List SystemCall) × changing (later ++ changes_
 abbrev pub IsAsked : (List SystemCall → Type 0) → List SystemCall → Type 0
 IsAsked changing made = changing (changes_in made)
 
--- of some changes the first and maybe more were made, and then what they made was to be taken away
-abbrev pub IsTakenAway : (first undo : SystemCall) → (changes made : List SystemCall) → Type 0
-IsTakenAway first undo changes made =
-    (later more : List SystemCall) × (changes ≡ later ++ more ++ first ∷ []) × (changes_in made ≡ undo ∷ more ++ first ∷ [])
+-- of some changes the first and maybe more were made, and then this was made to take that away
+abbrev pub IsTakenAway : (first : SystemCall) → (undone changes made : List SystemCall) → Type 0
+IsTakenAway first undone changes made =
+    (later more : List SystemCall) × (changes ≡ later ++ more ++ first ∷ []) × (changes_in made ≡ undone ++ (more ++ first ∷ []))
 
 -- Something is made by these changes, the first of them makes it, and the last of these calls takes it away. Where that fails too
 -- the device has failed.
 module _ (first undo : SystemCall) (changes : List SystemCall) where
   abbrev pub IsUnmade : List SystemCall → Type 0
-  IsUnmade made = IsBegun (λ all. all ≡ changes) made ⊎ IsTakenAway first undo changes made
+  IsUnmade made = IsBegun (λ all. all ≡ changes) made ⊎ IsTakenAway first (undo ∷ []) changes made
 
-  -- declined at once, or taken away
+  -- declined at once, or taken away and gone
   abbrev pub IsNotMade : List SystemCall → Type 0
-  IsNotMade made = (changes_in made ≡ first ∷ []) ⊎ IsTakenAway first undo changes made
+  IsNotMade made = (changes_in made ≡ first ∷ []) ⊎ IsTakenAway first (ask.Gone ∷ undo ∷ []) changes made
 
   abbrev pub IsMakingBy : {T : Type 0} → List SystemCall → Result T HostFault → Type 0
   IsMakingBy made result = IsAnsweredBy (λ m. changes_in m ≡ changes) IsUnmade IsNotMade made result
@@ -121,6 +135,34 @@ IsSyncedBy place made result = IsAnsweredBy (HasSynced place) (IsBegun (λ all. 
 abbrev pub sync_calls : List ℕ → List (String Global) → List SystemCall
 sync_calls front directories = map (λ directory. ask.SyncDirectory (place_of front (string_bytes directory))) (reverse directories)
 
+-- the syncs of the directories of the administration
+abbrev pub administration_calls : List ℕ → List SystemCall
+administration_calls front =
+    ask.SyncDirectory (place_of front (codes "/var/lib/dpkg/updates"))
+    ∷ ask.SyncDirectory (place_of front (codes "/var/lib/dpkg/info"))
+    ∷ ask.SyncDirectory (place_of front (codes "/var/lib/dpkg")) ∷ []
+
+-- all of every file system was brought to the disk, or these directories and those of the administration
+abbrev pub IsRootBrought : List ℕ → List (String Global) → List SystemCall → Type 0
+IsRootBrought front directories made = (made ≡ ask.SyncSystem ∷ []) ⊎ (made ≡ administration_calls front ++ sync_calls front directories)
+
+-- a file was synced by itself, or with all of the file system that it lies on
+abbrev pub IsOnDisk : List ℕ → List SystemCall → Unsynced → Type 0
+IsOnDisk front made file =
+    Contains made (ask.SyncFile (place_of front file.path)) ⊎ ((place : List ℕ) × Contains made (ask.SyncDevice file.identity.device place))
+
+abbrev pub AreOnDisk : List ℕ → List Unsynced → List SystemCall → Type 0
+AreOnDisk front files made = All (IsOnDisk front made) files
+
+-- the last call synced a file that was just written, unless it can be opened again
+abbrev pub IsSyncedUnread : Bool → Access → List SystemCall → Type 0
+IsSyncedUnread owners access made = is_readable owners access ≡ false → (before : List SystemCall) × (made ≡ ask.SyncMade ∷ before)
+
+abbrev pub IsSyncedWhole : Bool → Node → List SystemCall → Type 0
+IsSyncedWhole owners (File bytes access) made = IsSyncedUnread owners access made
+IsSyncedWhole owners (Dir access) made = Unit {0}
+IsSyncedWhole owners (Link target) made = Unit {0}
+
 -- the directories of the names that a step changes are among these, which the next barrier syncs
 abbrev pub IsRemembered : BTreeSet (String Global) → Asked → Type 0
 IsRemembered directories (asked.Write p node) = HasDirectoryOf directories p
@@ -132,6 +174,8 @@ IsRemembered directories (asked.HardLink a b) = HasDirectoryOf directories b
 IsRemembered directories (asked.MakeLink p target) = HasDirectoryOf directories p
 IsRemembered directories (asked.Sync p) = Unit {0}
 IsRemembered directories asked.Barrier = Unit {0}
+IsRemembered directories asked.SyncAll = Unit {0}
+IsRemembered directories asked.SyncRoot = Unit {0}
 
 -- something was seen at a place
 abbrev pub IsLookedAt : List ℕ → List SystemCall → Type 0
@@ -148,11 +192,13 @@ IsSure front earlier (asked.HardLink a b) made = Unit {0}
 IsSure front earlier (asked.MakeLink p target) made = Unit {0}
 IsSure front earlier (asked.Sync p) made = IsLookedAt (place_of front p) made ⊎ ∥ IsNew p earlier ∥₁
 IsSure front earlier asked.Barrier made = Unit {0}
+IsSure front earlier asked.SyncAll made = Unit {0}
+IsSure front earlier asked.SyncRoot made = Unit {0}
 
 module _ (front : List ℕ) (owners : Bool) where
   -- the changes of a step
   abbrev pub IsChanging : Asked → List SystemCall → Type 0
-  IsChanging (asked.Write p (File bytes access)) made = made ≡ write_calls owners (place_of front p) bytes access
+  IsChanging (asked.Write p (File bytes access)) made = (modified : Option Modified) × (made ≡ write_calls owners (place_of front p) bytes access modified)
   IsChanging (asked.Write p (Dir access)) made = ⊥
   IsChanging (asked.Write p (Link target)) made = ⊥
   IsChanging (asked.Move a b) made = IsRenaming (place_of front a) (place_of front b) made
@@ -163,6 +209,8 @@ module _ (front : List ℕ) (owners : Bool) where
   IsChanging (asked.MakeLink p target) made = made ≡ ask.MakeLink target (place_of front p) ∷ []
   IsChanging (asked.Sync p) made = made ≡ []
   IsChanging asked.Barrier made = made ≡ []
+  IsChanging asked.SyncAll made = made ≡ []
+  IsChanging asked.SyncRoot made = made ≡ []
 
   -- a step that was done
   abbrev pub IsDoneBy : Asked → List SystemCall → Type 0
@@ -175,23 +223,29 @@ module _ (front : List ℕ) (owners : Bool) where
   IsDoneBy (asked.MakeLink p target) made = IsChanging (asked.MakeLink p target) (changes_in made)
   IsDoneBy (asked.Sync p) made = HasSynced (place_of front p) made
   IsDoneBy asked.Barrier made = IsChanging asked.Barrier (changes_in made)
+  IsDoneBy asked.SyncAll made = IsChanging asked.SyncAll (changes_in made)
+  IsDoneBy asked.SyncRoot made = IsChanging asked.SyncRoot (changes_in made)
 
-  -- at a barrier each of these directories was synced, the last of them last
-  abbrev pub IsBrought : BTreeSet (String Global) → Asked → List SystemCall → Type 0
-  IsBrought directories (asked.Write p node) made = Unit {0}
-  IsBrought directories (asked.Move a b) made = Unit {0}
-  IsBrought directories (asked.Take p) made = Unit {0}
-  IsBrought directories (asked.MakeDir p access) made = Unit {0}
-  IsBrought directories (asked.RemoveDir p) made = Unit {0}
-  IsBrought directories (asked.HardLink a b) made = Unit {0}
-  IsBrought directories (asked.MakeLink p target) made = Unit {0}
-  IsBrought directories (asked.Sync p) made = Unit {0}
-  IsBrought directories asked.Barrier made = made ≡ sync_calls front directories.keys
+  -- What is promised of the disk: a file that was written is listed, or else it was synced as it was written; when all that were
+  -- written are brought there each that is listed is, at a barrier each of these directories, and when the root is they or all.
+  abbrev pub IsBrought : BTreeSet (String Global) → List Unsynced → Asked → List SystemCall → Type 0
+  IsBrought directories files (asked.Write p node) made = IsListed owners files p node × IsSyncedWhole owners node made
+  IsBrought directories files (asked.Move a b) made = Unit {0}
+  IsBrought directories files (asked.Take p) made = Unit {0}
+  IsBrought directories files (asked.MakeDir p access) made = Unit {0}
+  IsBrought directories files (asked.RemoveDir p) made = Unit {0}
+  IsBrought directories files (asked.HardLink a b) made = Unit {0}
+  IsBrought directories files (asked.MakeLink p target) made = Unit {0}
+  IsBrought directories files (asked.Sync p) made = Unit {0}
+  IsBrought directories files asked.Barrier made = made ≡ sync_calls front directories.keys
+  IsBrought directories files asked.SyncAll made = AreOnDisk front files made
+  IsBrought directories files asked.SyncRoot made = IsRootBrought front directories.keys made
 
   -- a step that failed
   abbrev pub IsBegunBy : Asked → List SystemCall → Type 0
   IsBegunBy (asked.Write p (File bytes access)) made =
-      IsUnmade (ask.Create (place_of front p)) (ask.Unlink (place_of front p)) (write_calls owners (place_of front p) bytes access) made
+      (modified : Option Modified)
+      × IsUnmade (ask.Create (place_of front p)) (ask.Unlink (place_of front p)) (write_calls owners (place_of front p) bytes access modified) made
   IsBegunBy (asked.Write p (Dir access)) made = ⊥
   IsBegunBy (asked.Write p (Link target)) made = ⊥
   IsBegunBy (asked.Move a b) made = IsBegun (IsChanging (asked.Move a b)) made
@@ -203,11 +257,14 @@ module _ (front : List ℕ) (owners : Bool) where
   IsBegunBy (asked.MakeLink p target) made = IsBegun (IsChanging (asked.MakeLink p target)) made
   IsBegunBy (asked.Sync p) made = IsBegun (IsChanging (asked.Sync p)) made
   IsBegunBy asked.Barrier made = IsBegun (IsChanging asked.Barrier) made
+  IsBegunBy asked.SyncAll made = IsBegun (IsChanging asked.SyncAll) made
+  IsBegunBy asked.SyncRoot made = IsBegun (IsChanging asked.SyncRoot) made
 
-  -- a step that was declined; a barrier is never
+  -- a step that was declined; a barrier is never, and so isn't a sync of all of the root
   abbrev pub IsDeclinedBy : Asked → List SystemCall → Type 0
   IsDeclinedBy (asked.Write p (File bytes access)) made =
-      IsNotMade (ask.Create (place_of front p)) (ask.Unlink (place_of front p)) (write_calls owners (place_of front p) bytes access) made
+      (modified : Option Modified)
+      × IsNotMade (ask.Create (place_of front p)) (ask.Unlink (place_of front p)) (write_calls owners (place_of front p) bytes access modified) made
   IsDeclinedBy (asked.Write p (Dir access)) made = ⊥
   IsDeclinedBy (asked.Write p (Link target)) made = ⊥
   IsDeclinedBy (asked.Move a b) made = IsAsked (IsChanging (asked.Move a b)) made
@@ -219,6 +276,8 @@ module _ (front : List ℕ) (owners : Bool) where
   IsDeclinedBy (asked.MakeLink p target) made = IsAsked (IsChanging (asked.MakeLink p target)) made
   IsDeclinedBy (asked.Sync p) made = IsAsked (IsChanging (asked.Sync p)) made
   IsDeclinedBy asked.Barrier made = ⊥
+  IsDeclinedBy asked.SyncAll made = IsAsked (IsChanging asked.SyncAll) made
+  IsDeclinedBy asked.SyncRoot made = ⊥
 
   -- a step that was answered so
   abbrev pub IsStepBy : {T : Type 0} → Asked → List SystemCall → Result T HostFault → Type 0

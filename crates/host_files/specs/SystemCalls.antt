@@ -6,7 +6,7 @@ use Rattle.std.specs.declared.alloc.Global.{Global}
 use Rattle.std.specs.declared.fs.Metadata.{Metadata}
 use Rattle.std.specs.declared.process.Command.{Command}
 use Rattle.host_files.specs.declared.trace.SystemCall.{SystemCall}
-use Rattle.host_files.specs.declared.trace.SystemCall.TheVariants.{Look, Create, Append, SetOwner, SetMode, MakeDirectory, Rename, Link, MakeLink, Unlink, RemoveDirectory, SyncFile, SyncMade, SyncDirectory, Start, End}
+use Rattle.host_files.specs.declared.trace.SystemCall.TheVariants.{Look, Create, Append, MakeDirectory, OpenMade, SetOwnerMade, SetModeMade, SetTimeMade, Rename, Link, MakeLink, Unlink, RemoveDirectory, Gone, SyncFile, SyncMade, SyncDirectory, SyncDevice, SyncSystem, Start, End}
 use Rattle.host_files.specs.declared.trace.Request.{Request}
 use Rattle.host_files.specs.declared.trace.Request.TheVariants as request
 
@@ -23,37 +23,47 @@ abbrev pub requested : Request → SystemCall
 requested (request.Look p found) = look_call p.now found.now
 requested (request.Create p) = Create p.now
 requested (request.Append bytes) = Append bytes.now
-requested (request.SetOwner p user group) = SetOwner p.now user group
-requested (request.SetMode p mode) = SetMode p.now mode
 requested (request.MakeDirectory p) = MakeDirectory p.now
+requested (request.OpenMade p) = OpenMade p.now
+requested (request.SetOwnerMade user group) = SetOwnerMade user group
+requested (request.SetModeMade mode) = SetModeMade mode
+requested (request.SetTimeMade time) = SetTimeMade time
 requested (request.Rename from to) = Rename from.now to.now
 requested (request.Link from to) = Link from.now to.now
 requested (request.MakeLink target p) = MakeLink target.now p.now
 requested (request.Unlink p) = Unlink p.now
 requested (request.RemoveDirectory p) = RemoveDirectory p.now
+requested request.Gone = Gone
 requested (request.SyncFile p) = SyncFile p.now
 requested request.SyncMade = SyncMade
 requested (request.SyncDirectory p) = SyncDirectory p.now
+requested (request.SyncDevice device p) = SyncDevice device p.now
+requested request.SyncSystem = SyncSystem
 requested (request.Start command) = start_call command.now
 requested (request.End status) = End (exit_code status.now)
 
--- those that change what stands under a root, or run a program
+-- those that change what stands under a root, open what is changed, or run a program, and that what was to be taken away is gone
 abbrev pub changes_in : List SystemCall → List SystemCall
 changes_in [] = []
 changes_in (Look p found ∷ made) = changes_in made
 changes_in (Create p ∷ made) = Create p ∷ changes_in made
 changes_in (Append bytes ∷ made) = Append bytes ∷ changes_in made
-changes_in (SetOwner p user group ∷ made) = SetOwner p user group ∷ changes_in made
-changes_in (SetMode p mode ∷ made) = SetMode p mode ∷ changes_in made
 changes_in (MakeDirectory p ∷ made) = MakeDirectory p ∷ changes_in made
+changes_in (OpenMade p ∷ made) = OpenMade p ∷ changes_in made
+changes_in (SetOwnerMade user group ∷ made) = SetOwnerMade user group ∷ changes_in made
+changes_in (SetModeMade mode ∷ made) = SetModeMade mode ∷ changes_in made
+changes_in (SetTimeMade time ∷ made) = SetTimeMade time ∷ changes_in made
 changes_in (Rename from to ∷ made) = Rename from to ∷ changes_in made
 changes_in (Link from to ∷ made) = Link from to ∷ changes_in made
 changes_in (MakeLink target p ∷ made) = MakeLink target p ∷ changes_in made
 changes_in (Unlink p ∷ made) = Unlink p ∷ changes_in made
 changes_in (RemoveDirectory p ∷ made) = RemoveDirectory p ∷ changes_in made
+changes_in (Gone ∷ made) = Gone ∷ changes_in made
 changes_in (SyncFile p ∷ made) = changes_in made
 changes_in (SyncMade ∷ made) = changes_in made
 changes_in (SyncDirectory p ∷ made) = changes_in made
+changes_in (SyncDevice device p ∷ made) = changes_in made
+changes_in (SyncSystem ∷ made) = changes_in made
 changes_in (Start program args directory ∷ made) = Start program args directory ∷ changes_in made
 changes_in (End code ∷ made) = End code ∷ changes_in made
 

@@ -15,7 +15,7 @@ pub(crate) struct Changed {
 }
 
 // The directory that a path stands in; of the root itself that.
-fn directory_of(path: &RootPath) -> &str
+pub(crate) fn directory_of(path: &RootPath) -> &str
     ensures { IsDirectoryOf path.now result.now }
 {
     match path.as_str().rsplit_once('/') {

@@ -14,11 +14,12 @@ use crate::record::{Asks, Note};
 use crate::root::Root;
 use crate::scripts::run_script;
 use crate::steps::{
-    flush, flush_all, hard_link, make_directory, move_over, symlink, unlink, unlink_directory,
-    write_file,
+    hard_link, make_directory, move_over, symlink, unlink, unlink_directory, write_file,
 };
+use crate::syncing::{flush, flush_all, flush_root, flush_written};
 use crate::system::{ScriptStreams, System};
 use crate::told::{Made, Told};
+use crate::written::{Unsynced, Written};
 use host_core::{
     Access, Call, Host, HostFault, Keep, Kind, Listing, Node, Outcome, Places, RootPath,
 };
@@ -33,6 +34,7 @@ pub struct FilesHost<D: Disk> {
     system: System,
     root: Root,
     changed: Changed,
+    written: Written,
     told: Told,
     failure: Option<Failure>,
     disk: PhantomData<D>,
@@ -50,7 +52,8 @@ pub fn is_superuser() -> bool {
     libc::geteuid() == 0
 }
 
-// The path of a step, which a person is told where it fails or is declined; a barrier's own is kept by the system's call.
+// The path of a step, which a person is told where it fails or is declined; that of one which names none is kept by the
+// system's call.
 fn path_of<'a>(asked: Asks<'a>) -> &'a str {
     match asked {
         Asks::Write(path, _)
@@ -61,7 +64,7 @@ fn path_of<'a>(asked: Asks<'a>) -> &'a str {
         | Asks::HardLink(path, _)
         | Asks::MakeLink(path, _)
         | Asks::Sync(path) => path.as_str(),
-        Asks::Barrier => "",
+        Asks::Barrier | Asks::SyncAll | Asks::SyncRoot => "",
     }
 }
 
@@ -108,6 +111,7 @@ impl<D: Disk> FilesHost<D> {
                 system: System::new(rt),
                 root,
                 changed: Changed::new(alloc),
+                written: Written::new(alloc),
                 told: Told::new(alloc),
                 failure: None,
                 disk: PhantomData,
@@ -220,8 +224,8 @@ impl<D: Disk> FilesHost<D> {
             (asked_by asked) self.old.system.trace.calls ended }
         requires remembered { IsRemembered self.old.changed.directories (asked_by asked) }
         requires brought { OnOk ended (IsBrought (string_bytes self.old.root.front)
-            self.old.root.owners self.old.changed.directories (asked_by asked)
-            self.old.system.trace.calls) }
+            self.old.root.owners self.old.changed.directories self.old.written.files.items
+            (asked_by asked) self.old.system.trace.calls) }
         requires sure { OnOk ended (IsSure (string_bytes self.old.root.front)
             self.old.told.log.notes (asked_by asked) self.old.system.trace.calls) }
         requires owed { IsTrue (replay D.Disk.model self.old.told.log.notes).honest
@@ -314,7 +318,14 @@ impl<D: Disk> Host for FilesHost<D> {
         self.told.guard()?;
         self.system.begin();
         self.changed.add(path)?;
+        self.written.reserve()?;
+        let listed = path.copy()?;
         let written = write_file(&mut self.system, &self.root, path, node);
+        let file = Unsynced {
+            path: listed,
+            identity: self.system.identity(),
+        };
+        self.written.take(self.root.owners, node, file, &written);
         self.settle(Asks::Write(path, node), written)
     }
 
@@ -346,7 +357,9 @@ impl<D: Disk> Host for FilesHost<D> {
         self.told.guard()?;
         self.system.begin();
         let flushed = flush(&mut self.system, &self.root, path);
-        self.settle(Asks::Sync(path), flushed)
+        let settled = self.settle(Asks::Sync(path), flushed);
+        self.written.leave(path, &settled);
+        settled
     }
 
     fn barrier(&mut self) -> Result<(), HostFault> {
@@ -358,13 +371,33 @@ impl<D: Disk> Host for FilesHost<D> {
         settled
     }
 
+    fn sync_written(&mut self) -> Result<(), HostFault> {
+        self.told.guard()?;
+        self.system.begin();
+        let flushed = flush_written(&mut self.system, &self.root, &self.written);
+        let settled = self.settle(Asks::SyncAll, flushed);
+        self.written.clear_after(&settled);
+        settled
+    }
+
+    fn sync_root(&mut self) -> Result<(), HostFault> {
+        self.told.guard()?;
+        self.system.begin();
+        let flushed = flush_root(&mut self.system, &self.root, &self.changed);
+        let settled = self.settle(Asks::SyncRoot, flushed);
+        self.changed.clear_after(&settled);
+        settled
+    }
+
     fn rename(&mut self, from: &RootPath, to: &RootPath) -> Result<(), HostFault> {
         self.told.guard()?;
         self.system.begin();
         self.changed.add(from)?;
         self.changed.add(to)?;
         let moved = move_over(&mut self.system, &self.root, from, to);
-        self.settle(Asks::Move(from, to), moved)
+        let settled = self.settle(Asks::Move(from, to), moved);
+        self.written.leave(to, &settled);
+        settled
     }
 
     fn remove(&mut self, path: &RootPath) -> Result<(), HostFault> {
@@ -372,7 +405,9 @@ impl<D: Disk> Host for FilesHost<D> {
         self.system.begin();
         self.changed.add(path)?;
         let removed = unlink(&mut self.system, &self.root, path);
-        self.settle(Asks::Take(path), removed)
+        let settled = self.settle(Asks::Take(path), removed);
+        self.written.leave(path, &settled);
+        settled
     }
 
     fn remove_dir(&mut self, path: &RootPath) -> Result<(), HostFault> {

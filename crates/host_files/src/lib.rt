@@ -10,7 +10,10 @@
 //! that a script's command has the program, arguments, directory and variables that it is to have
 //! (`command_of`), that a fault is counted and what a person is told of it is kept (`failure`),
 //! that what is missing is never told as a fault, that names are sorted, that a file has at most 1
-//! GiB, and that a barrier syncs the directories in which names changed.
+//! GiB, that a barrier syncs the directories in which names changed, and that what was made gets its
+//! owner, mode and time through what is open of it. A file that was written is listed until it is on
+//! the disk, and a sync of all files syncs each that is listed, or all of its file system
+//! (`AreOnDisk`).
 //!
 //! What it doesn't look at again is tied to the record of its calls: the directory that it
 //! remembers is known by them (`IsKnown`: seen, or above what was seen or made, and no script,
@@ -33,9 +36,11 @@ mod remembered;
 mod root;
 mod scripts;
 mod steps;
+mod syncing;
 mod system;
 mod told;
 mod trace;
+mod written;
 
 pub use disk_model::{Disk, Unknown};
 pub use failure::Failure;

@@ -19,6 +19,8 @@ pub enum Asked {
     MakeLink(RootPath, Text),
     Sync(RootPath),
     Barrier,
+    SyncAll,
+    SyncRoot,
 }
 
 /// A call with its answer: what was found; a step that was done, of which Device was told, or that
@@ -49,6 +51,8 @@ pub(crate) enum Asks<'a> {
     MakeLink(&'a RootPath, &'a Text),
     Sync(&'a RootPath),
     Barrier,
+    SyncAll,
+    SyncRoot,
 }
 
 /// A call with its answer, lent.

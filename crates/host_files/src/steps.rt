@@ -1,30 +1,32 @@
 // The steps of the device. Each makes its calls of the system once it has seen that the names above its paths are those
 // of directories, and of no link; all memory that it takes is taken before. What was begun of a step that is declined is taken away.
-ghost use Rattle.std.specs.Prelude.{◌≡◌, ◌⊎◌, ◌∷◌, [], true, IfErr, IfOk, IsSome, IsTrue, OnErr, OnOk, Some, string_bytes};
+ghost use Rattle.std.specs.Prelude.{◌≡◌, ◌⊎◌, ◌∷◌, ◌++◌, [], true, IfErr, IfOk, IsSome, IsTrue, OnErr, OnOk, Some, string_bytes};
 ghost use Rattle.host_core.specs.World.{IsFile};
 ghost use Rattle.host_core.specs.declared.fault.HostFault.TheVariants.{Device};
-ghost use Rattle.host_files.specs.Entries.{IsSettable};
+ghost use Rattle.host_files.specs.Entries.{IsAccessOf, IsSettable};
 ghost use Rattle.host_files.specs.Faults.{IsOfStep, IsUndeclined};
 ghost use Rattle.host_files.specs.Places.{place_of};
-ghost use Rattle.host_files.specs.Shown.{Adds, IsBrought, IsLookedAt, IsMakingBy, IsRenamedBy, IsStepBy, IsSyncedBy, access_calls, directory_calls, fill_calls, write_calls};
+ghost use Rattle.host_files.specs.Shown.{Adds, IsLookedAt, IsMakingBy, IsRenamedBy, IsStepBy, IsSyncedUnread, IsSyncedWhole, access_calls, directory_calls, fill_calls, opened_calls, time_calls, write_calls};
 ghost use Rattle.host_files.specs.SystemCalls.{changes_in, Looks};
-ghost use Rattle.host_files.specs.declared.record.Asked.TheVariants.{Barrier, HardLink, MakeDir, MakeLink, Move, RemoveDir, Sync, Take, Write};
-ghost use Rattle.host_files.specs.declared.trace.SystemCall.TheVariants.{Create, MakeDirectory, RemoveDirectory, Unlink};
+ghost use Rattle.host_files.specs.declared.record.Asked.TheVariants.{HardLink, MakeDir, MakeLink, Move, RemoveDir, Take, Write};
+ghost use Rattle.host_files.specs.declared.trace.SystemCall.TheVariants.{Append, Create, MakeDirectory, RemoveDirectory, Unlink};
 
-use crate::changed::Changed;
 use crate::disk::access_of;
 use crate::root::Root;
+use crate::syncing::NO_FILE;
 use crate::system::System;
-use host_core::{Access, HostFault, Node, RootPath};
-use std::fs::Metadata;
+use crate::written::is_readable;
+use host_core::{Access, HostFault, Modified, Node, RootPath};
+use std::fs::{File, Metadata};
 use std::os::unix::fs::MetadataExt;
 use texts::Text;
 
-// what a person is told where a step needs a file or a link
-const NO_FILE: &str = "no file or link stands there";
-
-// The place of a step.
-fn place_of_step(system: &System, root: &Root, path: &RootPath) -> Result<String, HostFault>
+/// The place of a step.
+pub(crate) fn place_of_step(
+    system: &System,
+    root: &Root,
+    path: &RootPath,
+) -> Result<String, HostFault>
     ensures place { IfOk result (λ place. string_bytes place ≡ place_of (string_bytes root.now.front)
         path.now) }
     ensures fault { IfErr result IsUndeclined }
@@ -51,93 +53,145 @@ fn check_settable(owners: bool, access: Access) -> Result<(), HostFault>
 fn check_access(
     system: &mut System,
     owners: bool,
-    place: &str,
+    made: &File,
     access: Access,
-) -> Result<(), HostFault>
-    ensures same { changes_in system.new.trace.calls ≡ changes_in system.old.trace.calls }
+) -> Result<Metadata, HostFault>
+    ensures same { system.new.trace ≡ system.old.trace }
+    ensures ok { IfOk result (λ found. IsAccessOf owners found access) }
     ensures err { IfErr result (λ fault. fault ≡ Device) }
 {
-    match system.look(place) {
-        Ok(Some(found)) if access_of(owners, &found) == access => Ok(()),
+    match made.metadata() {
+        Ok(found) if access_of(owners, &found) == access => Ok(found),
         Ok(_) => Err(system.refuse("the system leaves out a part of its owner or mode")),
-        Err(_) => Err(HostFault::Device),
+        Err(error) => Err(system.fail(error)),
     }
 }
 
-// Gives what was made at a place its owner, and then its mode.
+// Gives what was made last its owner, and then its mode, by what is open of it.
 fn set_access(
     system: &mut System,
     owners: bool,
-    place: &str,
+    made: &File,
     access: Access,
-) -> Result<(), HostFault>
-    ensures made { Adds (access_calls owners place.now access) system.old.trace.calls
-        system.new.trace.calls result }
+) -> Result<Metadata, HostFault>
+    ensures made { Adds (access_calls owners access) system.old.trace.calls system.new.trace.calls
+        result }
+    ensures set { IfOk result (λ found. IsAccessOf owners found access) }
     ensures err { IfErr result IsOfStep }
 {
     if owners {
-        system.set_owner(place, access.user, access.group)?;
+        system.set_owner(made, access.user, access.group)?;
     }
-    system.set_mode(place, access.mode)?;
-    check_access(system, owners, place, access)
+    system.set_mode(made, access.mode)?;
+    check_access(system, owners, made, access)
+}
+
+// Sets when a file was last modified, where that is to be kept.
+fn set_time(system: &mut System, made: &File, modified: Option<Modified>) -> Result<(), HostFault>
+    ensures made { Adds (time_calls modified) system.old.trace.calls system.new.trace.calls result }
+    ensures err { IfErr result IsOfStep }
+{
+    match modified {
+        Some(time) => system.set_time(made, time),
+        None => Ok(()),
+    }
+}
+
+// Brings a file that can't be opened again to the disk.
+fn sync_unreadable(
+    system: &mut System,
+    owners: bool,
+    made: &File,
+    access: Access,
+) -> Result<(), HostFault>
+    ensures same { changes_in system.new.trace.calls ≡ changes_in system.old.trace.calls }
+    ensures synced { OnOk result (IsSyncedUnread owners access system.new.trace.calls) }
+    ensures err { IfErr result IsOfStep }
+{
+    if is_readable(owners, access) {
+        return Ok(());
+    }
+    system.sync_open(made)
 }
 
 // Gives a file that was created its bytes, and then its access.
 fn fill_file(
     system: &mut System,
     owners: bool,
-    place: &str,
+    made: &mut File,
     bytes: &[u8],
     access: Access,
-) -> Result<(), HostFault>
-    ensures made { Adds (fill_calls owners place.now bytes.now access) system.old.trace.calls
-        system.new.trace.calls result }
+) -> Result<Metadata, HostFault>
+    ensures made { Adds (access_calls owners access ++ Append bytes.now ∷ [])
+        system.old.trace.calls system.new.trace.calls result }
+    ensures set { IfOk result (λ found. IsAccessOf owners found access) }
     ensures err { IfErr result IsOfStep }
 {
-    system.append(bytes)?;
-    set_access(system, owners, place, access)
+    system.append(made, bytes)?;
+    set_access(system, owners, made, access)
 }
 
-// Takes away a file that was created before its step was declined. Where that can't be done either the device has failed.
-fn take_away_file(system: &mut System, place: &str) -> HostFault
-    ensures made { system.new.trace.calls ≡ Unlink place.now ∷ system.old.trace.calls }
-    ensures fault { IsOfStep result }
+// The same, and then its time.
+fn finish_file(
+    system: &mut System,
+    owners: bool,
+    made: &mut File,
+    bytes: &[u8],
+    modified: Option<Modified>,
+    access: Access,
+) -> Result<Metadata, HostFault>
+    ensures made { Adds (fill_calls owners bytes.now access modified) system.old.trace.calls
+        system.new.trace.calls result }
+    ensures set { IfOk result (λ found. IsAccessOf owners found access) }
+    ensures synced { OnOk result (IsSyncedUnread owners access system.new.trace.calls) }
+    ensures err { IfErr result IsOfStep }
 {
-    match system.unlink(place) {
-        Ok(()) => HostFault::Declined,
-        Err(_) => HostFault::Device,
-    }
+    let found = fill_file(system, owners, made, bytes, access)?;
+    set_time(system, made, modified)?;
+    sync_unreadable(system, owners, made, access)?;
+    Ok(found)
 }
 
-// The same of a directory.
-fn take_away_directory(system: &mut System, place: &str) -> HostFault
-    ensures made { system.new.trace.calls ≡ RemoveDirectory place.now ∷ system.old.trace.calls }
-    ensures fault { IsOfStep result }
-{
-    match system.remove_directory(place) {
-        Ok(()) => HostFault::Declined,
-        Err(_) => HostFault::Device,
-    }
-}
-
+// Writes a file; what was begun of one that is declined is taken away.
 fn write_bytes(
     system: &mut System,
     owners: bool,
     place: &str,
     bytes: &[u8],
+    modified: Option<Modified>,
     access: Access,
 ) -> Result<(), HostFault>
     requires begun { system.old.trace.calls ≡ [] }
-    ensures { IsMakingBy (Create place.now) (Unlink place.now) (write_calls owners place.now
-        bytes.now access) system.new.trace.calls result }
+    ensures making { IsMakingBy (Create place.now) (Unlink place.now) (write_calls owners place.now
+        bytes.now access modified) system.new.trace.calls result }
+    ensures synced { OnOk result (IsSyncedUnread owners access system.new.trace.calls) }
 {
     check_settable(owners, access)?;
-    system.create(place)?;
-    match fill_file(system, owners, place, bytes, access) {
-        Ok(()) => Ok(()),
-        Err(HostFault::Declined) => Err(take_away_file(system, place)),
+    let mut made = system.create(place)?;
+    match finish_file(system, owners, &mut made, bytes, modified, access) {
+        Ok(found) => {
+            system.keep(made, &found);
+            Ok(())
+        }
+        Err(HostFault::Declined) => Err(system.take_away_file(place)),
         Err(fault) => Err(fault),
     }
+}
+
+// Gives the directory that was made last its access.
+fn open_directory(
+    system: &mut System,
+    owners: bool,
+    place: &str,
+    access: Access,
+) -> Result<(), HostFault>
+    ensures made { Adds (opened_calls owners place.now access) system.old.trace.calls
+        system.new.trace.calls result }
+    ensures err { IfErr result IsOfStep }
+{
+    let made = system.open_made(place)?;
+    set_access(system, owners, &made, access)?;
+    Ok(())
 }
 
 fn create_directory(
@@ -152,9 +206,9 @@ fn create_directory(
 {
     check_settable(owners, access)?;
     system.make_directory(place)?;
-    match set_access(system, owners, place, access) {
+    match open_directory(system, owners, place, access) {
         Ok(()) => Ok(()),
-        Err(HostFault::Declined) => Err(take_away_directory(system, place)),
+        Err(HostFault::Declined) => Err(system.take_away_directory(place)),
         Err(fault) => Err(fault),
     }
 }
@@ -168,8 +222,9 @@ pub(crate) fn write_file(
 ) -> Result<(), HostFault>
     requires file { IsFile node.now }
     requires begun { system.old.trace.calls ≡ [] }
-    ensures { IsStepBy (string_bytes root.now.front) root.now.owners (Write path.now node.now)
+    ensures step { IsStepBy (string_bytes root.now.front) root.now.owners (Write path.now node.now)
         system.new.trace.calls result }
+    ensures synced { OnOk result (IsSyncedWhole root.now.owners node.now system.new.trace.calls) }
 {
     let Node::File { bytes, access } = node else {
         return Err(HostFault::Device);
@@ -180,6 +235,7 @@ pub(crate) fn write_file(
         root.owners,
         place.as_str(),
         bytes.as_slice(),
+        bytes.modified(),
         *access,
     )
 }
@@ -301,34 +357,6 @@ pub(crate) fn hard_link(
     system.link(from.as_str(), to.as_str())
 }
 
-// Looks what stands at a place, and brings it to the disk.
-fn flush_at(system: &mut System, place: &str) -> Result<(), HostFault>
-    requires begun { system.old.trace.calls ≡ [] }
-    ensures step { IsSyncedBy place.now system.new.trace.calls result }
-    ensures sure { OnOk result (IsLookedAt place.now system.new.trace.calls) }
-{
-    match system.look(place)? {
-        Some(found) if found.is_symlink() => Ok(()),
-        Some(found) if found.is_file() => system.sync_file(place),
-        _ => Err(system.refuse(NO_FILE)),
-    }
-}
-
-/// Brings the bytes of a file to the disk; of a link nothing has to be brought there.
-pub(crate) fn flush(system: &mut System, root: &Root, path: &RootPath) -> Result<(), HostFault>
-    requires begun { system.old.trace.calls ≡ [] }
-    ensures step { IsStepBy (string_bytes root.now.front) root.now.owners (Sync path.now)
-        system.new.trace.calls result }
-    ensures sure { OnOk result (IsLookedAt (place_of (string_bytes root.now.front) path.now)
-        system.new.trace.calls ⊎ (root.now.remembered.file ≡ Some path.now)) }
-{
-    if root.remembered.is_new(path) && system.has_made() {
-        return system.sync_made();
-    }
-    let place = place_of_step(system, root, path)?;
-    flush_at(system, place.as_str())
-}
-
 /// Removes a file or link.
 pub(crate) fn unlink(system: &mut System, root: &Root, path: &RootPath) -> Result<(), HostFault>
     requires begun { system.old.trace.calls ≡ [] }
@@ -351,22 +379,4 @@ pub(crate) fn unlink_directory(
 {
     let place = place_of_step(system, root, path)?;
     system.remove_directory(place.as_str())
-}
-
-/// Brings the names in these directories to the disk.
-pub(crate) fn flush_all(
-    system: &mut System,
-    root: &Root,
-    changed: &Changed,
-) -> Result<(), HostFault>
-    requires begun { system.old.trace.calls ≡ [] }
-    ensures step { IsStepBy (string_bytes root.now.front) root.now.owners Barrier
-        system.new.trace.calls result }
-    ensures brought { OnOk result (IsBrought (string_bytes root.now.front) root.now.owners
-        changed.now.directories Barrier system.new.trace.calls) }
-{
-    for directory in changed.directories.iter() {
-        system.sync_directory(root, directory.as_str())?;
-    }
-    Ok(())
 }

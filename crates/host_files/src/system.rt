@@ -1,25 +1,34 @@
 // The calls of the operating system that change something, start a program or look at a path. Each function makes one
 // and keeps it in the trace; an error of one that a step makes is one by which it was declined, or a fault of the device.
-ghost use Rattle.std.specs.Prelude.{◌≡◌, ◌∷◌, [], Err, None, is_some, IfErr, IfOk, OnOk, OnErr, string_bytes};
+ghost use Rattle.std.specs.Prelude.{◌≡◌, ◌∷◌, [], ℕ, List, Err, None, true, false, is_some, IfErr, IfOk, OnOk, OnErr, string_bytes};
 ghost use Rattle.std.specs.IoError.{raw_os_error};
 ghost use Rattle.std.specs.Process.{exit_code};
-ghost use Rattle.host_core.specs.declared.fault.HostFault.TheVariants.{Device, NoMemory};
+ghost use Rattle.host_core.specs.declared.fault.HostFault.TheVariants.{Declined, Device, NoMemory};
 ghost use Rattle.host_files.specs.Faults.{IsFaultOf, IsOfStep, IsUndeclined, step_fault_of};
-ghost use Rattle.host_files.specs.declared.trace.SystemCall.TheVariants.{Create, Append, SetOwner, SetMode, MakeDirectory, Rename, Link, MakeLink, Unlink, RemoveDirectory, SyncFile, SyncMade, SyncDirectory, End};
+ghost use Rattle.host_files.specs.declared.trace.SystemCall.TheVariants.{Create, Append, MakeDirectory, OpenMade, SetOwnerMade, SetModeMade, SetTimeMade, Rename, Link, MakeLink, Unlink, RemoveDirectory, Gone, SyncFile, SyncMade, SyncDirectory, SyncDevice, SyncSystem, End};
 ghost use Rattle.host_files.specs.Shown.{IsNotBegun};
 ghost use Rattle.host_files.specs.SystemCalls.{changes_in, Looks, start_call};
 ghost use Rattle.host_files.specs.Places.{place_of};
 
+use crate::changed::directory_of;
 use crate::disk::{fault_of, stat};
 use crate::errors::{is_declined, is_start_error};
 use crate::root::Root;
 use crate::trace::{Request, Trace};
-use host_core::HostFault;
+use crate::written::{Identity, Unsynced};
+use host_core::{HostFault, Modified};
+use libc::types::timespec;
 use std::fs::{DirBuilder, File, Metadata, OpenOptions, Permissions};
 use std::io::{Error, Write};
-use std::os::unix::fs::{DirBuilderExt, OpenOptionsExt, PermissionsExt, lchown, symlink};
-use std::process::{Child, Command, ExitStatus};
+use std::os::fd::AsRawFd;
+use std::os::unix::fs::{
+    DirBuilderExt, MetadataExt, OpenOptionsExt, PermissionsExt, fchown, symlink,
+};
+use std::process::{Child, Command, ExitStatus, Stdio};
 use std::{fs, io};
+
+// of Debian's essential package coreutils
+const SYNC: &str = "/bin/sync";
 
 /// Where scripts write: each stream where the program's own goes, or both where its standard error goes.
 #[derive(Clone, Copy)]
@@ -37,6 +46,8 @@ pub(crate) struct System {
     pub(crate) architecture: Option<String>,
     // the file that was made last, while it is open
     made: Option<File>,
+    // of the file that was made last
+    identity: Identity,
     // what a person is told of the failure of the call that was begun
     error: Option<Error>,
     // the place of that failure, where it isn't the one that was asked for
@@ -63,6 +74,76 @@ fn create_new(rt: &HostRuntime, place: &str) -> io::Result<File> {
         .open(rt, place)
 }
 
+// Opens the directory that stands at a place, if it is the one that a look just told: a link that took its place in
+// between is followed, so that what is opened is compared.
+fn open_seen(rt: &HostRuntime, place: &str) -> io::Result<Option<File>> {
+    let seen = fs::symlink_metadata(rt, place)?;
+    if !seen.is_dir() {
+        return Ok(None);
+    }
+    let opened = fs::open(rt, place)?;
+    let found = opened.metadata()?;
+    Ok((identity_of(&seen) == identity_of(&found)).then_some(opened))
+}
+
+fn identity_of(found: &Metadata) -> Identity {
+    Identity {
+        device: found.dev(),
+        inode: found.ino(),
+    }
+}
+
+// Brings a file to the disk that was written before, and tells whether it still stands there.
+fn sync_same(rt: &HostRuntime, place: &str, identity: Identity) -> io::Result<bool> {
+    let opened = fs::open(rt, place)?;
+    if identity_of(&opened.metadata()?) != identity {
+        return Ok(false);
+    }
+    opened.sync_all()?;
+    Ok(true)
+}
+
+// Starts the program `sync` with these words, and tells whether it ended with 0.
+fn run_sync(rt: &HostRuntime, words: &[&str]) -> io::Result<bool> {
+    let mut command = Command::new(rt.alloc(), SYNC)?;
+    for word in words {
+        command.arg(*word)?;
+    }
+    command.stdin(Stdio::null());
+    command.stdout(Stdio::null());
+    command.stderr(Stdio::null());
+    Ok(command.status(rt)?.code() == Some(0))
+}
+
+// Whether that was done; where the program can't be started it wasn't. Want of memory is told.
+fn has_synced(rt: &HostRuntime, words: &[&str]) -> Result<bool, HostFault>
+    ensures { IfErr result IsUndeclined }
+{
+    match run_sync(rt, words) {
+        Ok(synced) => Ok(synced),
+        Err(error) => match fault_of(&error) {
+            HostFault::NoMemory => Err(HostFault::NoMemory),
+            _ => Ok(false),
+        },
+    }
+}
+
+// Sets when what is open was last modified, and leaves when it was last read.
+fn set_modified(made: &File, time: Modified) -> io::Result<()> {
+    let read = timespec {
+        tv_sec: 0,
+        tv_nsec: libc::UTIME_OMIT,
+    };
+    let modified = timespec {
+        tv_sec: time.seconds,
+        tv_nsec: i64::from(time.nanoseconds),
+    };
+    if libc::futimens(made.as_raw_fd(), &[read, modified]) < 0 {
+        return Err(Error::from_raw_os_error(os::errno()));
+    }
+    Ok(())
+}
+
 // Brings what is open to the disk.
 fn sync(rt: &HostRuntime, place: &str) -> io::Result<()> {
     fs::open(rt, place)?.sync_all()
@@ -78,6 +159,10 @@ impl System {
             streams: ScriptStreams::Own,
             architecture: None,
             made: None,
+            identity: Identity {
+                device: 0,
+                inode: 0,
+            },
             error: None,
             error_place: None,
         }
@@ -121,11 +206,32 @@ impl System {
         HostFault::Device
     }
 
+    /// A fault of the device by an error of a call that changes nothing.
+    pub(crate) fn fail(&mut self, error: Error) -> HostFault
+        ensures fault { result ≡ Device }
+        ensures trace { self.new.trace ≡ self.old.trace }
+    {
+        self.error = Some(error);
+        HostFault::Device
+    }
+
     /// The error of the call that was begun, with its place where that isn't the one that was asked for.
     pub(crate) fn take_error(&mut self) -> (Option<String>, Option<Error>)
         ensures { self.new.trace ≡ self.old.trace }
     {
         (self.error_place.take(), self.error.take())
+    }
+
+    // The fault of a step that ended with an error, which a person is told.
+    fn step_fault(&mut self, error: Error) -> HostFault
+        ensures fault { result ≡ step_fault_of (raw_os_error error) }
+        ensures step { IsOfStep result }
+        ensures trace { self.new.trace ≡ self.old.trace }
+        ensures made { self.new.made ≡ self.old.made }
+    {
+        let fault = step_fault_of(&error);
+        self.error = Some(error);
+        fault
     }
 
     // How a call ended that was made for a step.
@@ -137,11 +243,7 @@ impl System {
     {
         match answer {
             Ok(()) => Ok(()),
-            Err(error) => {
-                let fault = step_fault_of(&error);
-                self.error = Some(error);
-                Err(fault)
-            }
+            Err(error) => Err(self.step_fault(error)),
         }
     }
 
@@ -161,49 +263,68 @@ impl System {
         }
     }
 
-    /// The file stays open until another is made or a program is started.
-    pub(crate) fn create(&mut self, place: &str) -> Result<(), HostFault>
+    /// An empty file, which is open.
+    pub(crate) fn create(&mut self, place: &str) -> Result<File, HostFault>
         ensures made { self.new.trace.calls ≡ Create place.now ∷ self.old.trace.calls }
         ensures err { IfErr result IsOfStep }
     {
+        self.made = None;
         self.trace = self.trace.with(&Request::Create(place));
-        let (made, answer) = match create_new(&self.rt, place) {
-            Ok(file) => (Some(file), Ok(())),
-            Err(error) => (None, Err(error)),
-        };
-        self.made = made;
-        self.ended(answer)
+        match create_new(&self.rt, place) {
+            Ok(file) => Ok(file),
+            Err(error) => Err(self.step_fault(error)),
+        }
     }
 
-    pub(crate) fn append(&mut self, bytes: &[u8]) -> Result<(), HostFault>
+    pub(crate) fn append(&mut self, made: &mut File, bytes: &[u8]) -> Result<(), HostFault>
         ensures made { self.new.trace.calls ≡ Append bytes.now ∷ self.old.trace.calls }
         ensures err { IfErr result IsOfStep }
     {
         self.trace = self.trace.with(&Request::Append(bytes));
-        let answer = match &mut self.made {
-            Some(file) => file.write_all(bytes),
-            None => return Err(HostFault::Device),
-        };
+        let answer = made.write_all(bytes);
         self.ended(answer)
     }
 
-    pub(crate) fn set_owner(&mut self, place: &str, user: u32, group: u32) -> Result<(), HostFault>
-        ensures made { self.new.trace.calls ≡ SetOwner place.now user group ∷ self.old.trace.calls }
+    pub(crate) fn set_owner(&mut self, made: &File, user: u32, group: u32) -> Result<(), HostFault>
+        ensures made { self.new.trace.calls ≡ SetOwnerMade user group ∷ self.old.trace.calls }
         ensures err { IfErr result IsOfStep }
     {
-        self.trace = self.trace.with(&Request::SetOwner(place, user, group));
-        let answer = lchown(&self.rt, place, Some(user), Some(group));
+        self.trace = self.trace.with(&Request::SetOwnerMade(user, group));
+        let answer = fchown(made, Some(user), Some(group));
         self.ended(answer)
     }
 
-    /// Of what this program has just made there, so that no link stands there.
-    pub(crate) fn set_mode(&mut self, place: &str, mode: u16) -> Result<(), HostFault>
-        ensures made { self.new.trace.calls ≡ SetMode place.now mode ∷ self.old.trace.calls }
+    pub(crate) fn set_mode(&mut self, made: &File, mode: u16) -> Result<(), HostFault>
+        ensures made { self.new.trace.calls ≡ SetModeMade mode ∷ self.old.trace.calls }
         ensures err { IfErr result IsOfStep }
     {
-        self.trace = self.trace.with(&Request::SetMode(place, mode));
-        let answer = fs::set_permissions(&self.rt, place, Permissions::from_mode(u32::from(mode)));
+        self.trace = self.trace.with(&Request::SetModeMade(mode));
+        let answer = made.set_permissions(Permissions::from_mode(u32::from(mode)));
         self.ended(answer)
+    }
+
+    pub(crate) fn set_time(&mut self, made: &File, time: Modified) -> Result<(), HostFault>
+        ensures made { self.new.trace.calls ≡ SetTimeMade time ∷ self.old.trace.calls }
+        ensures err { IfErr result IsOfStep }
+    {
+        self.trace = self.trace.with(&Request::SetTimeMade(time));
+        let answer = set_modified(made, time);
+        self.ended(answer)
+    }
+
+    /// Keeps the file that was made last open, until another is made or a program is started. The system is told that nobody
+    /// will read it, by which it begins to bring its bytes to the disk.
+    pub(crate) fn keep(&mut self, made: File, found: &Metadata)
+        ensures { self.new.trace ≡ self.old.trace }
+    {
+        libc::posix_fadvise(made.as_raw_fd(), 0, 0, libc::POSIX_FADV_DONTNEED);
+        self.identity = identity_of(found);
+        self.made = Some(made);
+    }
+
+    /// Which file was made last.
+    pub(crate) fn identity(&self) -> Identity {
+        self.identity
     }
 
     pub(crate) fn make_directory(&mut self, place: &str) -> Result<(), HostFault>
@@ -213,6 +334,19 @@ impl System {
         self.trace = self.trace.with(&Request::MakeDirectory(place));
         let answer = DirBuilder::new().mode(0o700).create(&self.rt, place);
         self.ended(answer)
+    }
+
+    /// The directory that was made last, which is open; another that stands there is a fault.
+    pub(crate) fn open_made(&mut self, place: &str) -> Result<File, HostFault>
+        ensures made { self.new.trace.calls ≡ OpenMade place.now ∷ self.old.trace.calls }
+        ensures err { IfErr result IsOfStep }
+    {
+        self.trace = self.trace.with(&Request::OpenMade(place));
+        match open_seen(&self.rt, place) {
+            Ok(Some(directory)) => Ok(directory),
+            Ok(None) => Err(self.refuse("what was made there is no longer there")),
+            Err(error) => Err(self.step_fault(error)),
+        }
     }
 
     pub(crate) fn rename(&mut self, from: &str, to: &str) -> Result<(), HostFault>
@@ -261,6 +395,43 @@ impl System {
         self.ended(answer)
     }
 
+    /// Takes away a file that was made in a step that was declined. Where that can't be done either the device has failed.
+    pub(crate) fn take_away_file(&mut self, place: &str) -> HostFault
+        ensures gone { result ≡ Declined → self.new.trace.calls ≡ Gone ∷ Unlink place.now
+            ∷ self.old.trace.calls }
+        ensures left { result ≡ Device → self.new.trace.calls ≡ Unlink place.now
+            ∷ self.old.trace.calls }
+        ensures fault { IsOfStep result }
+    {
+        match self.unlink(place) {
+            Ok(()) => self.gone(),
+            Err(_) => HostFault::Device,
+        }
+    }
+
+    /// The same of a directory.
+    pub(crate) fn take_away_directory(&mut self, place: &str) -> HostFault
+        ensures gone { result ≡ Declined → self.new.trace.calls ≡ Gone ∷ RemoveDirectory place.now
+            ∷ self.old.trace.calls }
+        ensures left { result ≡ Device → self.new.trace.calls ≡ RemoveDirectory place.now
+            ∷ self.old.trace.calls }
+        ensures fault { IsOfStep result }
+    {
+        match self.remove_directory(place) {
+            Ok(()) => self.gone(),
+            Err(_) => HostFault::Device,
+        }
+    }
+
+    // What a step that was declined had made is gone.
+    fn gone(&mut self) -> HostFault
+        ensures gone { self.new.trace.calls ≡ Gone ∷ self.old.trace.calls }
+        ensures fault { result ≡ Declined }
+    {
+        self.trace = self.trace.with(&Request::Gone);
+        HostFault::Declined
+    }
+
     pub(crate) fn sync_file(&mut self, place: &str) -> Result<(), HostFault>
         ensures made { self.new.trace.calls ≡ SyncFile place.now ∷ self.old.trace.calls }
         ensures err { IfErr result IsOfStep }
@@ -287,6 +458,69 @@ impl System {
             None => return Err(HostFault::Device),
         };
         self.ended(answer)
+    }
+
+    /// The same of a file that isn't kept.
+    pub(crate) fn sync_open(&mut self, made: &File) -> Result<(), HostFault>
+        ensures made { self.new.trace.calls ≡ SyncMade ∷ self.old.trace.calls }
+        ensures err { IfErr result IsOfStep }
+    {
+        self.trace = self.trace.with(&Request::SyncMade);
+        let answer = made.sync_all();
+        self.ended(answer)
+    }
+
+    /// A file that was written before, by its path under the root; another that stands there is a fault.
+    pub(crate) fn sync_written(&mut self, root: &Root, file: &Unsynced) -> Result<(), HostFault>
+        ensures made { OnOk result (self.new.trace.calls ≡ SyncFile
+            (place_of (string_bytes root.now.front) file.now.path) ∷ self.old.trace.calls) }
+        ensures same { changes_in self.new.trace.calls ≡ changes_in self.old.trace.calls }
+    {
+        let place = root.place(file.path.as_str())?;
+        self.trace = self.trace.with(&Request::SyncFile(place.as_str()));
+        let answer = sync_same(&self.rt, place.as_str(), file.identity);
+        let fault = match answer {
+            Ok(true) => return Ok(()),
+            Ok(false) => self.refuse("another file stands there than was written"),
+            Err(error) => self.step_fault(error),
+        };
+        self.error_place = Some(place);
+        Err(fault)
+    }
+
+    /// All of the file system that a file lies on, if the program `sync` can be had.
+    pub(crate) fn sync_device(&mut self, root: &Root, file: &Unsynced) -> Result<bool, HostFault>
+        ensures done { IfOk result (λ done. done ≡ true → (place : List ℕ)
+            × (self.new.trace.calls ≡ SyncDevice file.now.identity.device place
+            ∷ self.old.trace.calls)) }
+        ensures not { IfOk result (λ done. done ≡ false → self.new.trace ≡ self.old.trace) }
+        ensures err { OnErr result (self.new.trace ≡ self.old.trace) }
+        ensures fault { IfErr result IsUndeclined }
+    {
+        let place = root.place(directory_of(&file.path))?;
+        let synced = has_synced(&self.rt, &["-f", place.as_str()])?;
+        if synced {
+            let device = file.identity.device;
+            self.trace = self
+                .trace
+                .with(&Request::SyncDevice(device, place.as_str()));
+        }
+        Ok(synced)
+    }
+
+    /// All of every file system, if the program `sync` can be had.
+    pub(crate) fn sync_system(&mut self) -> Result<bool, HostFault>
+        ensures done { IfOk result (λ done. done ≡ true → self.new.trace.calls ≡ SyncSystem
+            ∷ self.old.trace.calls) }
+        ensures not { IfOk result (λ done. done ≡ false → self.new.trace ≡ self.old.trace) }
+        ensures err { OnErr result (self.new.trace ≡ self.old.trace) }
+        ensures fault { IfErr result IsUndeclined }
+    {
+        let synced = has_synced(&self.rt, &[])?;
+        if synced {
+            self.trace = self.trace.with(&Request::SyncSystem);
+        }
+        Ok(synced)
     }
 
     /// The directory is told by its path under the root. Where it is gone, or a link leads to it,

@@ -3,6 +3,7 @@ ghost use Rattle.std.specs.Prelude.{◌≡◌, List, [], ◌∷◌};
 ghost use Rattle.std.specs.Borrow.{ftrue};
 ghost use Rattle.host_files.specs.declared.trace.SystemCall.{SystemCall};
 
+use host_core::Modified;
 use std::fs::Metadata;
 use std::marker::Model;
 use std::process::{Command, ExitStatus};
@@ -17,10 +18,14 @@ pub enum SystemCall {
     Create(Text),
     /// bytes at the end of the file that was made last
     Append(Bytes),
-    SetOwner(Text, u32, u32),
-    SetMode(Text, u16),
     /// a directory where nothing stands, which only its owner may use
     MakeDirectory(Text),
+    /// the directory that was made last is opened, which was just seen at that path
+    OpenMade(Text),
+    /// of the file or directory that was made last, by what is open of it
+    SetOwnerMade(u32, u32),
+    SetModeMade(u16),
+    SetTimeMade(Modified),
     Rename(Text, Text),
     /// a second name, the latter, for what stands at the former
     Link(Text, Text),
@@ -28,11 +33,17 @@ pub enum SystemCall {
     MakeLink(Text, Text),
     Unlink(Text),
     RemoveDirectory(Text),
+    /// the call before this one was answered by no error
+    Gone,
     SyncFile(Text),
     /// the bytes of the file that was made last, which is open still
     SyncMade,
     /// the names in a directory
     SyncDirectory(Text),
+    /// all of the file system with this number: the program `sync` was told a directory of it, and ended with 0
+    SyncDevice(u64, Text),
+    /// all of every file system: the program `sync` was told none, and ended with 0
+    SyncSystem,
     /// a program, with its arguments and its working directory
     Start(Text, Texts, Option<Text>),
     /// the end of the program that was started last, with its status if it has one
@@ -45,17 +56,22 @@ pub(crate) enum Request<'a> {
     Look(&'a str, &'a Option<Metadata>),
     Create(&'a str),
     Append(&'a [u8]),
-    SetOwner(&'a str, u32, u32),
-    SetMode(&'a str, u16),
     MakeDirectory(&'a str),
+    OpenMade(&'a str),
+    SetOwnerMade(u32, u32),
+    SetModeMade(u16),
+    SetTimeMade(Modified),
     Rename(&'a str, &'a str),
     Link(&'a str, &'a str),
     MakeLink(&'a str, &'a str),
     Unlink(&'a str),
     RemoveDirectory(&'a str),
+    Gone,
     SyncFile(&'a str),
     SyncMade,
     SyncDirectory(&'a str),
+    SyncDevice(u64, &'a str),
+    SyncSystem,
     Start(&'a Command),
     End(&'a ExitStatus),
 }

@@ -1,10 +1,11 @@
 -- What a history tells.
-use Rattle.std.specs.Prelude.{◌≡◌, ◌<◌, ◌≤◌, ◌+◌, ℕ, Bool, true, List, [], ◌∷◌, ◌++◌, Option, Some, None, map, take, drop, vec_len, vec_capacity}
+use Rattle.std.specs.Prelude.{◌≡◌, ◌<◌, ◌≤◌, ◌+◌, ℕ, Bool, true, List, [], ◌∷◌, ◌++◌, Option, Some, None, map, take, drop, cond, vec_len, vec_capacity}
 use Rattle.std.specs.BTreeMap.{get_by_text}
 use Rattle.host_core.specs.Paths.{Path}
-use Rattle.host_core.specs.World.{World, Change, Step, Write, Move, Take, MakeDir, RemoveDir, HardLink, MakeLink, Sync, Barrier}
+use Rattle.host_core.specs.World.{World, Change, Step}
 use Rattle.host_core.specs.Events.{Event, Did, Failed, follow_all}
 use Rattle.host_core.specs.Unsynced.{unsynced}
+use Rattle.host_core.specs.Loss.{flushes}
 use Rattle.host_core.specs.Host.{State, Happens}
 use Rattle.host_core.specs.declared.call.Call.{Call}
 use Rattle.host_memory.specs.declared.change.Ending.{Ending}
@@ -55,17 +56,9 @@ pub record IsAsBefore (old new : History) : Type 0 where
 abbrev pub IsOnDisk : History → Type 0
 IsOnDisk h = disk_state h ≡ history_state h
 
--- how it was when all was on the disk, seen from behind a step: behind a barrier that is now, else it was before
+-- how it was when all was on the disk, seen from behind a step: behind one that brings all there that is now, else it was before
 abbrev pub on_disk_behind : Step → History → State
-on_disk_behind Barrier old = record { honest = true; world = (history_state old).world; events = (history_state old).events ++ Did Barrier ∷ [] }
-on_disk_behind (Write p n) old = disk_state old
-on_disk_behind (Move a b) old = disk_state old
-on_disk_behind (Take p) old = disk_state old
-on_disk_behind (MakeDir p m) old = disk_state old
-on_disk_behind (RemoveDir p) old = disk_state old
-on_disk_behind (HardLink a b) old = disk_state old
-on_disk_behind (MakeLink p t) old = disk_state old
-on_disk_behind (Sync p) old = disk_state old
+on_disk_behind step old = cond (flushes step) (record { honest = true; world = (history_state old).world; events = (history_state old).events ++ Did step ∷ [] }) (disk_state old)
 
 -- a step was made
 pub record Steps (step : Step) (old new : History) : Type 0 where

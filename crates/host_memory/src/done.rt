@@ -6,9 +6,9 @@ ghost use Rattle.host_memory.specs.Doings.{cut_short, event_of, how_ended, place
 
 use crate::change::{Ending, Entry};
 use crate::fault_plan::Effect;
-use host_core::{Access, Call, Node, Outcome, RootPath};
+use host_core::{Access, Call, Content, Node, Outcome, RootPath};
 use std::alloc::{AllocError, Global};
-use texts::{Bytes, Text};
+use texts::Text;
 
 /// A call that was made, with what it changed.
 #[derive(Drop)]
@@ -30,6 +30,8 @@ pub enum DeviceStep {
     MakeLink(RootPath, Text),
     Sync(RootPath),
     Barrier,
+    SyncAll,
+    SyncRoot,
 }
 
 /// What was done: a step or the part of one that was, a script call that ended, one that a fault cut off, or nothing
@@ -66,7 +68,7 @@ fn front_of(alloc: Global, node: &Node, count: usize) -> Result<Node, AllocError
             let bytes = bytes.as_slice();
             let front = bytes.get(..count).unwrap_or(bytes);
             Ok(Node::File {
-                bytes: Bytes::from_slice(alloc, front)?,
+                bytes: Content::from_slice(alloc, front)?,
                 access: *access,
             })
         }
@@ -93,7 +95,7 @@ pub(crate) fn part_of(
     }
 }
 
-// Where a step is made. A move or link is made at its target, a barrier at the root.
+// Where a step is made. A move or link is made at its target, one that names no path at the root.
 pub(crate) fn place_of(alloc: Global, step: DeviceStep) -> RootPath
     ensures { result ≡ place_of (step_of step) }
 {
@@ -106,7 +108,9 @@ pub(crate) fn place_of(alloc: Global, step: DeviceStep) -> RootPath
         DeviceStep::Take(path) => path,
         DeviceStep::RemoveDir(path) => path,
         DeviceStep::Sync(path) => path,
-        DeviceStep::Barrier => RootPath::new(String::new(alloc)),
+        DeviceStep::Barrier | DeviceStep::SyncAll | DeviceStep::SyncRoot => {
+            RootPath::new(String::new(alloc))
+        }
     }
 }
 

@@ -48,7 +48,8 @@ impl History {
     ghost use Rattle.std.specs.BTreeMap.{get_by_text};
     ghost use Rattle.host_core.specs.Events.{Did, Failed, Denied};
     ghost use Rattle.host_core.specs.Unsynced.{KeepsSettled};
-    ghost use Rattle.host_core.specs.World.{put, is_kept, Barrier, Sync};
+    ghost use Rattle.host_core.specs.World.{put, is_kept};
+    ghost use Rattle.host_core.specs.Loss.{flushes};
     ghost use Rattle.host_memory.specs.Able.{CanDo};
     ghost use Rattle.host_memory.specs.Changes.{change_of};
     ghost use Rattle.host_memory.specs.Doings.{event_of, step_of};
@@ -150,24 +151,32 @@ impl History {
         self.events.push_reserved(Done::Denied(path));
     }
 
-    fn flush(&mut self) -> Result<(), AllocError>
-        ensures ok { OnOk result (Steps Barrier self.old self.new × HasRoom self.new) }
+    // Makes a step that brings all to the disk.
+    fn flush(&mut self, step: DeviceStep) -> Result<(), AllocError>
+        requires flushing { flushes (step_of step) ≡ true }
+        requires naming { names (step_of step) ≡ false }
+        requires settled { KeepsSettled (history_state self.old).events (step_of step) }
+        ensures ok { OnOk result (Steps (step_of step) self.old self.new × HasRoom self.new) }
         ensures err { OnErr result (IsAsBefore self.old self.new) }
     {
         self.make_room()?;
         self.disk = self.files.copy()?;
-        self.events.push_reserved(Done::Did(DeviceStep::Barrier));
+        self.events.push_reserved(Done::Did(step));
         self.flushed = self.events.len();
         self.pasts = Vec::new(self.alloc);
         Ok(())
     }
 
-    fn sync(&mut self, path: RootPath) -> Result<(), AllocError>
-        ensures ok { OnOk result (Steps (Sync path) self.old self.new × HasRoom self.new) }
+    // Makes a step that brings bytes to the disk, and touches no name.
+    fn sync(&mut self, step: DeviceStep) -> Result<(), AllocError>
+        requires flushing { flushes (step_of step) ≡ false }
+        requires naming { names (step_of step) ≡ false }
+        requires settled { KeepsSettled (history_state self.old).events (step_of step) }
+        ensures ok { OnOk result (Steps (step_of step) self.old self.new × HasRoom self.new) }
         ensures err { OnErr result (IsAsBefore self.old self.new) }
     {
         self.make_room()?;
-        self.events.push_reserved(Done::Did(DeviceStep::Sync(path)));
+        self.events.push_reserved(Done::Did(step));
         Ok(())
     }
 
@@ -197,8 +206,10 @@ impl History {
         ensures err { OnErr result (IsAsBefore self.old self.new) }
     {
         match step {
-            DeviceStep::Barrier => self.flush(),
-            DeviceStep::Sync(path) => self.sync(path),
+            DeviceStep::Barrier => self.flush(DeviceStep::Barrier),
+            DeviceStep::SyncRoot => self.flush(DeviceStep::SyncRoot),
+            DeviceStep::Sync(path) => self.sync(DeviceStep::Sync(path)),
+            DeviceStep::SyncAll => self.sync(DeviceStep::SyncAll),
             step => self.step_on_names(step),
         }
     }

@@ -336,7 +336,8 @@ impl MemoryHost {
 
 impl Host for MemoryHost {
     ghost use Rattle.std.specs.Prelude.{◌≡◌, ◌≤◌, None, true, false, IfOk, OnOk};
-    ghost use Rattle.host_core.specs.World.{Write, Move, Take, MakeDir, RemoveDir, HardLink, MakeLink, Sync, Barrier, kind_of, HasParent, IsBare, IsDirectory, IsFile, IsLoose, is_kept};
+    ghost use Rattle.host_core.specs.Paths.{Path};
+    ghost use Rattle.host_core.specs.World.{Write, Move, Take, MakeDir, RemoveDir, HardLink, MakeLink, Sync, Barrier, SyncAll, SyncRoot, kind_of, HasParent, IsBare, IsDirectory, IsFile, IsLoose, is_kept};
     ghost use Rattle.host_core.specs.Host.{Runs, Counts, Falls};
     ghost use Rattle.host_core.specs.Tree.{IsListing};
     ghost use Rattle.host_core.specs.Unsynced.{is_temporary, unsynced};
@@ -426,6 +427,19 @@ impl Host for MemoryHost {
         ensures { MakesStep Barrier self.old self.new result }
     {
         self.make_step(DeviceStep::Barrier)
+    }
+
+    fn sync_written(&mut self) -> Result<(), HostFault>
+        ensures makes { MakesStep SyncAll self.old self.new result }
+        ensures synced { OnOk result ((q : Path) → unsynced (memory_state self.new).events q ≡ false) }
+    {
+        self.make_step(DeviceStep::SyncAll)
+    }
+
+    fn sync_root(&mut self) -> Result<(), HostFault>
+        ensures { MakesStep SyncRoot self.old self.new result }
+    {
+        self.make_step(DeviceStep::SyncRoot)
     }
 
     fn rename(&mut self, from: &RootPath, to: &RootPath) -> Result<(), HostFault>

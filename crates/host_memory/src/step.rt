@@ -105,6 +105,7 @@ pub(crate) fn perform(alloc: Global, files: &mut Files, step: &DeviceStep) -> Re
             let target = target.copy()?;
             add(alloc, files, path, Node::Link { target })
         }
-        DeviceStep::Sync(_) | DeviceStep::Barrier => Ok(()),
+        DeviceStep::Sync(_) | DeviceStep::Barrier | DeviceStep::SyncAll | DeviceStep::SyncRoot =>
+            Ok(()),
     }
 }

@@ -12,9 +12,8 @@ ghost use Rattle.host_memory.specs.Traces.{event_target, is_target, target_of, t
 
 use crate::done::{DeviceStep, Done};
 use crate::files::Files;
-use host_core::{Node, RootPath};
+use host_core::{Content, Node, RootPath};
 use std::alloc::{AllocError, Global};
-use texts::Bytes;
 
 // Whether an unsynced file stands at a path behind an event: so, or as at another path before it.
 #[derive(Clone, Copy)]
@@ -62,7 +61,8 @@ fn trace_step<'a>(step: &'a DeviceStep, path: &'a RootPath) -> Trace<'a>
         DeviceStep::MakeDir(made, _) => marked_at(made, false, path),
         DeviceStep::MakeLink(made, _) => marked_at(made, false, path),
         DeviceStep::Sync(synced) => marked_at(synced, false, path),
-        DeviceStep::RemoveDir(_) | DeviceStep::Barrier => Trace::From(path),
+        DeviceStep::SyncAll => Trace::Known(false),
+        DeviceStep::RemoveDir(_) | DeviceStep::Barrier | DeviceStep::SyncRoot => Trace::From(path),
     }
 }
 
@@ -115,7 +115,7 @@ fn fill_node(alloc: Global, node: &Node, fill: u8) -> Result<Node, AllocError>
         Node::File { bytes, access } => {
             let bytes = vec![in alloc; fill; bytes.as_slice().len()]?;
             Ok(Node::File {
-                bytes: Bytes::new(bytes),
+                bytes: Content::new(bytes),
                 access: *access,
             })
         }

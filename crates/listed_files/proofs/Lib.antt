@@ -5,3 +5,4 @@ pub mod Closings
 pub mod Areas
 pub mod Concludings
 pub mod Turning
+pub mod Declining

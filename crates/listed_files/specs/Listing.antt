@@ -1,7 +1,10 @@
 -- A package's list and its files: while files are written the list names old and new paths (Policy 6.6).
-use Rattle.std.specs.Prelude.{◌⊎◌, List}
+use Rattle.std.specs.Prelude.{◌⊎◌, ◌+◌, ◌<◌, IsTrue, List, Result, Ok, Err}
 use Rattle.host_core.specs.Paths.{Path}
 use Rattle.host_core.specs.World.{World}
+use Rattle.host_core.specs.Host.{State, denials}
+use Rattle.host_core.specs.declared.fault.HostFault.{HostFault}
+use Rattle.host_core.specs.declared.fault.HostFault.TheVariants.{Device, NoMemory, Declined}
 use Rattle.host_core.specs.declared.node.Node.{Node}
 use Rattle.administration.specs.Files.{IsReplaced, IsReplacing}
 use Rattle.package_files.specs.declared.work.Work.{Work}
@@ -30,6 +33,13 @@ pub record HasTurnedBack (list : Path) (union listed : Node) (works : List Work)
 abbrev pub MayTurnBack : Path → (union listed : Node) → List Work → World → World → Type 0
 MayTurnBack list union listed works old now =
     MayList list union works old now ⊎ ((mid back : World) × IsReplaced list union old mid × Undone works mid back × IsReplacing list listed back now)
+
+-- Declined is told only where no file has been touched yet, since the list wasn't written, or where two steps were declined
+abbrev pub DeclinesListed : {T : Type 0} → Path → Node → Result T HostFault → State → State → Type 0
+DeclinesListed list union (Ok x) old new = Unit {0}
+DeclinesListed list union (Err Device) old new = Unit {0}
+DeclinesListed list union (Err NoMemory) old new = Unit {0}
+DeclinesListed list union (Err Declined) old new = (IsTrue new.honest → IsReplacing list union old.world new.world) ⊎ (denials old + 1 < denials new)
 
 -- the files were put back, and then the list was written
 pub record HasUnlisted (list : Path) (node : Node) (works : List Work) (old new : World) : Type 0 where

@@ -9,7 +9,7 @@ ghost use Rattle.package_files.specs.Files.{Each};
 ghost use Rattle.package_files.specs.Free.{IsFreeIn, IsSeen};
 ghost use Rattle.package_files.specs.Names.{AllInOrder, IsHomed, IsNamed};
 ghost use Rattle.package_files.specs.Back.{CanGoBack};
-ghost use Rattle.listed_files.specs.Listing.{HasListed, HasTurnedBack, HasUnlisted, MayTurnBack, MayUnlist};
+ghost use Rattle.listed_files.specs.Listing.{DeclinesListed, HasListed, HasTurnedBack, HasUnlisted, MayTurnBack, MayUnlist};
 
 use crate::open_lists::replace_list;
 use file_lists::{FileLists, Paths};
@@ -56,6 +56,8 @@ pub fn write_listed<H: Host>(
         new)) (H.state host.old) (H.state host.new) }
     ensures denied { IfOk result (λ declined. IfSome declined (λ k. denials (H.state host.old)
         < denials (H.state host.new))) }
+    ensures twice { DeclinesListed (list_path name.now) (list_file union) result (H.state host.old)
+        (H.state host.new) }
     ensures any_moment { AtEachMoment (MayTurnBack (list_path name.now) (list_file union)
         (list_file listed) works.now) (H.state host.old) (H.state host.new) }
     ensures silent { Silent (H.state host.old) (H.state host.new) }

@@ -2,6 +2,7 @@ mod Openings
 pub mod OneTable
 mod Faultless
 mod OneDiversions
-mod Merging
+pub mod Merging
 mod Reopened
+pub mod Brought
 pub mod KeptLists

@@ -41,7 +41,7 @@ use Rattle.status_db.proofs.NotedWorlds.{records_same}
 use Rattle.host_core.specs.declared.node.Node.{Node}
 use Rattle.opening.specs.Opened.{IsFound, IsListed}
 use Rattle.opening.specs.Leaving.{IsOpening, HasMadeWays, IsNewWay, is_way, root_path, ways}
-use Rattle.opening.specs.Parts.{IsUnhindered, Part, Root, Way, is_leftovers, IsDamaged, IsTable, SparesLeftovers, Records, Spare, Info, Diversions, Leftovers, IsFine, IsFirstFault, IsDamage, IsLeftoversFault, Finds, Opens, fault_in, names_of, parts}
+use Rattle.opening.specs.Parts.{Part, Root, Way, is_leftovers, IsDamaged, IsTable, SparesLeftovers, Records, Spare, Info, Diversions, Leftovers, IsFine, IsFirstFault, IsDamage, IsLeftoversFault, Finds, Opens, fault_in, names_of, parts}
 
 pub opening_start : (w : World) → IsOpening w w
 opening_start w = record { rest = λ q out. inl refl; left = λ q within. inl refl }
@@ -64,7 +64,7 @@ opening_then u v w first second = record {
   left = λ q within. less_then (w q) (v q) (u q) (first.left q within) (second.left q within);
 }
 
-opening_same : (u v : World) → v ≡ u → IsOpening u v
+pub opening_same : (u v : World) → v ≡ u → IsOpening u v
 opening_same u v same = subst (IsOpening u) (sym same) (opening_start u)
 
 pub moments_then : (a b c : State) → Since (λ so_far. IsOpening a.world) a b → Since (λ so_far. IsOpening b.world) b c → Since (λ so_far. IsOpening a.world) a c
@@ -276,7 +276,7 @@ pub opens_then : (a b : List Part) (fault : Option AdministrationFault) (u v w :
 opens_then a b fault u v w early first second = record {
   changes = opening_then u v w first.changes second.changes;
   finds = finds_behind a b w fault (all_kept a v w early second.changes first.finds) second.finds;
-  made = λ told. made_then u v w (first.made (λ e. cc e, λ e. cc e)) (second.made told);
+  made = λ told. made_then u v w (first.made (λ e. cc e)) (second.made told);
   left = λ spared q within. second.left (spared_behind a b fault spared) q within ∙ first.left (inl (early_spares a early)) q within;
 }
 
@@ -351,18 +351,18 @@ way_loose p q fault u v e way is making loose = subst (λ r. Opens (Way r ∷ []
   left = λ spared. making_spares p u v (ap is_way e ∙ way) making;
 }
 
-made_unless : (h : HostFault) (fault : AdministrationFault) (u v : World) → fault ≡ fault_of h → (h ≡ host.NoMemory → v ≡ u) → IsUnhindered (Some fault) → HasMadeWays u v
-made_unless host.Device fault u v is memory told = absurd (told.0 (ap (λ f. Some f) is))
-made_unless host.NoMemory fault u v is memory told = made_same u v (memory refl)
-made_unless host.Declined fault u v is memory told = absurd (told.1 (ap (λ f. Some f) is))
+made_unless : (h : HostFault) (fault : AdministrationFault) (u v : World) → fault ≡ fault_of h → ((h ≡ host.Device → ⊥) → v ≡ u) → (Some fault ≡ Some Device → ⊥) → HasMadeWays u v
+made_unless host.Device fault u v is unmade told = absurd (told (ap (λ f. Some f) is))
+made_unless host.NoMemory fault u v is unmade told = made_same u v (unmade (λ same. cc))
+made_unless host.Declined fault u v is unmade told = made_same u v (unmade (λ same. cc))
 
 -- the device failed while a directory was made, or that was declined, or memory was refused
-pub way_stopped : {T : Type 0} (p q : Path) (h : HostFault) (result : Result T AdministrationFault) (u v : World) → p ≡ q → is_way q ≡ true → IsErrAnd result (λ e. e ≡ fault_of h) → IsMaking p u v → (h ≡ host.NoMemory → v ≡ u) → Opens (Way q ∷ []) (fault_in result) u v
-way_stopped p q h (Ok x) u v e way told making memory = absurd told
-way_stopped p q h (Err fault) u v e way is making memory = record {
+pub way_stopped : {T : Type 0} (p q : Path) (h : HostFault) (result : Result T AdministrationFault) (u v : World) → p ≡ q → is_way q ≡ true → IsErrAnd result (λ e. e ≡ fault_of h) → IsMaking p u v → ((h ≡ host.Device → ⊥) → v ≡ u) → Opens (Way q ∷ []) (fault_in result) u v
+way_stopped p q h (Ok x) u v e way told making unmade = absurd told
+way_stopped p q h (Err fault) u v e way is making unmade = record {
   changes = opening_making p u v (ap is_way e ∙ way) making;
   finds = host_damage (Way q ∷ []) v h fault is;
-  made = made_unless h fault u v is memory;
+  made = made_unless h fault u v is unmade;
   left = λ spared. making_spares p u v (ap is_way e ∙ way) making;
 }
 

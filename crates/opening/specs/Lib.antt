@@ -2,3 +2,4 @@ pub mod Leaving
 pub mod Parts
 pub mod Undamaged
 pub mod Opened
+pub mod Stopped

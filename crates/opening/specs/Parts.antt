@@ -120,15 +120,11 @@ IsDamaged (Some Declined) = ⊥
 abbrev pub SparesLeftovers : List Part → Option AdministrationFault → Type 0
 SparesLeftovers among fault = (list_any is_leftovers among ≡ false) ⊎ IsDamaged fault
 
--- neither did the device fail, nor was a step declined
-abbrev pub IsUnhindered : Option AdministrationFault → Type 0
-IsUnhindered fault = (fault ≡ Some Device → ⊥) × (fault ≡ Some Declined → ⊥)
-
 -- these parts were opened up to this fault
 pub record Opens (among : List Part) (fault : Option AdministrationFault) (old new : World) : Type 0 where
   pub changes : IsOpening old new
   pub finds : Finds among new fault
-  pub made : IsUnhindered fault → HasMadeWays old new
+  pub made : (fault ≡ Some Device → ⊥) → HasMadeWays old new
   pub left : SparesLeftovers among fault → SameOn (is_within tmp_path) old new
 
 -- after all was read, the notes were merged into the status file, or that was broken off, which is never damage

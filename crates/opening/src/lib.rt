@@ -9,11 +9,13 @@
 //! moment of it, whatever the answer, nothing has changed but that missing directories of the
 //! administration were made and that some of what was left in `tmp.ci` is gone (`any_moment`),
 //! which stays where damage is told; the directories that were made have mode 755 in the end unless
-//! the device failed (`opens`).
+//! the device failed (`opens`). Where notes stand or `tmp.ci`, so that a command was stopped, the
+//! whole root is brought to the disk before any other step (`brought`).
 #![tactic(auto)]
 
 mod laws;
 mod open;
+mod stopped;
 
 pub use laws::{a_stopped_opening_can_be_opened, what_is_fine_has_no_fault};
 pub use open::{Opened, open_administration};

@@ -14,7 +14,9 @@ ghost use Rattle.opening.specs.Parts.{Root, Way, IsDamaged, IsTable, Opens, Open
 ghost use Rattle.status_db.specs.Noting.{AreNoted, IsMerging};
 ghost use Rattle.status_db.specs.Held.{IsKept};
 ghost use Rattle.opening.specs.Opened.{IsFound, IsListed, IsOpened};
+ghost use Rattle.opening.specs.Stopped.{AfterAStop, IsBrought};
 
+use crate::stopped::bring_to_disk;
 use administration::{
     AdministrationFault, Flatness, INCOMING, INFO, Standing, UPDATES, inspect_flat, look,
     make_directory, remove_flat,
@@ -459,9 +461,31 @@ fn settle_notes<H: Host>(
     }
 }
 
+// Opens the administration, and merges the notes into the status file after all else was found fine.
+fn open_brought<H: Host>(alloc: Global, host: &mut H) -> Result<Opened, AdministrationFault>
+    ensures opens { IsTrue (H.state host.new).honest
+        → OpensAndMerges (fault_in result) (H.state host.old).world (H.state host.new).world }
+    ensures opened { Gives result
+        (λ opened old new. IsOpened opened.database.records opened.lists.lists
+        opened.diversions.entries new)
+        (H.state host.old) (H.state host.new) }
+    ensures number { IfOk result (λ opened. opened.database.notes ≡ 0) }
+    ensures open { IfOk result (λ opened. opened.database.closed ≡ false) }
+    ensures listing { IfOk result (λ opened. opened.lists.closed ≡ false) }
+    ensures writable { IfOk result (λ opened. opened.diversions.closed ≡ false) }
+    ensures any_moment { AtEachMoment IsOpeningOrMerging (H.state host.old) (H.state host.new) }
+    ensures silent { Silent (H.state host.old) (H.state host.new) }
+    ensures counts { CountsAdministration (H.state host.old) (H.state host.new) result }
+{
+    match read_administration(alloc, host) {
+        Ok(opened) => settle_notes(alloc, host, opened),
+        Err(fault) => Err(fault),
+    }
+}
+
 /// Opens the administration below `/var/lib/dpkg`, and merges the notes into the status file after all
-/// else was found fine. A fault is that of the first part that can't be read; what opening changes is
-/// told by `opens`, whatever the answer.
+/// else was found fine. What a command that was stopped has left is brought to the disk before. A fault is that of the first
+/// part that can't be read; what opening changes is told by `opens`, whatever the answer.
 pub fn open_administration<H: Host>(
     alloc: Global,
     host: &mut H,
@@ -479,9 +503,10 @@ pub fn open_administration<H: Host>(
     ensures any_moment { AtEachMoment IsOpeningOrMerging (H.state host.old) (H.state host.new) }
     ensures silent { Silent (H.state host.old) (H.state host.new) }
     ensures counts { CountsAdministration (H.state host.old) (H.state host.new) result }
+    ensures brought { AfterAStop (IsBrought result) (H.state host.old) (H.state host.new) }
 {
-    match read_administration(alloc, host) {
-        Ok(opened) => settle_notes(alloc, host, opened),
+    match bring_to_disk(alloc, host) {
+        Ok(()) => open_brought(alloc, host),
         Err(fault) => Err(fault),
     }
 }

@@ -10,10 +10,12 @@ use Rattle.package_files.specs.Files.{Each, Misses, HasWritten, Written, IsBack,
 use Rattle.package_files.specs.Free.{IsFreeIn, IsSeen, IsWrittenFrom}
 use Rattle.package_files.specs.Names.{IsNamed, IsBefore, AllInOrder}
 use Rattle.package_files.specs.Apart.{Differ, HasNames}
-use Rattle.package_files.specs.Back.{CanGoBack, GoesBack, IsGoingBack}
+use Rattle.package_files.specs.Back.{IsGoingBack}
+use Rattle.package_files.specs.Laid.{IsUnderWay, IsUnderWayFrom, CanUndo, Undoes, IsUndoing}
 use Rattle.package_files.proofs.WorkNames.{IsNotBelow}
 use Rattle.package_files.proofs.WorkLists.{each_map, each_of, each_front, each_later, each_join, order_later, order_down, differ_later, differ_of, differ_back, Agree, new_agree, agree_by, agree_all}
 use Rattle.package_files.proofs.Written.{written_whole, whole_new}
+use Rattle.package_files.proofs.Laid.{under_way_new, under_way_whole}
 use Rattle.package_files.proofs.BackOne.{back_whole}
 
 -- a later change that misses y and all below it leaves what was said of y
@@ -46,12 +48,12 @@ module _ (a : List Work) (x : Work) (b : List Work) (named : Each IsNamed (a ++ 
   behind_it : (y : Work) → IsNamed y → Each (IsBefore y) (x ∷ b) → Each (λ z. Differ z y) (x ∷ b)
   behind_it y name less = each_map IsNamed (IsBefore y) (λ z. Differ z y) (λ z other before. differ_back y z (differ_of y z name other before)) (x ∷ b) named_b less
 
-  module _ (was mid v : World) (from : IsWrittenFrom (a ++ x ∷ b) was mid) (more : PutBack b was mid v) where
-    pub from_at : IsWrittenFrom (x ∷ []) was v
+  module _ (was mid v : World) (from : IsUnderWayFrom (a ++ x ∷ b) was mid) (more : PutBack b was mid v) where
+    pub from_at : IsUnderWayFrom (x ∷ []) was v
     from_at = record {
       free = ((each_later (IsFreeIn was) a (x ∷ b) from.free).0, tt);
       seen = ((each_later (IsSeen was) a (x ∷ b) from.seen).0, tt);
-      has = (new_agree was mid v x (agree_all v mid x b more.rest (each_of (λ y. Differ x y × IsNotBelow x y) (λ y. Differ y x) (λ y d. differ_back x y d.0) b later)) (each_later (HasWritten was mid) a (x ∷ b) from.has).0, tt);
+      has = (under_way_new was mid v x (agree_all v mid x b more.rest (each_of (λ y. Differ x y × IsNotBelow x y) (λ y. Differ y x) (λ y d. differ_back x y d.0) b later)) (each_later (IsUnderWay was mid) a (x ∷ b) from.has).0, tt);
     }
 
     -- one path more
@@ -69,9 +71,9 @@ module _ (a : List Work) (x : Work) (b : List Work) (named : Each IsNamed (a ++ 
         let same : (q : Path) → Each (λ z. Misses z q) (x ∷ b) → c q ≡ mid q = λ q misses. amid.rest q (misses.0, tt) ∙ more.rest q misses.1 in
         record {
           each = each_join (IsWhole was c) a (x ∷ b)
-              (each_map (HasWritten was mid) (λ y. IsNamed y × Each (IsBefore y) (x ∷ b)) (IsWhole was c)
-              (λ y has name. written_whole was c y (new_agree was mid c y (agree_all c mid y (x ∷ b) same (behind_it y name.0 name.1)) has)) a
-              (each_front (HasWritten was mid) a (x ∷ b) from.has)
+              (each_map (IsUnderWay was mid) (λ y. IsNamed y × Each (IsBefore y) (x ∷ b)) (IsWhole was c)
+              (λ y has name. under_way_whole was c y (under_way_new was mid c y (agree_all c mid y (x ∷ b) same (behind_it y name.0 name.1)) has)) a
+              (each_front (IsUnderWay was mid) a (x ∷ b) from.has)
               (each_map IsNamed (λ y. Each (IsBefore y) (x ∷ b)) (λ y. IsNamed y × Each (IsBefore y) (x ∷ b)) (λ y name less. (name, less)) a named_a (order_down a (x ∷ b) order))) (
                 amid.each.0,
                 each_map (λ y. Differ x y × IsNotBelow x y) (HasPutBack was v) (IsWhole was c) (λ y d back. whole_new was v c y (agree_by c v x y (λ q miss. amid.rest q (miss, tt)) d.0) (back_whole was v y back)) b later more.each,
@@ -81,27 +83,30 @@ module _ (a : List Work) (x : Work) (b : List Work) (named : Each IsNamed (a ++ 
 
 -- whichever world they were written from
 
-module _ (works a : List Work) (x : Work) (b : List Work) (is : works ≡ a ++ x ∷ b) (named : Each IsNamed works) (order : AllInOrder works) (mid v : World) (more : (was : World) → IsWrittenFrom works was mid → PutBack b was mid v) where
-  from_here : (was : World) → IsWrittenFrom works was mid → IsWrittenFrom (x ∷ []) was v
-  from_here was from = from_at a x b (subst (Each IsNamed) is named) (subst AllInOrder is order) was mid v (subst (λ l. IsWrittenFrom l was mid) is from) (more was from)
+module _ (works a : List Work) (x : Work) (b : List Work) (is : works ≡ a ++ x ∷ b) (named : Each IsNamed works) (order : AllInOrder works) (mid v : World) (more : (was : World) → IsUnderWayFrom works was mid → PutBack b was mid v) where
+  from_here : (was : World) → IsUnderWayFrom works was mid → IsUnderWayFrom (x ∷ []) was v
+  from_here was from = from_at a x b (subst (Each IsNamed) is named) (subst AllInOrder is order) was mid v (subst (λ l. IsUnderWayFrom l was mid) is from) (more was from)
 
-  pub can_here : CanGoBack works mid → CanGoBack (x ∷ []) v
+  pub can_here : CanUndo works mid → CanUndo (x ∷ []) v
   can_here w = (w.0, from_here w.0 w.1)
 
-  pub back_here : (w : World) → GoesBack (x ∷ []) v w → (was : World) → IsWrittenFrom works was mid → PutBack (x ∷ b) was mid w
+  pub back_here : (w : World) → Undoes (x ∷ []) v w → (was : World) → IsUnderWayFrom works was mid → PutBack (x ∷ b) was mid w
   back_here w back was from =
-      back_more a x b (subst (Each IsNamed) is named) (subst AllInOrder is order) was mid v (subst (λ l. IsWrittenFrom l was mid) is from)
+      back_more a x b (subst (Each IsNamed) is named) (subst AllInOrder is order) was mid v (subst (λ l. IsUnderWayFrom l was mid) is from)
       (more was from) w (back was (from_here was from))
 
-  pub going_here : (c : World) → IsGoingBack (x ∷ []) v c → IsGoingBack works mid c
+  pub going_here : (c : World) → IsUndoing (x ∷ []) v c → IsUndoing works mid c
   going_here c going was from = subst (λ l. IsAmid l was mid c) (sym is)
-      (going_more a x b (subst (Each IsNamed) is named) (subst AllInOrder is order) was mid v (subst (λ l. IsWrittenFrom l was mid) is from)
+      (going_more a x b (subst (Each IsNamed) is named) (subst AllInOrder is order) was mid v (subst (λ l. IsUnderWayFrom l was mid) is from)
       (more was from) c (going was (from_here was from)))
 
 -- nothing is put back yet
 
 pub back_none : (works : List Work) (was mid : World) → PutBack (drop (length works) works) was mid mid
 back_none works was mid = subst (λ l. PutBack l was mid mid) (sym (drop_all (length works) works (omega arith))) record { each = tt; rest = λ q misses. refl }
+
+pub undoing_none : (works : List Work) (mid : World) → IsUndoing works mid mid
+undoing_none works mid was from = record { each = each_of (IsUnderWay was mid) (IsWhole was mid) (λ y. under_way_whole was mid y) works from.has; rest = λ q misses. refl }
 
 pub going_none : (works : List Work) (mid : World) → IsGoingBack works mid mid
 going_none works mid was from = record { each = each_of (HasWritten was mid) (IsWhole was mid) (λ y. written_whole was mid y) works from.has; rest = λ q misses. refl }

@@ -1,11 +1,14 @@
 pub mod WorkNames
 pub mod WorkLists
 pub mod Written
+pub mod Laid
 pub mod OnePath
 pub mod WriteLists
 pub mod WriteMoments
-pub mod Bareness
 pub mod BackOne
 pub mod BackLists
 pub mod Tried
 pub mod Undoing
+pub mod Taking
+pub mod PartWay
+pub mod TakingBack

@@ -10,12 +10,14 @@ use Rattle.host_core.specs.declared.node.Node.TheVariants.{Dir}
 use Rattle.administration.specs.Files.{KeepsBeside, IsAside}
 use Rattle.package_files.specs.declared.work.Work.{Work}
 use Rattle.package_files.specs.Files.{is_written, cleared, shown, saved, Each, Misses, Written, before, between, behind, IsAmid}
-use Rattle.package_files.specs.Free.{IsFree, IsFreeIn}
+use Rattle.package_files.specs.Free.{IsFree, IsFreeIn, IsSeen}
+use Rattle.package_files.specs.Laid.{is_exchanged, IsPreparedAs, Prepared}
 use Rattle.package_files.specs.Names.{IsNamed}
 use Rattle.package_files.specs.Apart.{IsApart}
-use Rattle.package_files.specs.Steps.{IsCleared, AreCleared, KeepsBesideSpares, IsReady, IsSaved}
+use Rattle.package_files.specs.Steps.{IsCleared, AreCleared, KeepsBesideSpares, IsReady}
+use Rattle.package_files.proofs.Laid.{exchanged_free, left_there, laid_prepared, written_prepared}
 use Rattle.package_files.proofs.WorkNames.{named_apart, home_stays}
-use Rattle.package_files.proofs.Written.{kind_file, kind_directory, keeps_directory, keeps_link, makes_over_file, makes_at_none, cleared_again, saved_cleared, free_cleared, writes_loose, free_loose, saved_some, shown_directory, whole_from}
+use Rattle.package_files.proofs.Written.{kind_file, kind_directory, keeps_directory, keeps_link, makes_over_file, makes_at_none, cleared_again, saved_cleared, free_cleared, saved_some, shown_directory, whole_from}
 
 other : {p q : Path} → p ≢ q → q ≢ p
 other ne e = ne (sym e)
@@ -72,17 +74,22 @@ module _ (x : Work) (w v : World) (named : IsNamed x) where
     saved_then : (a : Bool) → saved a (v x.target) (v x.backup) ≡ saved a (w x.target) (w x.backup)
     saved_then a = (λ i. saved a (cleared_target i) (clear.backup i)) ∙ saved_cleared a (w x.target) (w x.backup)
 
-    pub written_then : (u : World) → Written (x ∷ []) v u → Written (x ∷ []) w u
-    written_then u written = record {
-      each = (
-        record {
-          target = written.each.0.target ∙ ap (λ o. shown (is_written x.node o) x.node o) cleared_target;
-          backup = written.each.0.backup ∙ saved_then (is_written x.node (v x.target)) ∙ ap (λ o. saved (is_written x.node o) (w x.target) (w x.backup)) cleared_target;
-          fresh = written.each.0.fresh ∙ ap cleared clear.fresh ∙ cleared_again (w x.fresh);
-        },
-        tt,
-      );
-      rest = λ q misses. written.rest q misses ∙ cleared_rest q misses.0;
+    then_as : (b : Bool) (u : World) → IsPreparedAs b v u x → IsPreparedAs b w u x
+    then_as true u laid = record {
+      target = laid.target ∙ cleared_target;
+      backup = laid.backup ∙ ap cleared clear.backup ∙ cleared_again (w x.backup);
+      fresh = laid.fresh;
+    }
+    then_as false u has = record {
+      target = has.target ∙ ap (λ o. shown (is_written x.node o) x.node o) cleared_target;
+      backup = has.backup ∙ saved_then (is_written x.node (v x.target)) ∙ ap (λ o. saved (is_written x.node o) (w x.target) (w x.backup)) cleared_target;
+      fresh = has.fresh ∙ ap cleared clear.fresh ∙ cleared_again (w x.fresh);
+    }
+
+    pub prepared_then : (u : World) → Prepared (x ∷ []) v u → Prepared (x ∷ []) w u
+    prepared_then u prepared = record {
+      each = (then_as (is_exchanged x.node x.had) u prepared.each.0, tt);
+      rest = λ q misses. prepared.rest q misses ∙ cleared_rest q misses.0;
     }
 
     pub amid_then : (c : World) → IsAmid (x ∷ []) v v c → IsAmid (x ∷ []) w w c
@@ -111,62 +118,33 @@ left_written x w left ready = record {
   rest = λ q misses. refl;
 }
 
--- a file or link is exchanged for what is there
+-- what is written is prepared where nothing takes a place
+pub written_is_prepared : (x : Work) (w v : World) → is_exchanged x.node x.had ≡ false → Written (x ∷ []) w v → Prepared (x ∷ []) w v
+written_is_prepared x w v is written = record { each = (written_prepared w v x is written.each.0, tt); rest = written.rest }
 
-module _ (x : Work) (w : World) (named : IsNamed x) (loose : is_directory (Some x.node) ≡ false) (ready : IsReady x w) (over : is_directory (w x.target) ≡ false) where
-  gone : (cleared (w x.backup) ≡ None) × (cleared (w x.fresh) ≡ None)
-  gone = free_loose x.node (w x.target) (w x.backup) (w x.fresh) loose over ready.free
+-- a file or link is left where a directory stands
+pub left_prepared : (x : Work) (w : World) → is_directory (Some x.node) ≡ false → is_exchanged x.node x.had ≡ false → IsSeen w x → IsReady x w → Prepared (x ∷ []) w w
+left_prepared x w loose is seen ready = written_is_prepared x w w is (left_written x w (keeps_directory x.node (w x.target) (left_there w x seen loose is)) ready)
 
+-- or stands at its temporary name
+module _ (x : Work) (w : World) (named : IsNamed x) (is : is_exchanged x.node x.had ≡ true) (seen : IsSeen w x) (ready : IsReady x w) where
   pub fresh_absent : w x.fresh ≡ None
-  fresh_absent = sym ready.fresh ∙ gone.1
+  fresh_absent = sym ready.fresh ∙ (exchanged_free w x seen is ready.free).1
 
-  pub backup_absent : w x.backup ≡ None
-  backup_absent = sym ready.backup ∙ gone.0
-
-  wrote : is_written x.node (w x.target) ≡ true
-  wrote = writes_loose x.node (w x.target) loose over
-
-  names : IsApart x
-  names = named_apart x named
-
-  module _ (v : World) (aside : IsAside x.fresh x.node w v) where
-    pub aside_target : v x.target ≡ w x.target
-    aside_target = aside.rest x.target (other names.fresh)
-
-    pub aside_backup : v x.backup ≡ w x.backup
-    aside_backup = aside.rest x.backup (other names.spare)
-
-    pub aside_rest : (q : Path) → Misses x q → v q ≡ w q
-    aside_rest q misses = aside.rest q misses.fresh
-
-    pub amid_saving : (c : World) → KeepsBeside x.backup v c → IsAmid (x ∷ []) w w c
-    amid_saving c keeps = amid_before x w c (keeps x.target (other names.backup) ∙ aside_target) (λ q misses. keeps q misses.backup ∙ aside_rest q misses)
-
-    module _ (u : World) (save : IsSaved x v u) where
-      pub saved_target : u x.target ≡ w x.target
-      saved_target = save.rest x.target (other names.backup) ∙ aside_target
-
-      pub saved_fresh : u x.fresh ≡ Some x.node
-      saved_fresh = save.rest x.fresh names.spare ∙ aside.target
-
-      pub saved_rest : (q : Path) → Misses x q → u q ≡ w q
-      saved_rest q misses = save.rest q misses.backup ∙ aside_rest q misses
-
-      pub exchanged : Written (x ∷ []) w (moved u x.fresh x.target)
-      exchanged =
-          let one = put u x.fresh None in
-          record {
-            each = (
-              record {
-                target = put_same one x.target x.target (u x.fresh) refl ∙ saved_fresh ∙ ap (λ a. shown a x.node (w x.target)) (sym wrote);
-                backup = put_other one x.target x.backup (u x.fresh) names.backup ∙ put_other u x.fresh x.backup None (other names.spare) ∙ save.backup
-                    ∙ (λ i. saved true (aside_target i) (aside_backup i)) ∙ ap (λ a. saved a (w x.target) (w x.backup)) (sym wrote);
-                fresh = put_other one x.target x.fresh (u x.fresh) names.fresh ∙ put_same u x.fresh x.fresh None refl ∙ sym gone.1;
-              },
-              tt,
-            );
-            rest = λ q misses. put_other one x.target q (u x.fresh) misses.0.target ∙ put_other u x.fresh q None misses.0.fresh ∙ saved_rest q misses.0;
-          }
+  pub laid_here : (v : World) → IsAside x.fresh x.node w v → Prepared (x ∷ []) w v
+  laid_here v aside =
+      let names = named_apart x named in
+      record {
+        each = (
+          laid_prepared w v x is record {
+            target = aside.rest x.target (other names.fresh);
+            backup = aside.rest x.backup (other names.spare) ∙ sym ready.backup;
+            fresh = aside.target;
+          },
+          tt,
+        );
+        rest = λ q misses. aside.rest q misses.0.fresh;
+      }
 
 -- a directory is made, once its place is free
 

@@ -2,11 +2,9 @@
 use Rattle.std.proofs.Common.{◌≡◌, Bool, true, false, [], ◌∷◌, Option, Some, None, IsTrue, Result, Ok, Err, inl, inr, refl, sym, ap, subst, ◌∙◌, arith}
 use Rattle.std.proofs.lemmas.Bool.{true≢false}
 use Rattle.host_core.specs.Paths.{Path}
-use Rattle.host_core.specs.World.{World, Step, Write, put, moved, HasParent, IsLoose, is_directory, kind_of}
+use Rattle.host_core.specs.World.{World, Step, put, moved, HasParent, IsLoose, kind_of}
 use Rattle.host_core.specs.Tree.{IsTree}
-use Rattle.host_core.specs.Events.{Did}
-use Rattle.host_core.specs.Host.{State, NoFault, Counts, Does, Happens}
-use Rattle.host_core.proofs.Counted.{no_fault_then, declined_then}
+use Rattle.host_core.specs.Host.{State, Does}
 use Rattle.host_core.specs.declared.fault.HostFault.{HostFault}
 use Rattle.host_core.specs.declared.fault.HostFault.TheVariants.{Device, NoMemory, Declined}
 use Rattle.host_core.proofs.Moments.{declined_world}
@@ -17,15 +15,14 @@ use Rattle.host_core.specs.declared.node.Kind.{Kind}
 use Rattle.host_core.specs.declared.node.Kind.TheVariants as kind
 use Rattle.host_core.specs.declared.node.Node.{Node}
 use Rattle.host_core.specs.declared.node.Node.TheVariants.{File, Dir, Link}
-use Rattle.administration.specs.Files.{IsAside}
 use Rattle.package_files.specs.declared.work.Work.{Work}
-use Rattle.package_files.specs.Files.{is_written, cleared, saved, IsAmid, between}
+use Rattle.package_files.specs.Files.{is_written, cleared, IsAmid, between}
 use Rattle.package_files.specs.Free.{IsFree}
 use Rattle.package_files.specs.Names.{IsNamed}
 use Rattle.package_files.specs.Apart.{IsApart}
-use Rattle.package_files.specs.Steps.{IsCleared, AreCleared, KeepsBesideSpares, IsReady, IsSaved, OnDeclined, HasBegun, IsMadeRoom, HasTried, WasTriedFrom}
+use Rattle.package_files.specs.Steps.{IsCleared, AreCleared, KeepsBesideSpares, IsReady, OnDeclined, HasBegun, IsMadeRoom, HasTried, WasTriedFrom}
 use Rattle.package_files.proofs.WorkNames.{named_apart}
-use Rattle.package_files.proofs.Written.{kind_file, cleared_again, free_loose, free_over_file, makes_over_file}
+use Rattle.package_files.proofs.Written.{kind_file, cleared_again, free_over_file, makes_over_file}
 use Rattle.package_files.proofs.BackOne.{home_by_backup}
 use Rattle.package_files.proofs.OnePath.{amid_spares, over_vacant}
 
@@ -45,12 +42,6 @@ on_declined (Err Device) P Q so is = tt
 on_declined (Err NoMemory) P Q so is = tt
 on_declined (Err Declined) P Q so is = so is
 
--- the fault of a call that came after others that went well
-pub counts_fault : (T U : Type 0) (fault : HostFault) (a b c : State) → NoFault a b → Counts {T = T} b c (Err fault) → Counts {T = U} a c (Err fault)
-counts_fault T U Device a b c first second = record { once = omega (arith, first.faults, second.once); last = second.last }
-counts_fault T U NoMemory a b c first second = no_fault_then a b c first second
-counts_fault T U Declined a b c first second = declined_then a b c first second
-
 -- the spare names
 
 pub begun_same : (x : Work) (old new : World) → new ≡ old → HasBegun x old new
@@ -59,6 +50,9 @@ begun_same x old new same = record {
   fresh = ap (λ w. cleared (w x.fresh)) same;
   rest = λ q ne_b ne_f. ap (λ w. w q) same;
 }
+
+pub tried_same : (x : Work) (old new : World) → new ≡ old → HasTried x old new
+tried_same x old new same = inl (begun_same x old new same)
 
 pub begun_then : (x : Work) (old mid new : World) → HasBegun x old mid → HasBegun x mid new → HasBegun x old new
 begun_then x old mid new first second = record {
@@ -94,52 +88,6 @@ cleared_begun x old mid new begun clear = record {
 
 pub amid_clearing : (x : Work) (old mid now : World) → IsNamed x → HasBegun x old mid → KeepsBesideSpares x mid now → IsAmid (x ∷ []) old old now
 amid_clearing x old mid now named begun keeps = amid_spares x old now named (λ q ne_b ne_f. keeps q ne_b ne_f ∙ begun.rest q ne_b ne_f)
-
--- a file or link is exchanged for what is there
-
-cleared_loose : (n : Node) → is_directory (Some n) ≡ false → cleared (Some n) ≡ None
-cleared_loose (File b m) plain = refl
-cleared_loose (Dir m) plain = absurd (true≢false plain)
-cleared_loose (Link t) plain = refl
-
-cleared_saved : (t b : Option Node) → is_directory t ≡ false → cleared b ≡ None → cleared (saved true t b) ≡ None
-cleared_saved None b plain none = cleared_again b ∙ none
-cleared_saved (Some n) b plain none = cleared_loose n plain
-
-pub begun_aside : (x : Work) (old mid new : World) → IsNamed x → is_directory (Some x.node) ≡ false → old x.fresh ≡ None → IsAside x.fresh x.node old mid → new ≡ mid → HasBegun x old new
-begun_aside x old mid new named loose none aside same = begun_then x old mid new
-    record {
-      backup = ap cleared (aside.rest x.backup (other (named_apart x named).spare));
-      fresh = ap cleared aside.target ∙ cleared_loose x.node loose ∙ sym (ap cleared none);
-      rest = λ q ne_b ne_f. aside.rest q ne_f;
-    }
-    (begun_same x mid new same)
-
-module _ (x : Work) (old : World) (named : IsNamed x) (loose : is_directory (Some x.node) ≡ false) (ready : IsReady x old) (over : is_directory (old x.target) ≡ false) where
-  gone : (cleared (old x.backup) ≡ None) × (cleared (old x.fresh) ≡ None)
-  gone = free_loose x.node (old x.target) (old x.backup) (old x.fresh) loose over ready.free
-
-  pub begun_made : (mid new : World) → IsAside x.fresh x.node old mid → new ≡ mid → HasBegun x old new
-  begun_made mid new aside same = begun_aside x old mid new named loose (sym ready.fresh ∙ gone.1) aside same
-
-  pub begun_saved : (mid end new : World) → IsAside x.fresh x.node old mid → IsSaved x mid end → new ≡ end → HasBegun x old new
-  begun_saved mid end new aside save same =
-      let a = named_apart x named in
-      let there : mid x.target ≡ old x.target = aside.rest x.target (other a.fresh) in
-      let spare : mid x.backup ≡ old x.backup = aside.rest x.backup (other a.spare) in
-      begun_then x old end new
-      record {
-        backup = ap cleared save.backup ∙ cleared_saved (mid x.target) (mid x.backup) (ap is_directory there ∙ over) (ap cleared spare ∙ gone.0) ∙ sym gone.0;
-        fresh = ap cleared (save.rest x.fresh a.spare ∙ aside.target) ∙ cleared_loose x.node loose ∙ sym gone.1;
-        rest = λ q ne_b ne_f. save.rest q ne_b ∙ aside.rest q ne_f;
-      }
-      (begun_same x end new same)
-
-pub written_aside : (p : Path) (n : Node) (a b : State) → Happens (Did (Write p n) ∷ []) a b → IsAside p n a.world b.world
-written_aside p n a b wrote = record {
-  target = ap (λ w. w p) wrote.world ∙ put_same a.world p p (Some n) refl;
-  rest = λ q ne. ap (λ w. w q) wrote.world ∙ put_other a.world p q (Some n) ne;
-}
 
 -- a directory takes the place of a file
 
@@ -182,15 +130,15 @@ none_some : (k : Kind) → None ≡ Some k → ⊥
 unfolding none_or
 none_some k e = true≢false (ap none_or e)
 
-module _ (x : Work) (had : Option Kind) (was w : World) (named : IsNamed x) (from : WasTriedFrom x had was w) where
-  pub begun_at_none : had ≡ None → HasBegun x was w
+module _ (x : Work) (was w : World) (named : IsNamed x) (from : WasTriedFrom x was w) where
+  pub begun_at_none : x.had ≡ None → HasBegun x was w
   begun_at_none none = by from.tried where
     by : HasTried x was w → HasBegun x was w
     by (inl begun) = begun
     by (inr room) = absurd (none_some kind.File (sym none ∙ from.seen ∙ sym room.over))
 
   -- the target is missing
-  pub room_at : (k : Kind) → had ≡ Some k → None ≡ kind_of (w x.target) → IsMadeRoom x was w
+  pub room_at : (k : Kind) → x.had ≡ Some k → None ≡ kind_of (w x.target) → IsMadeRoom x was w
   room_at k is missing = by from.tried where
     a : IsApart x
     a = named_apart x named

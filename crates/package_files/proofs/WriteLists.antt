@@ -1,5 +1,5 @@
--- Shipped paths are written one after another: what each leaves of those before and after it.
-use Rattle.std.proofs.Common.{◌≡◌, ◌⊎◌, ℕ, ◌+◌, ◌<◌, List, [], ◌∷◌, ◌++◌, length, get_or, take, drop, Option, Some, None, inl, inr, refl, sym, ap, subst, ◌∙◌, arith}
+-- Shipped paths are prepared one after another: what each leaves of those before and after it.
+use Rattle.std.proofs.Common.{◌≡◌, ◌⊎◌, ℕ, ◌+◌, ◌<◌, Bool, true, false, IsTrue, List, [], ◌∷◌, ◌++◌, length, get_or, take, drop, Option, Some, None, inl, inr, refl, sym, ap, subst, ◌∙◌, arith}
 use Rattle.std.proofs.lemmas.Bool.{true≢false}
 use Rattle.std.proofs.lemmas.List.{append-nil, length-append, take-append-drop, take_more}
 use Rattle.std.proofs.Math.Seq.{drop-cons}
@@ -7,18 +7,21 @@ use Rattle.std.proofs.Math.Numerals.{add-one}
 use Rattle.std.specs.Ordering.{is_lt, nat_cmp}
 use Rattle.std.specs.Cmp.Lexicographic.{slice_cmp}
 use Rattle.host_core.specs.Paths.{Path}
-use Rattle.host_core.specs.World.{World, IsDirectory, HasParent}
+use Rattle.host_core.specs.World.{World, IsDirectory, HasParent, is_directory}
+use Rattle.host_core.specs.declared.node.Access.{Access}
 use Rattle.host_core.specs.declared.node.Node.{Node}
 use Rattle.host_core.specs.declared.node.Node.TheVariants.{File, Dir, Link}
 use Rattle.host_core.proofs.Paths.{decide}
 use Rattle.package_files.specs.declared.work.Work.{Work}
-use Rattle.package_files.specs.Files.{is_written, cleared, shown, saved, Each, Misses, HasWritten, Written, IsWhole, before, IsAmid}
-use Rattle.package_files.specs.Free.{IsFree, IsFreeIn}
+use Rattle.package_files.specs.Files.{is_written, cleared, shown, saved, Each, Misses, HasWritten, IsWhole, before, IsAmid}
+use Rattle.package_files.specs.Free.{IsFree, IsFreeIn, IsSeen}
+use Rattle.package_files.specs.Laid.{is_exchanged, IsLaid, HasPrepared, Prepared}
 use Rattle.package_files.specs.Names.{IsNamed, IsBefore, AllInOrder, HasMaker, IsHomed}
 use Rattle.package_files.specs.Apart.{Differ}
 use Rattle.package_files.proofs.WorkNames.{below_is, never, IsNotBelow}
-use Rattle.package_files.proofs.WorkLists.{each_map, each_front, each_later, each_join, order_later, order_across, differ_later, differ_earlier, differ_back, Agree, old_agree, new_agree, free_agree, agree_by, agree_all}
-use Rattle.package_files.proofs.Written.{keeps_directory, written_whole, whole_agree}
+use Rattle.package_files.proofs.WorkLists.{each_map, each_front, each_later, each_join, order_later, order_across, differ_later, differ_earlier, differ_back, Agree, free_agree, agree_by, agree_all}
+use Rattle.package_files.proofs.Written.{keeps_directory, whole_agree}
+use Rattle.package_files.proofs.Laid.{directory_stands_out, exchanged_free, prepared_laid, prepared_written, prepared_whole, prepared_old, prepared_new}
 
 -- a directory stays while works are written
 
@@ -52,9 +55,8 @@ saved_keeps (Link c) (Some (File d k)) kept fresh free dir = absurd (no_dir kept
 saved_keeps (Link c) (Some (Dir k)) kept fresh free dir = cleared_keeps kept dir
 saved_keeps (Link c) (Some (Link l)) kept fresh free dir = absurd (no_dir kept free.0 dir)
 
--- at a name of a work, or the work misses it
-stays_at : (x : Work) (w v : World) (q : Path) → HasWritten w v x → IsFreeIn w x → IsDirectory (w q) → (v q ≡ w q) ⊎ Misses x q
-stays_at x w v q has free dir = elim (decide q x.target) [
+written_keeps : (x : Work) (w v : World) (q : Path) → HasWritten w v x → IsFreeIn w x → IsDirectory (w q) → (v q ≡ w q) ⊎ Misses x q
+written_keeps x w v q has free dir = elim (decide q x.target) [
   | inl e ↦ inl (ap v e ∙ has.target ∙ shown_keeps x.node (w x.target) (subst (λ p. IsDirectory (w p)) e dir) ∙ ap w (sym e))
   | inr ne_t ↦ elim (decide q x.backup) [
     | inl e ↦ inl (ap v e ∙ has.backup ∙ saved_keeps x.node (w x.target) (w x.backup) (w x.fresh) free (subst (λ p. IsDirectory (w p)) e dir) ∙ ap w (sym e))
@@ -65,18 +67,37 @@ stays_at x w v q has free dir = elim (decide q x.target) [
   ]
 ]
 
-stays_in : (xs : List Work) (w v : World) (q : Path) → Each (HasWritten w v) xs → Each (IsFreeIn w) xs → IsDirectory (w q) → (v q ≡ w q) ⊎ Each (λ x. Misses x q) xs
-stays_in [] w v q has free dir = inr tt
-stays_in (x ∷ xs) w v q has free dir = elim (stays_at x w v q has.0 free.0 dir) [
+laid_keeps : (x : Work) (w v : World) (q : Path) → IsLaid w v x → cleared (w x.fresh) ≡ None → IsDirectory (w q) → (v q ≡ w q) ⊎ Misses x q
+laid_keeps x w v q has free dir = elim (decide q x.target) [
+  | inl e ↦ inl (ap v e ∙ has.target ∙ ap w (sym e))
+  | inr ne_t ↦ elim (decide q x.backup) [
+    | inl e ↦ inl (ap v e ∙ has.backup ∙ cleared_keeps (w x.backup) (subst (λ p. IsDirectory (w p)) e dir) ∙ ap w (sym e))
+    | inr ne_b ↦ elim (decide q x.fresh) [
+      | inl e ↦ absurd (no_dir (w x.fresh) free (subst (λ p. IsDirectory (w p)) e dir))
+      | inr ne_f ↦ inr record { target = ne_t; backup = ne_b; fresh = ne_f }
+    ]
+  ]
+]
+
+-- at a name of a work, or the work misses it
+stays_at : (x : Work) (w v : World) (q : Path) → HasPrepared w v x → IsFreeIn w x → IsSeen w x → IsDirectory (w q) → (v q ≡ w q) ⊎ Misses x q
+stays_at x w v q has free seen dir = by (is_exchanged x.node x.had) refl where
+  by : (b : Bool) → is_exchanged x.node x.had ≡ b → (v q ≡ w q) ⊎ Misses x q
+  by true is = laid_keeps x w v q (prepared_laid w v x is has) (exchanged_free w x seen is free).1 dir
+  by false is = written_keeps x w v q (prepared_written w v x is has) free dir
+
+stays_in : (xs : List Work) (w v : World) (q : Path) → Each (HasPrepared w v) xs → Each (IsFreeIn w) xs → Each (IsSeen w) xs → IsDirectory (w q) → (v q ≡ w q) ⊎ Each (λ x. Misses x q) xs
+stays_in [] w v q has free seen dir = inr tt
+stays_in (x ∷ xs) w v q has free seen dir = elim (stays_at x w v q has.0 free.0 seen.0 dir) [
   | inl e ↦ inl e
-  | inr miss ↦ elim (stays_in xs w v q has.1 free.1 dir) [
+  | inr miss ↦ elim (stays_in xs w v q has.1 free.1 seen.1 dir) [
     | inl e ↦ inl e
     | inr others ↦ inr (miss, others)
   ]
 ]
 
-pub directory_stays : (xs : List Work) (w v : World) (q : Path) → Written xs w v → Each (IsFreeIn w) xs → IsDirectory (w q) → v q ≡ w q
-directory_stays xs w v q written free dir = elim (stays_in xs w v q written.each free dir) [ inl e ↦ e | inr misses ↦ written.rest q misses ]
+pub directory_stays : (xs : List Work) (w v : World) (q : Path) → Prepared xs w v → Each (IsFreeIn w) xs → Each (IsSeen w) xs → IsDirectory (w q) → v q ≡ w q
+directory_stays xs w v q prepared free seen dir = elim (stays_in xs w v q prepared.each free seen dir) [ inl e ↦ e | inr misses ↦ prepared.rest q misses ]
 
 -- the parent of a place is there, or one of the earlier works made it
 
@@ -93,9 +114,15 @@ not_itself x front name named is e =
     let b = below_is x x x.place name named record { kind = None; is = sym (append-nil x.place) } (is ∙ ap (λ (l : Path). l ++ 47 ∷ name) (sym e)) in
     omega (arith, ap length b.2, length-append x.place b.0, b.1)
 
-maker_of : (a b : List Work) (w v : World) (front : Path) → Each (HasWritten w v) a → HasMaker (a ++ b) w front → IsDirectory (v front) ⊎ HasMaker b w front
+-- a directory that is made stands
+made_stands : (y : Work) (w v : World) → ((access : Access) × (y.node ≡ Dir access)) → IsTrue (is_written y.node (w y.target)) → HasPrepared w v y → IsDirectory (v y.target)
+made_stands y w v made wrote has =
+    let written = prepared_written w v y (directory_stands_out y.node y.had (ap (λ n. is_directory (Some n)) made.1)) has in
+    (made.0, written.target ∙ ap (λ t. shown t y.node (w y.target)) wrote ∙ ap Some made.1)
+
+maker_of : (a b : List Work) (w v : World) (front : Path) → Each (HasPrepared w v) a → HasMaker (a ++ b) w front → IsDirectory (v front) ⊎ HasMaker b w front
 maker_of [] b w v front has maker = inr maker
-maker_of (y ∷ a) b w v front has (inl m) = inl (m.1.0, ap v (sym m.0) ∙ has.0.target ∙ ap (λ t. shown t y.node (w y.target)) m.2 ∙ ap Some m.1.1)
+maker_of (y ∷ a) b w v front has (inl m) = inl (subst (λ p. IsDirectory (v p)) m.0 (made_stands y w v m.1 m.2 has.0))
 maker_of (y ∷ a) b w v front has (inr m) = maker_of a b w v front has.1 m
 
 module _ (a : List Work) (x : Work) (b : List Work) (named : Each IsNamed (a ++ x ∷ b)) (order : AllInOrder (a ++ x ∷ b)) where
@@ -117,47 +144,47 @@ module _ (a : List Work) (x : Work) (b : List Work) (named : Each IsNamed (a ++ 
   pub later : Each (λ y. Differ x y × IsNotBelow x y) b
   later = differ_later x b named_b.0 named_b.1 order_b.0
 
-  module _ (w v : World) (written : Written a w v) where
+  module _ (w v : World) (prepared : Prepared a w v) where
     pub agree_at : Agree v w x
-    agree_at = agree_all v w x a written.rest earlier
+    agree_at = agree_all v w x a prepared.rest earlier
 
     pub free_at : IsFreeIn w x → IsFreeIn v x
     free_at free = free_agree v w x agree_at free
 
-    pub home_at : Each (IsFreeIn w) a → IsHomed (a ++ x ∷ b) w x → HasParent v x.place
-    home_at free homed = (homed.0, homed.1, homed.2, homed.3, by homed.4) where
+    pub home_at : Each (IsFreeIn w) a → Each (IsSeen w) a → IsHomed (a ++ x ∷ b) w x → HasParent v x.place
+    home_at free seen homed = (homed.0, homed.1, homed.2, homed.3, by homed.4) where
       by_maker : IsDirectory (v homed.0) ⊎ HasMaker (x ∷ b) w homed.0 → IsDirectory (v homed.0)
       by_maker (inl dir) = dir
       by_maker (inr (inl m)) = absurd (not_itself x homed.0 homed.1 named_b.0 homed.2 m.0)
       by_maker (inr (inr m)) = absurd (not_made x b w homed.0 homed.1 homed.2 named_b.1 order_b.0 m)
 
       by : (IsDirectory (w homed.0) ⊎ HasMaker (a ++ x ∷ b) w homed.0) → IsDirectory (v homed.0)
-      by (inl dir) = (dir.0, directory_stays a w v homed.0 written free dir ∙ dir.1)
-      by (inr maker) = by_maker (maker_of a (x ∷ b) w v homed.0 written.each maker)
+      by (inl dir) = (dir.0, directory_stays a w v homed.0 prepared free seen dir ∙ dir.1)
+      by (inr maker) = by_maker (maker_of a (x ∷ b) w v homed.0 prepared.each maker)
 
     -- one path more
-    pub written_more : (u : World) → Written (x ∷ []) v u → Written (a ++ x ∷ []) w u
-    written_more u one =
+    pub prepared_more : (u : World) → Prepared (x ∷ []) v u → Prepared (a ++ x ∷ []) w u
+    prepared_more u one =
         let same : (q : Path) → Misses x q → u q ≡ v q = λ q miss. one.rest q (miss, tt) in
         record {
-          each = each_join (HasWritten w u) a (x ∷ [])
-              (each_map (λ y. Differ y x) (HasWritten w v) (HasWritten w u) (λ y d has. new_agree w v u y (agree_by u v x y same (differ_back y x d)) has) a earlier written.each)
-              (old_agree v w u x agree_at one.each.0, tt);
-          rest = λ q misses. one.rest q (each_later (λ y. Misses y q) a (x ∷ []) misses) ∙ written.rest q (each_front (λ y. Misses y q) a (x ∷ []) misses);
+          each = each_join (HasPrepared w u) a (x ∷ [])
+              (each_map (λ y. Differ y x) (HasPrepared w v) (HasPrepared w u) (λ y d has. prepared_new w v u y (agree_by u v x y same (differ_back y x d)) has) a earlier prepared.each)
+              (prepared_old v w u x agree_at one.each.0, tt);
+          rest = λ q misses. one.rest q (each_later (λ y. Misses y q) a (x ∷ []) misses) ∙ prepared.rest q (each_front (λ y. Misses y q) a (x ∷ []) misses);
         }
 
-    -- while it is written
+    -- while it is prepared
     pub amid_more : (c : World) → IsAmid (x ∷ []) v v c → IsAmid (a ++ x ∷ b) w w c
     amid_more c amid =
         let same : (q : Path) → Misses x q → c q ≡ v q = λ q miss. amid.rest q (miss, tt) in
         record {
           each = each_join (IsWhole w c) a (x ∷ b)
-              (each_map (λ y. Differ y x) (HasWritten w v) (IsWhole w c) (λ y d has. written_whole w c y (new_agree w v c y (agree_by c v x y same (differ_back y x d)) has)) a earlier written.each) (
+              (each_map (λ y. Differ y x) (HasPrepared w v) (IsWhole w c) (λ y d has. prepared_whole w c y (prepared_new w v c y (agree_by c v x y same (differ_back y x d)) has)) a earlier prepared.each) (
                 whole_agree v w c x agree_at amid.each.0,
-                each_map (λ z. Differ x z × IsNotBelow x z) (λ z. Each (λ y. Differ y z) a) (IsWhole w c) (λ z d before_z. before (same z.target d.0.target ∙ (agree_all v w z a written.rest before_z).target)) b later
+                each_map (λ z. Differ x z × IsNotBelow x z) (λ z. Each (λ y. Differ y z) a) (IsWhole w c) (λ z d before_z. before (same z.target d.0.target ∙ (agree_all v w z a prepared.rest before_z).target)) b later
                     (each_map IsNamed (λ z. Each (λ y. IsBefore y z) a) (λ z. Each (λ y. Differ y z) a) (λ z name less. differ_earlier a z named_a name less) b named_b.1 across.1),
               );
-          rest = λ q misses. amid.rest q ((each_later (λ y. Misses y q) a (x ∷ b) misses).0, tt) ∙ written.rest q (each_front (λ y. Misses y q) a (x ∷ b) misses);
+          rest = λ q misses. amid.rest q ((each_later (λ y. Misses y q) a (x ∷ b) misses).0, tt) ∙ prepared.rest q (each_front (λ y. Misses y q) a (x ∷ b) misses);
         }
 
 -- the place of an index in a list
@@ -172,10 +199,10 @@ module _ (works : List Work) (i : ℕ) (x : Work) (within : i < length works) (a
   pub front_is : take (i + 1) works ≡ take i works ++ x ∷ []
   front_is = take_more works i x within ∙ ap (λ r. take i works ++ r ∷ []) (sym at)
 
--- nothing is written yet
+-- nothing is done yet
 
-pub written_none : (w : World) → Written [] w w
-written_none w = record { each = tt; rest = λ q misses. refl }
+pub prepared_none : (w : World) → Prepared [] w w
+prepared_none w = record { each = tt; rest = λ q misses. refl }
 
 pub amid_none : (works : List Work) (w : World) → IsAmid works w w w
 amid_none works w = record { each = all works; rest = λ q misses. refl } where

@@ -1,14 +1,11 @@
 -- What holds at each moment of the parts of a file step.
-use Rattle.std.proofs.Common.{◌≡◌, ◌≢◌, false, [], ◌∷◌, Option, Some, None, IsTrue, Result, Ok, Err, OnOk, refl, sym, ap, subst, ◌∙◌}
+use Rattle.std.proofs.Common.{◌≡◌, ◌≢◌, Option, Some, None, IsTrue, Result, Ok, Err, OnOk, refl, sym, ap, subst, ◌∙◌}
 use Rattle.std.specs.Prelude.{IsSome}
 use Rattle.host_core.specs.Paths.{Path}
-use Rattle.host_core.specs.World.{World, put, moved, Step, Write, Move, Take, MakeDir, RemoveDir, HardLink, MakeLink, Sync, after, IsPart}
-use Rattle.host_core.specs.Events.{Did}
-use Rattle.host_core.specs.Host.{State, Reads, Happens, Does, Since}
+use Rattle.host_core.specs.World.{World, put, moved, Step, Write, Move, Take, MakeDir, RemoveDir, HardLink, MakeLink, SyncAll, after, IsPart}
+use Rattle.host_core.specs.Host.{State, Reads, Does, Since}
 use Rattle.host_core.proofs.WorldLaws.{put_same, put_other}
-use Rattle.host_core.proofs.Losses.{still_synced, marked_other}
 use Rattle.host_core.proofs.Moments.{since_does, since_reads}
-use Rattle.host_core.specs.Unsynced.{unsynced}
 use Rattle.host_core.specs.declared.fault.HostFault.{HostFault}
 use Rattle.host_core.specs.declared.node.Access.{Access}
 use Rattle.host_core.specs.declared.node.Node.{Node}
@@ -62,10 +59,9 @@ module _ {T : Type 0} (result : Result T HostFault) (P : World → Type 0) (a b 
   since_make_dir p access first second does = since_does P result (MakeDir p access) a b does
       (λ h. record { before = first h; inside = λ t part. subst (λ s. P (after s a.world)) (sym part.1) (second h part.0); behind = second h access })
 
--- a second name leaves other files synced
-pub link_synced : {T : Type 0} (result : Result T HostFault) (from to p : Path) (a b : State) → to ≢ p → Does (HardLink from to) a b result → unsynced a.events p ≡ false → OnOk result (unsynced b.events p ≡ false)
-link_synced (Ok x) from to p a b ne does synced = still_synced a.events b.events (Did (HardLink from to)) p does.events (marked_other (unsynced a.events) to p (unsynced a.events from) ne) synced
-link_synced (Err e) from to p a b ne does synced = tt
+-- all files go to the disk
+pub since_synced : {T : Type 0} (result : Result T HostFault) (P : World → Type 0) (a b : State) → P a.world → Does SyncAll a b result → Since (λ so_far. P) a b
+since_synced result P a b here does = since_does P result SyncAll a b does (λ h. record { before = here; inside = λ t part. absurd part; behind = here })
 
 -- what such a step leaves
 
@@ -99,12 +95,12 @@ gone_by (Err e) p a b P there does = tt
 
 -- a file or link was made at a temporary name
 
-pub wrote_by : {T : Type 0} (result : Result T HostFault) (p : Path) (n : Node) (a b c : State) → Happens (Did (Write p n) ∷ []) a b → Does (Sync p) b c result → OnOk result (IsAside p n a.world c.world)
-wrote_by (Ok x) p n a b c wrote does = record {
-  target = ap (λ w. w p) (does.world ∙ wrote.world) ∙ put_same a.world p p (Some n) refl;
-  rest = λ q ne. ap (λ w. w q) (does.world ∙ wrote.world) ∙ put_other a.world p q (Some n) ne;
+pub wrote_by : {T : Type 0} (result : Result T HostFault) (p : Path) (n : Node) (a b : State) → Does (Write p n) a b result → OnOk result (IsAside p n a.world b.world)
+wrote_by (Ok x) p n a b does = record {
+  target = ap (λ w. w p) does.world ∙ put_same a.world p p (Some n) refl;
+  rest = λ q ne. ap (λ w. w q) does.world ∙ put_other a.world p q (Some n) ne;
 }
-wrote_by (Err e) p n a b c wrote does = tt
+wrote_by (Err e) p n a b does = tt
 
 pub linked_by : {T : Type 0} (result : Result T HostFault) (p target : Path) (n : Node) (a b : State) → n ≡ Link target → Does (MakeLink p target) a b result → OnOk result (IsAside p n a.world b.world)
 linked_by (Ok x) p target n a b is does = record {

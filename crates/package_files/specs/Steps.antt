@@ -1,18 +1,17 @@
 -- What the parts of one file step leave (Policy 6.6, the files of an unpack).
-use Rattle.std.specs.Prelude.{◌≡◌, ◌≢◌, ◌⊎◌, true, Option, Some, None, IsTrue, Result, Ok, Err}
+use Rattle.std.specs.Prelude.{◌≡◌, ◌≢◌, ◌⊎◌, ◌+◌, ◌<◌, true, Option, Some, None, IsTrue, Result, Ok, Err}
 use Rattle.host_core.specs.Paths.{Path}
 use Rattle.host_core.specs.World.{World, HasParent, kind_of}
-use Rattle.host_core.specs.Host.{State}
+use Rattle.host_core.specs.Host.{State, denials}
 use Rattle.host_core.specs.declared.fault.HostFault.{HostFault}
 use Rattle.host_core.specs.declared.fault.HostFault.TheVariants.{Device, NoMemory, Declined}
 use Rattle.host_core.specs.declared.node.Access.{Access}
-use Rattle.host_core.specs.declared.node.Kind.{Kind}
 use Rattle.host_core.specs.declared.node.Kind.TheVariants as kind
 use Rattle.host_core.specs.declared.node.Node.TheVariants.{Dir}
 use Rattle.administration.specs.Files.{KeepsBeside}
 use Rattle.package_files.specs.declared.work.Work.{Work}
 use Rattle.package_files.specs.Files.{Misses, cleared, saved}
-use Rattle.package_files.specs.Free.{IsFreeIn}
+use Rattle.package_files.specs.Free.{IsFreeIn, IsSeen}
 
 -- nothing is left at a name but a directory
 pub record IsCleared (path : Path) (old new : World) : Type 0 where
@@ -58,6 +57,11 @@ pub record HasBegun (x : Work) (old new : World) : Type 0 where
   pub fresh : cleared (new x.fresh) ≡ cleared (old x.fresh)
   pub rest : KeepsBesideSpares x old new
 
+-- a file or link may have got the backup's name, or have lost it, and all else is as before
+pub record HasSpared (x : Work) (old new : World) : Type 0 where
+  pub backup : cleared (new x.backup) ≡ cleared (old x.backup)
+  pub rest : KeepsBeside x.backup old new
+
 -- a directory was to take the place of a file, which has the backup's name alone
 pub record IsMadeRoom (x : Work) (old new : World) : Type 0 where
   pub node : (access : Access) × (x.node ≡ Dir access)
@@ -72,10 +76,17 @@ pub record IsMadeRoom (x : Work) (old new : World) : Type 0 where
 abbrev pub HasTried : Work → World → World → Type 0
 HasTried x old new = HasBegun x old new ⊎ IsMadeRoom x old new
 
--- it was tried from the world was, where this stood at the target
-pub record WasTriedFrom (x : Work) (had : Option Kind) (was mid : World) : Type 0 where
-  pub seen : had ≡ kind_of (was x.target)
+-- it was tried from the world was
+pub record WasTriedFrom (x : Work) (was mid : World) : Type 0 where
+  pub seen : IsSeen was x
   pub tried : HasTried x was mid
 
-abbrev pub WasTried : Work → Option Kind → World → Type 0
-WasTried x had mid = (was : World) × WasTriedFrom x had was mid
+abbrev pub WasTried : Work → World → Type 0
+WasTried x mid = (was : World) × WasTriedFrom x was mid
+
+-- Declined is told only where two steps were declined: one, and one of what was to undo that
+abbrev pub DeclinesTwice : {T : Type 0} → Result T HostFault → State → State → Type 0
+DeclinesTwice (Ok x) old new = Unit {0}
+DeclinesTwice (Err Device) old new = Unit {0}
+DeclinesTwice (Err NoMemory) old new = Unit {0}
+DeclinesTwice (Err Declined) old new = denials old + 1 < denials new

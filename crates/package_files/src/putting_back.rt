@@ -1,26 +1,15 @@
 // Files that were written are put back, the last first (Policy 6.6, the unwinding of an unpack).
-ghost use Rattle.std.specs.Prelude.{◌≡◌, ◌↔◌, ◌⊎◌, ◌∷◌, [], true, false, IsTrue, Some};
-ghost use Rattle.host_core.specs.World.{IsBare, is_directory};
+ghost use Rattle.std.specs.Prelude.{◌≡◌, ◌⊎◌, ◌∷◌, [], true, false, Some};
+ghost use Rattle.host_core.specs.World.{is_directory};
 ghost use Rattle.host_core.specs.Host.{AtEachMoment, Counts, Leaves, Needs, Silent};
-ghost use Rattle.host_core.specs.Looks.{Looks};
 ghost use Rattle.package_files.specs.Files.{Each};
+ghost use Rattle.package_files.specs.Laid.{CanUndo, IsUndoing, Undoes};
 ghost use Rattle.package_files.specs.Names.{AllInOrder, IsNamed};
 ghost use Rattle.package_files.specs.Back.{CanGoBack, CanRestore, GoesBack, IsGoingBack, MakesDirectory, restored};
 
 use crate::work::Work;
+use administration::is_bare;
 use host_core::{Host, HostFault, Kind, Node, RootPath};
-
-/// Whether nothing is below a directory.
-fn is_bare<H: Host>(host: &mut H, path: &RootPath) -> Result<bool, HostFault>
-    ensures looks { Looks result (λ bare w. IsTrue bare ↔ IsBare w path.now) (H.state host.old)
-        (H.state host.new) }
-{
-    let listing = host.list(path)?;
-    if listing.bad {
-        return Ok(false);
-    }
-    Ok(listing.names.as_slice().is_empty())
-}
 
 /// What had stood at the target, if anything had, gets its own name again.
 fn restore_old<H: Host>(host: &mut H, work: &Work) -> Result<(), HostFault>
@@ -95,25 +84,62 @@ fn put_back_loose<H: Host>(host: &mut H, work: &Work) -> Result<(), HostFault>
     }
 }
 
-/// Puts one path back that was written.
-fn put_back_one<H: Host>(host: &mut H, work: &Work) -> Result<(), HostFault>
+/// A file or link that hasn't taken its place yet goes from its temporary name; one that has is put back.
+fn take_back_loose<H: Host>(host: &mut H, work: &Work) -> Result<(), HostFault>
     requires named { IsNamed work.now }
-    requires written { Needs (H.state host.old) (CanGoBack (work.now ∷ [])) }
-    ensures back { Leaves result (GoesBack (work.now ∷ [])) (H.state host.old) (H.state host.new) }
-    ensures any_moment { AtEachMoment (IsGoingBack (work.now ∷ [])) (H.state host.old)
+    requires node { is_directory (Some work.now.node) ≡ false }
+    requires under_way { Needs (H.state host.old) (CanUndo (work.now ∷ [])) }
+    ensures back { Leaves result (Undoes (work.now ∷ [])) (H.state host.old) (H.state host.new) }
+    ensures any_moment { AtEachMoment (IsUndoing (work.now ∷ [])) (H.state host.old)
+        (H.state host.new) }
+    ensures silent { Silent (H.state host.old) (H.state host.new) }
+    ensures counts { Counts (H.state host.old) (H.state host.new) result }
+{
+    match host.kind(&work.fresh)? {
+        None => put_back_loose(host, work),
+        Some(Kind::File) => host.remove(&work.fresh),
+        Some(Kind::Directory) => put_back_loose(host, work),
+        Some(Kind::SymbolicLink) => host.remove(&work.fresh),
+    }
+}
+
+fn take_back_one<H: Host>(host: &mut H, work: &Work) -> Result<(), HostFault>
+    requires named { IsNamed work.now }
+    requires under_way { Needs (H.state host.old) (CanUndo (work.now ∷ [])) }
+    ensures back { Leaves result (Undoes (work.now ∷ [])) (H.state host.old) (H.state host.new) }
+    ensures any_moment { AtEachMoment (IsUndoing (work.now ∷ [])) (H.state host.old)
         (H.state host.new) }
     ensures silent { Silent (H.state host.old) (H.state host.new) }
     ensures counts { Counts (H.state host.old) (H.state host.new) result }
 {
     match &work.node {
         Node::Dir { .. } => put_back_directory(host, work),
-        Node::File { .. } => put_back_loose(host, work),
-        Node::Link { .. } => put_back_loose(host, work),
+        Node::File { .. } => take_back_loose(host, work),
+        Node::Link { .. } => take_back_loose(host, work),
     }
 }
 
-/// Puts the paths back that were written, the last first, so that a directory is reached after all
-/// that was made in it.
+/// Takes the paths back, however far each has come, the last first, so that a directory is reached after all that was made
+/// in it.
+pub(crate) fn take_back<H: Host>(host: &mut H, works: &[Work]) -> Result<(), HostFault>
+    requires named { Each IsNamed works.now }
+    requires order { AllInOrder works.now }
+    requires under_way { Needs (H.state host.old) (CanUndo works.now) }
+    ensures back { Leaves result (Undoes works.now) (H.state host.old) (H.state host.new) }
+    ensures any_moment { AtEachMoment (IsUndoing works.now) (H.state host.old)
+        (H.state host.new) }
+    ensures silent { Silent (H.state host.old) (H.state host.new) }
+    ensures counts { Counts (H.state host.old) (H.state host.new) result }
+{
+    let mut count = works.len();
+    while count > 0 {
+        count -= 1;
+        take_back_one(host, &works[count])?;
+    }
+    Ok(())
+}
+
+/// Puts the paths back that were written, the last first.
 pub fn put_back_files<H: Host>(host: &mut H, works: &[Work]) -> Result<(), HostFault>
     requires named { Each IsNamed works.now }
     requires order { AllInOrder works.now }
@@ -124,10 +150,5 @@ pub fn put_back_files<H: Host>(host: &mut H, works: &[Work]) -> Result<(), HostF
     ensures silent { Silent (H.state host.old) (H.state host.new) }
     ensures counts { Counts (H.state host.old) (H.state host.new) result }
 {
-    let mut count = works.len();
-    while count > 0 {
-        count -= 1;
-        put_back_one(host, &works[count])?;
-    }
-    Ok(())
+    take_back(host, works)
 }

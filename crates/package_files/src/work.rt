@@ -1,5 +1,6 @@
 // A shipped path with the names at which it is written.
 ghost use Rattle.std.specs.Prelude.{◌≡◌, IfOk};
+ghost use Rattle.package_files.specs.Laid;
 ghost use Rattle.package_files.specs.Works.{work_of};
 
 use host_core::{Kind, Node, RootPath, ShipPath, Suffix};
@@ -30,6 +31,18 @@ fn target_of(place: &ShipPath, is_conffile: bool) -> Result<RootPath, AllocError
     place.at()
 }
 
+/// Whether a file or link takes the place of what stands there: of all but a directory.
+fn is_replaced(had: Option<Kind>) -> bool
+    ensures { result ≡ Rattle.package_files.specs.Laid.is_replaced had }
+{
+    match had {
+        None => true,
+        Some(Kind::File) => true,
+        Some(Kind::Directory) => false,
+        Some(Kind::SymbolicLink) => true,
+    }
+}
+
 impl Work {
     /// The work of a path with this place; nothing was looked at.
     pub fn new(
@@ -49,5 +62,16 @@ impl Work {
             node,
             had: None,
         })
+    }
+
+    /// Whether it is a file or link that takes the place of what was seen at the target.
+    pub(crate) fn is_exchanged(&self) -> bool
+        ensures { result ≡ Rattle.package_files.specs.Laid.is_exchanged self.now.node self.now.had }
+    {
+        match &self.node {
+            Node::File { .. } => is_replaced(self.had),
+            Node::Dir { .. } => false,
+            Node::Link { .. } => is_replaced(self.had),
+        }
     }
 }

@@ -37,10 +37,10 @@ use crate::ship_paths::ShipPaths;
 use crate::shipped::{Shipped, give_to_root};
 use crate::walk::walk;
 use administration::{ScriptFile, Scripts};
-use host_core::{Host, HostFault, Listing, Node, RootPath, ShipPath};
+use host_core::{Content, Host, HostFault, Listing, Node, RootPath, ShipPath};
 use std::alloc::{AllocError, Global};
 use std::collections::BTreeSet;
-use texts::{Bytes, Text};
+use texts::Text;
 
 // The nodes in `DEBIAN` beside the control file, and whether the tree ships anything.
 #[derive(Drop)]
@@ -259,7 +259,7 @@ fn wrong_path(alloc: Global, contents: &Contents) -> Result<Option<RootPath>, Al
     }
 }
 
-fn bytes_of(node: Option<Node>) -> Option<Bytes>
+fn bytes_of(node: Option<Node>) -> Option<Content>
     ensures { MatchOption result
         ((bytes : List ℕ) (access : Access) → node ≡ Some (Node.File bytes access) → ⊥)
         (λ bytes. (access : Access) × (node ≡ Some (Node.File bytes access))) }
@@ -272,7 +272,7 @@ fn bytes_of(node: Option<Node>) -> Option<Bytes>
     }
 }
 
-fn control_text<H: Host>(alloc: Global, host: &mut H) -> Result<Bytes, TreeFault>
+fn control_text<H: Host>(alloc: Global, host: &mut H) -> Result<Content, TreeFault>
     ensures found { Tells result (λ text w. HasControl w text) (H.state host.old)
         (H.state host.new) }
     ensures fault { IsTrue (H.state host.new).honest

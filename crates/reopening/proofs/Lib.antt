@@ -22,3 +22,4 @@ mod Undamaged
 mod Openings
 mod LostOpenings
 mod Answered
+mod Checkpoints

@@ -99,10 +99,10 @@ merging_opens table old now merging keeps opens = record {
   };
 }
 
-opening_start : (w : World) → IsOpening w w
+pub opening_start : (w : World) → IsOpening w w
 opening_start w = record { rest = λ q out. inl refl; left = λ q within. inl refl }
 
-reopened : KeepsRecords → (old now : World) → CanBeOpened old → IsOpeningOrMerging old now → CanBeOpened now
+pub reopened : KeepsRecords → (old now : World) → CanBeOpened old → IsOpeningOrMerging old now → CanBeOpened now
 reopened keeps old now opens (IsOpeningOrMerging.opening is) = opening_opens old now is opens
 reopened keeps old now opens (IsOpeningOrMerging.merging read table is has merging) =
     merging_opens table read now merging (λ other found. keeps read now other (IsOpeningOrMerging.merging read table (opening_start read) has merging) found) (opening_opens old read is opens)

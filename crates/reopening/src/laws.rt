@@ -1,6 +1,7 @@
 // The next opening can read what a command left that was broken off.
 ghost use Rattle.std.specs.Prelude.{◌≡◌, ◌++◌, [], ℕ, Bool, IsTrue, List, Option, true};
 ghost use Rattle.conffiles.specs.declared.decisions.ConfPolicy.{ConfPolicy as APolicy};
+ghost use Rattle.administration.specs.Places.{status_path};
 ghost use Rattle.configure_run.specs.Run.{HasRun as HasConfigured};
 ghost use Rattle.diversions.specs.Changes.{IsAdding, IsRemoving};
 ghost use Rattle.diversions.specs.declared.refusal.Seen.{Seen as ASeen};
@@ -22,6 +23,9 @@ ghost use Rattle.opening.specs.Leaving.{IsOpeningOrMerging};
 ghost use Rattle.opening.specs.Parts.{parts, IsFirstFault};
 ghost use Rattle.opening.specs.Undamaged.{IsUndamaged};
 ghost use Rattle.removal_run.specs.Run.{HasRun as HasRemoved};
+ghost use Rattle.status_db.specs.Held.{AreKept, IsTableOf};
+ghost use Rattle.status_db.specs.Noting.{IsMerging};
+ghost use Rattle.status_records.specs.declared.record.Record.{Record as ARecord};
 ghost use Rattle.unit_reports.specs.Held.{Held};
 ghost use Rattle.unit_reports.specs.declared.report.Report.{Report as AReport};
 ghost use Rattle.unit_reports.specs.declared.report.Unit.{Unit as AUnit};
@@ -87,6 +91,17 @@ pub fn an_opening_can_be_opened_amid()
         → IsSettled t.events → t.events ≡ begun.events ++ session
         → changes_of session ≡ [] → Needs s IsUndamaged → AtEachMoment
         IsOpeningOrMerging s t → LosesSince begun s t left → IsUndamaged left }
+{
+    a_stopped_opening_can_be_opened();
+}
+
+/// At each moment while a command's notes are merged at its end, likewise. Behind that no note stands: the status file alone
+/// stands for all records.
+pub fn a_checkpoint_can_be_opened_amid()
+    ensures amid { (h : Held) (s t : State) → FindsStanding h s → AtEachMoment
+        (IsMerging h.records.records) s t → CanBeOpenedAmid s t }
+    ensures alone { (records : List ARecord) (w : World) → AreKept records 0 w
+        → IsTableOf (w status_path) records }
 {
     a_stopped_opening_can_be_opened();
 }

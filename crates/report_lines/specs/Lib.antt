@@ -4,3 +4,4 @@ pub mod Faults
 pub mod Openings
 pub mod Replies
 pub mod Reports
+pub mod Notes

@@ -10,3 +10,4 @@ pub mod Marks
 pub mod NoteTexts
 pub mod Entered
 pub mod Barriered
+pub mod RecordTurns

@@ -1,13 +1,15 @@
 // Merging all notes into the status file.
 ghost use Rattle.std.specs.Prelude.{◌≡◌, ◌<◌, ◌≤◌, ℕ};
 ghost use Rattle.host_core.specs.World.{IsFile};
-ghost use Rattle.host_core.specs.Host.{AtEachMoment, Counts, Leaves, Needs, Silent};
+ghost use Rattle.host_core.specs.Host.{AtEachMoment, Counts, Leaves, Needs, Silent, State};
 ghost use Rattle.administration.specs.Files.{NoDirectory, IsDropped, IsDropping};
 ghost use Rattle.administration.specs.Places.{status_path};
 ghost use Rattle.status_db.specs.Notes as place;
 ghost use Rattle.status_db.specs.Noting.{AreMerged, IsMerging};
-ghost use Rattle.status_db.specs.Held.{AreKept, IsUnblocked};
+ghost use Rattle.status_db.specs.Held.{AreKept, IsUnblocked, is_record_place};
 ghost use Rattle.status_db.specs.Taking.{HasReplacedNotes, IsReplacingNotes, IsTaken, IsTakingNotes};
+ghost use Rattle.host_core.specs.Loss.{IsLater};
+ghost use Rattle.scattered_losses.specs.Turns.{GoByTurns, TakeTurns};
 
 use crate::note_paths::note_path;
 use crate::table::Table;
@@ -53,6 +55,9 @@ fn take_merged<H: Host>(alloc: Global, host: &mut H, count: u16) -> Result<(), H
         → NoDirectory (w (place.note_path n))) }
     ensures taken { Leaves result (IsTaken count) (H.state host.old) (H.state host.new) }
     ensures any_moment { AtEachMoment IsTakingNotes (H.state host.old) (H.state host.new) }
+    ensures turns { (begun : State) → IsLater begun (H.state host.old)
+        → TakeTurns is_record_place begun (H.state host.old)
+        → GoByTurns is_record_place begun (H.state host.new) }
     ensures silent { Silent (H.state host.old) (H.state host.new) }
     ensures counts { Counts (H.state host.old) (H.state host.new) result }
 {
@@ -77,6 +82,7 @@ fn replace_notes<H: Host>(
         (H.state host.new) }
     ensures any_moment { AtEachMoment (IsReplacingNotes status.now) (H.state host.old)
         (H.state host.new) }
+    ensures turns { GoByTurns is_record_place (H.state host.old) (H.state host.new) }
     ensures silent { Silent (H.state host.old) (H.state host.new) }
     ensures counts { Counts (H.state host.old) (H.state host.new) result }
 {
@@ -96,6 +102,7 @@ pub(crate) fn merge<H: Host>(
     requires kept { Needs (H.state host.old) (AreKept table.now notes) }
     ensures merged { Leaves result (AreMerged table.now) (H.state host.old) (H.state host.new) }
     ensures any_moment { AtEachMoment (IsMerging table.now) (H.state host.old) (H.state host.new) }
+    ensures turns { GoByTurns is_record_place (H.state host.old) (H.state host.new) }
     ensures silent { Silent (H.state host.old) (H.state host.new) }
     ensures counts { Counts (H.state host.old) (H.state host.new) result }
 {

@@ -8,12 +8,12 @@ ghost use Rattle.status_db.specs.Noting.{IsNoteFile};
 ghost use Rattle.status_records.specs.Words.{is_not_installed};
 
 use control_fields::{Paragraph, write_paragraph};
-use host_core::{Access, Node};
+use host_core::{Access, Content, Node};
 use status_records::{Record, add_line, paragraph_of};
 use std::alloc::{AllocError, Global};
-use texts::{Bytes, Text};
+use texts::Text;
 
-fn file_of(bytes: Bytes) -> Node
+fn file_of(bytes: Content) -> Node
     ensures { result ≡ File bytes (own_access 0o644) }
 {
     Node::File {
@@ -33,7 +33,7 @@ pub(crate) fn note_node(alloc: Global, entry: &Record) -> Result<Node, AllocErro
 {
     let paragraph = paragraph_of(alloc, entry)?;
     match write_paragraph(alloc, &paragraph) {
-        Ok(text) => Ok(file_of(Bytes::new(text))),
+        Ok(text) => Ok(file_of(Content::new(text))),
         Err(_) => Err(AllocError),
     }
 }
@@ -59,7 +59,7 @@ pub(crate) fn gone_node(alloc: Global, name: &Text) -> Result<Node, AllocError>
 {
     let paragraph = gone_paragraph(alloc, name)?;
     match write_paragraph(alloc, &paragraph) {
-        Ok(text) => Ok(file_of(Bytes::new(text))),
+        Ok(text) => Ok(file_of(Content::new(text))),
         Err(_) => Err(AllocError),
     }
 }

@@ -1,5 +1,5 @@
 // The open records: the table, and the files that hold it.
-ghost use Rattle.std.specs.Prelude.{◌≡◌, ◌↔◌, ◌+◌, ◌≤◌, List, [], true, false, cond, is_some, IfOk, IfErr, OnOk, OnErr, IsTrue, IsErrOf};
+ghost use Rattle.std.specs.Prelude.{◌≡◌, ◌↔◌, ◌+◌, ◌≤◌, ◌<◌, List, [], true, false, cond, is_some, IfOk, IfErr, OnOk, OnErr, IsTrue, IsErrOf};
 ghost use Rattle.std.specs.List.{list_any};
 ghost use Rattle.std.specs.Option.{option_copied};
 ghost use Rattle.host_core.specs.Host.{AtEachMoment, Leaves, Needs, Reads, Silent, Tells};
@@ -12,7 +12,8 @@ ghost use Rattle.status_db.specs.Notes.{limit, note_path};
 ghost use Rattle.status_db.specs.Noting.{AreMerged, IsMerging, IsNoted, IsNoting, IsPlaced, entered_in, note_number, writes_note};
 ghost use Rattle.status_db.specs.Order.{AreInOrder};
 ghost use Rattle.status_records.specs.Records.{record_in, drop_record, standing};
-ghost use Rattle.status_db.specs.Held.{HasRecords, IsFree, IsKept};
+ghost use Rattle.scattered_losses.specs.Turns.{GoByTurns};
+ghost use Rattle.status_db.specs.Held.{HasRecords, IsFree, IsKept, is_record_place};
 ghost use Rattle.status_db.specs.declared.record_fault.RecordFault.TheVariants.{Closed};
 
 use crate::merging::merge;
@@ -100,7 +101,8 @@ impl NotedDatabase {
 
     /// Whether notes stand that the status file doesn't have.
     pub fn has_notes(&self) -> bool
-        ensures { result ≡ false → self.now.notes ≡ 0 }
+        ensures none { result ≡ false → self.now.notes ≡ 0 }
+        ensures some { result ≡ true → 0 < self.now.notes }
     {
         self.notes > 0
     }
@@ -141,6 +143,7 @@ impl NotedDatabase {
             (entered_in entry self.old.records)) (H.state host.old) (H.state host.new) }
         ensures on_disk { writes_note entry self.old.records ≡ true
             → OnOk result (IsOnDisk (H.state host.new).events) }
+        ensures turns { GoByTurns is_record_place (H.state host.old) (H.state host.new) }
         ensures silent { Silent (H.state host.old) (H.state host.new) }
         ensures counts { CountsRecord (H.state host.old) (H.state host.new) result }
     {
@@ -182,6 +185,7 @@ impl NotedDatabase {
             (drop_record name.now self.old.records)) (H.state host.old) (H.state host.new) }
         ensures on_disk { is_some (record_in self.old.records name.now) ≡ true
             → OnOk result (IsOnDisk (H.state host.new).events) }
+        ensures turns { GoByTurns is_record_place (H.state host.old) (H.state host.new) }
         ensures silent { Silent (H.state host.old) (H.state host.new) }
         ensures counts { CountsRecord (H.state host.old) (H.state host.new) result }
     {
@@ -211,6 +215,7 @@ impl NotedDatabase {
             (H.state host.new) }
         ensures any_moment { AtEachMoment (IsMerging self.old.records) (H.state host.old)
             (H.state host.new) }
+        ensures turns { GoByTurns is_record_place (H.state host.old) (H.state host.new) }
         ensures silent { Silent (H.state host.old) (H.state host.new) }
         ensures counts { CountsRecord (H.state host.old) (H.state host.new) result }
     {

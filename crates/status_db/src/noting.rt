@@ -1,8 +1,8 @@
 // Noting a record in a file of its own.
 ghost use Rattle.std.specs.Prelude.{◌≡◌, ◌+◌, ◌<◌, ◌≤◌, List, true, false, OnOk, OnErr, cond, is_some};
 ghost use Rattle.host_core.specs.World.{IsFile, World};
-ghost use Rattle.host_core.specs.Host.{AtEachMoment, Counts, Leaves, Needs, Silent};
-ghost use Rattle.host_core.specs.Loss.{IsOnDisk};
+ghost use Rattle.host_core.specs.Host.{AtEachMoment, Counts, Leaves, Needs, Silent, State};
+ghost use Rattle.host_core.specs.Loss.{IsOnDisk, IsLater};
 ghost use Rattle.administration.specs.Files.{IsReplaced, IsReplacing, NoDirectory};
 ghost use Rattle.texts.specs.PackageNames.{is_package_name};
 ghost use Rattle.status_records.specs.declared.record.Record.{Record as ARecord};
@@ -10,8 +10,9 @@ ghost use Rattle.status_db.specs.Notes as place;
 ghost use Rattle.status_db.specs.Notes.{Note};
 ghost use Rattle.status_db.specs.Noting.{AreNoted, HasRoom, IsEntered, IsMerging, IsNoteFile, IsNoting, IsPlaced, entered_in, note_number, writes_note};
 ghost use Rattle.status_records.specs.Records.{record_in, put_record, drop_record};
-ghost use Rattle.status_db.specs.Held.{AreKept, IsUnblocked};
+ghost use Rattle.status_db.specs.Held.{AreKept, IsUnblocked, is_record_place};
 ghost use Rattle.status_records.specs.Words.{is_not_installed};
+ghost use Rattle.scattered_losses.specs.Turns.{GoByTurns, TakeTurns};
 
 use crate::merging::merge;
 use crate::note_paths::note_path;
@@ -65,6 +66,9 @@ fn write_note<H: Host>(
     ensures any_moment { AtEachMoment (IsReplacing (place.note_path number) node.now)
         (H.state host.old) (H.state host.new) }
     ensures on_disk { OnOk result (IsOnDisk (H.state host.new).events) }
+    ensures turns { (begun : State) → IsLater begun (H.state host.old)
+        → TakeTurns is_record_place begun (H.state host.old)
+        → GoByTurns is_record_place begun (H.state host.new) }
     ensures silent { Silent (H.state host.old) (H.state host.new) }
     ensures counts { Counts (H.state host.old) (H.state host.new) result }
 {
@@ -87,6 +91,7 @@ fn make_room<H: Host>(
     ensures room { Leaves result (HasRoom table.now notes.old notes.new) (H.state host.old)
         (H.state host.new) }
     ensures any_moment { AtEachMoment (IsMerging table.now) (H.state host.old) (H.state host.new) }
+    ensures turns { GoByTurns is_record_place (H.state host.old) (H.state host.new) }
     ensures silent { Silent (H.state host.old) (H.state host.new) }
     ensures counts { Counts (H.state host.old) (H.state host.new) result }
 {
@@ -120,6 +125,7 @@ fn write_next<H: Host>(
         → IsEntered note table.now after → AtEachMoment (IsNoting table.now after)
         (H.state host.old) (H.state host.new) }
     ensures on_disk { OnOk result (IsOnDisk (H.state host.new).events) }
+    ensures turns { GoByTurns is_record_place (H.state host.old) (H.state host.new) }
     ensures silent { Silent (H.state host.old) (H.state host.new) }
     ensures counts { Counts (H.state host.old) (H.state host.new) result }
 {
@@ -149,6 +155,7 @@ fn write_record<H: Host>(
     ensures any_moment { AtEachMoment (IsNoting table.now (put_record entry.now table.now))
         (H.state host.old) (H.state host.new) }
     ensures on_disk { OnOk result (IsOnDisk (H.state host.new).events) }
+    ensures turns { GoByTurns is_record_place (H.state host.old) (H.state host.new) }
     ensures silent { Silent (H.state host.old) (H.state host.new) }
     ensures counts { Counts (H.state host.old) (H.state host.new) result }
 {
@@ -177,6 +184,7 @@ fn write_gone<H: Host>(
     ensures any_moment { AtEachMoment (IsNoting table.now (drop_record name.now table.now))
         (H.state host.old) (H.state host.new) }
     ensures on_disk { OnOk result (IsOnDisk (H.state host.new).events) }
+    ensures turns { GoByTurns is_record_place (H.state host.old) (H.state host.new) }
     ensures silent { Silent (H.state host.old) (H.state host.new) }
     ensures counts { Counts (H.state host.old) (H.state host.new) result }
 {
@@ -207,6 +215,7 @@ fn note_record<H: Host>(
     ensures any_moment { AtEachMoment (IsNoting table.old (put_record entry table.old))
         (H.state host.old) (H.state host.new) }
     ensures on_disk { OnOk result (IsOnDisk (H.state host.new).events) }
+    ensures turns { GoByTurns is_record_place (H.state host.old) (H.state host.new) }
     ensures silent { Silent (H.state host.old) (H.state host.new) }
     ensures counts { Counts (H.state host.old) (H.state host.new) result }
 {
@@ -239,6 +248,7 @@ pub(crate) fn forget_record<H: Host>(
         (H.state host.old) (H.state host.new) }
     ensures on_disk { is_some (record_in table.old name.now) ≡ true
         → OnOk result (IsOnDisk (H.state host.new).events) }
+    ensures turns { GoByTurns is_record_place (H.state host.old) (H.state host.new) }
     ensures silent { Silent (H.state host.old) (H.state host.new) }
     ensures counts { Counts (H.state host.old) (H.state host.new) result }
 {
@@ -274,6 +284,7 @@ pub(crate) fn enter_record<H: Host>(
         (H.state host.old) (H.state host.new) }
     ensures on_disk { writes_note entry table.old ≡ true
         → OnOk result (IsOnDisk (H.state host.new).events) }
+    ensures turns { GoByTurns is_record_place (H.state host.old) (H.state host.new) }
     ensures silent { Silent (H.state host.old) (H.state host.new) }
     ensures counts { Counts (H.state host.old) (H.state host.new) result }
 {

@@ -14,7 +14,7 @@ ghost use Rattle.status_records.specs.Status.{IsStatus};
 use crate::conffile_writing::{conffile_lines, pending_lines};
 use crate::record::Record;
 use control_fields::{Field, Lines, Paragraph, write_paragraph, write_paragraphs};
-use host_core::{Access, Node};
+use host_core::{Access, Content, Node};
 use std::alloc::{AllocError, Global};
 use texts::Bytes;
 use version_order::Version;
@@ -187,13 +187,13 @@ fn paragraphs_of(alloc: Global, records: &[Record]) -> Result<Vec<Paragraph>, Al
     Ok(paragraphs)
 }
 
-fn status_bytes(alloc: Global, records: &[Record]) -> Result<Bytes, AllocError>
+fn status_content(alloc: Global, records: &[Record]) -> Result<Content, AllocError>
     requires { AreApart records.now }
     ensures { IfOk result (λ bytes. ∥ IsStatus bytes records.now ∥₁) }
 {
     let paragraphs = paragraphs_of(alloc, records)?;
     match write_paragraphs(alloc, paragraphs.as_slice()) {
-        Ok(text) => Ok(Bytes::new(text)),
+        Ok(text) => Ok(Content::new(text)),
         Err(_) => Err(AllocError),
     }
 }
@@ -205,7 +205,7 @@ pub fn status_node(alloc: Global, records: &[Record]) -> Result<Node, AllocError
         × ∥ IsStatus bytes records.now ∥₁) }
 {
     Ok(Node::File {
-        bytes: status_bytes(alloc, records)?,
+        bytes: status_content(alloc, records)?,
         access: Access {
             mode: 0o644,
             user: 0,

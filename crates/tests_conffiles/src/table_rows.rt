@@ -6,13 +6,12 @@ ghost use Rattle.conffiles.specs.Settling.{CanSettle};
 mod stop_rows;
 
 use conffiles::{Changed, ConfPolicy, Decision, Digest, Settled, apply, decide, find_obstacle};
-use host_core::{Access, Host, HostFault, Node, RootPath, ShipPath};
+use host_core::{Access, Content, Host, HostFault, Node, RootPath, ShipPath};
 use host_memory::MemoryHost;
 use std::alloc::{AllocError, Global};
 use std::process::Abort;
 use std::str;
 use std::test::Fail;
-use texts::Bytes;
 
 // Contents, and none for a file that isn't there: recorded, there, shipped.
 type Found = (&'static str, &'static str, &'static str);
@@ -100,7 +99,7 @@ fn put(
     if text.is_empty() {
         return Ok(());
     }
-    let bytes = Bytes::from_slice(alloc, text.as_bytes())?;
+    let bytes = Content::from_slice(alloc, text.as_bytes())?;
     host.place(&root_path(alloc, path)?, Node::File { bytes, access })?;
     Ok(())
 }

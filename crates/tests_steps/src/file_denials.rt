@@ -4,15 +4,17 @@ use crate::breaking::{Break, LIMIT, denied_last, recovered};
 use crate::file_acts::{Act, Package, Ships, fault_text, perform};
 use crate::file_breaking::{Found, Row, judge_again, judge_pairs};
 use crate::root::{judge_things, root_of};
-use host_core::HostFault;
+use host_core::{HostFault, RootPath};
 use host_memory::{Done, MemoryHost};
 use std::alloc::{AllocError, Global};
 use std::process::Abort;
 use std::test::Fail;
 use undo_rows::StepFault;
 
-// A package, what stands before its files are written, and what is found where one of its steps was declined.
+// A package, the path of its that comes first, what stands before its files are written, and what is found where one of its
+// steps was declined.
 struct Case {
+    first: &'static str,
     row: Row,
     undone: &'static [Found],
 }
@@ -36,6 +38,7 @@ const OVER: Package = Package {
 };
 
 const OVER_CASE: Case = Case {
+    first: "/etc",
     row: Row {
         there: &[
             ("/etc/z.conf", "mine"),
@@ -125,6 +128,7 @@ const IN_PLACE: Package = Package {
 };
 
 const IN_PLACE_CASE: Case = Case {
+    first: "/opt",
     row: Row {
         there: &[("/opt", "a file")],
         act: Act::Write(&IN_PLACE),
@@ -152,11 +156,19 @@ const IN_PLACE_CASE: Case = Case {
 
 const CASES: &[Case] = &[OVER_CASE, IN_PLACE_CASE];
 
-// How often a step was declined, and the path of the first: its own without a suffix.
-fn first_denied(alloc: Global, host: &MemoryHost) -> Result<String, AllocError> {
+// The path of a declined step without a suffix, and that which comes first where the step was for all files.
+fn place_of<'a>(path: &'a RootPath, first: &'a str) -> &'a str {
+    match path.as_str().split(".dpkg-").next() {
+        None | Some("") => first,
+        Some(place) => place,
+    }
+}
+
+// What is to be told of the first step that was declined.
+fn first_denied(alloc: Global, host: &MemoryHost, first: &str) -> Result<String, AllocError> {
     for done in host.events() {
         if let Done::Denied(path) = done {
-            let place = path.as_str().split(".dpkg-").next().unwrap_or("");
+            let place = place_of(path, first);
             return format!(in alloc; "Declined {place}");
         }
     }
@@ -172,7 +184,7 @@ fn judge_undone(
     text: &mut String,
 ) -> Result<(), AllocError> {
     let told = fault_text(alloc, fault)?;
-    if told.as_str() != first_denied(alloc, host)?.as_str() {
+    if told.as_str() != first_denied(alloc, host, case.first)?.as_str() {
         text.push_str(format!(in alloc; "told: {told}\n")?.as_str())?;
     }
     judge_pairs(alloc, host, case.undone, text)

@@ -11,9 +11,9 @@ ghost use Rattle.undo_rows.specs.Stops.{AtEachStop};
 
 use crate::stack_calls::RowOf;
 use administration::{Standing, look, replace};
-use host_core::{Access, Host, HostFault, Node, Places, RootPath};
+use host_core::{Access, Content, Host, HostFault, Node, Places, RootPath};
 use std::alloc::{AllocError, Global};
-use texts::{Bytes, Text};
+use texts::Text;
 use undo_rows::{Around, Failed, Fall, Owner, Row, StepFault};
 
 // Whose file it is.
@@ -57,7 +57,7 @@ pub(crate) struct Noting {
 fn file(alloc: Global, text: &str) -> Result<Node, AllocError>
     ensures { IfOk result IsFile }
 {
-    let bytes = Bytes::from_slice(alloc, text.as_bytes())?;
+    let bytes = Content::from_slice(alloc, text.as_bytes())?;
     let access = Access::own(0o644);
     Ok(Node::File { bytes, access })
 }

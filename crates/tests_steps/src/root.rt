@@ -2,11 +2,11 @@
 ghost use Rattle.std.specs.Prelude.{◌≡◌, IfOk, true};
 ghost use Rattle.host_core.specs.World.{is_file};
 
-use host_core::{Access, Host, Node, RootPath, ShipPath};
+use host_core::{Access, Content, Host, Node, RootPath, ShipPath};
 use host_memory::MemoryHost;
 use std::alloc::{AllocError, Global};
 use std::str;
-use texts::{Bytes, Text};
+use texts::Text;
 
 // A path, and what stands there: a file by what it holds, a directory as `/`, a link as `@` with its target, and the empty
 // text where nothing stands.
@@ -29,7 +29,7 @@ pub(crate) fn ship_path(alloc: Global, text: &str) -> Result<ShipPath, AllocErro
 pub(crate) fn file(alloc: Global, text: &str) -> Result<Node, AllocError>
     ensures { IfOk result (λ node. is_file node ≡ true) }
 {
-    let bytes = Bytes::from_slice(alloc, text.as_bytes())?;
+    let bytes = Content::from_slice(alloc, text.as_bytes())?;
     let access = Access::own(0o644);
     Ok(Node::File { bytes, access })
 }

@@ -3,11 +3,11 @@ ghost use Rattle.std.specs.Prelude.{◌≡◌, ⊤, IsTrue, Some, option_map};
 ghost use Rattle.host_memory.specs.Memory.{memory_state};
 
 use command_line::{Hosts, RootFault, ScriptStreams, TreeOwners, run_words};
-use host_core::{Access, Host, HostFault, Node, RootPath};
+use host_core::{Access, Content, Host, HostFault, Node, RootPath};
 use host_memory::{Ending, Entry, MemoryHost, Planned};
 use std::alloc::{AllocError, Global};
 use std::str;
-use texts::{Bytes, Text};
+use texts::Text;
 
 mod breaking;
 
@@ -33,7 +33,7 @@ fn path_of(alloc: Global, text: &str) -> Result<RootPath, AllocError> {
 }
 
 fn file(alloc: Global, text: &str) -> Result<Node, AllocError> {
-    let bytes = Bytes::from_slice(alloc, text.as_bytes())?;
+    let bytes = Content::from_slice(alloc, text.as_bytes())?;
     let access = Access::own(0o755);
     Ok(Node::File { bytes, access })
 }

@@ -1,12 +1,12 @@
 // Trees in memory that ship as many paths as a tree may, or a file as large as it may be, and one more.
 use host_core::{
-    Access, Call, Host, HostFault, Keep, Node, Outcome, Places, RootPath, Script, Side,
+    Access, Call, Content, Host, HostFault, Keep, Node, Outcome, Places, RootPath, Script, Side,
 };
 use host_memory::{Ending, Entry, MemoryHost, Planned};
 use package_tree::{ShipMap, read_tree};
 use std::alloc::{AllocError, Global};
 use std::test::Fail;
-use texts::{Bytes, Text, Texts};
+use texts::{Text, Texts};
 
 // Numbers from here on have so many digits, so that their order is that of their texts.
 const FIRST: usize = 100_000;
@@ -22,7 +22,7 @@ fn path_of(alloc: Global, text: &str) -> Result<RootPath, AllocError> {
     }
 }
 
-fn file(bytes: Bytes) -> Node {
+fn file(bytes: Content) -> Node {
     let access = Access::own(0o644);
     Node::File { bytes, access }
 }
@@ -30,7 +30,7 @@ fn file(bytes: Bytes) -> Node {
 // A tree that ships nothing.
 fn bare_tree(alloc: Global) -> Result<MemoryHost, AllocError> {
     let mut host = MemoryHost::new(alloc)?;
-    let control = Bytes::from_slice(alloc, b"Package: big\nVersion: 1\n")?;
+    let control = Content::from_slice(alloc, b"Package: big\nVersion: 1\n")?;
     host.place(&path_of(alloc, "/DEBIAN/control")?, file(control))?;
     Ok(host)
 }
@@ -41,7 +41,7 @@ fn empty_files(alloc: Global, count: usize) -> Result<Vec<Entry>, AllocError> {
     for number in 0..count {
         let number = FIRST.saturating_add(number);
         let path = path_of(alloc, format!(in alloc; "/{number}")?.as_str())?;
-        let node = Some(file(Bytes::from_slice(alloc, b"")?));
+        let node = Some(file(Content::from_slice(alloc, b"")?));
         files.push(Entry { path, node })?;
     }
     Ok(files)
@@ -103,7 +103,7 @@ fn a_tree_has_at_most_so_many_paths(rt: HostRuntime) -> Result<(), Fail> {
 
 fn read_large(alloc: Global, length: usize) -> Result<String, AllocError> {
     let mut host = bare_tree(alloc)?;
-    let bytes = Bytes::new(vec![in alloc; 7; length]?);
+    let bytes = Content::new(vec![in alloc; 7; length]?);
     host.place(&path_of(alloc, "/big")?, file(bytes))?;
     read(alloc, &mut host)
 }

@@ -3,13 +3,13 @@
 mod owner_rows;
 mod remembered_rows;
 
-use host_core::{Access, Host, HostFault, Kind, Node, RootPath};
+use host_core::{Access, Content, Host, HostFault, Kind, Node, RootPath};
 use host_files::{FilesHost, Unknown};
 use std::alloc::{AllocError, Global};
 use std::process::{Command, Stdio};
 use std::test::Fail;
 use std::{fs, io, str};
-use texts::{Bytes, Text};
+use texts::Text;
 
 type RealHost = FilesHost<Unknown>;
 
@@ -86,7 +86,7 @@ fn write(alloc: Global, host: &mut RealHost, path: &RootPath) -> Result<(), Host
     if !path.as_str().ends_with(".dpkg-inst") {
         return Err(HostFault::NoMemory);
     }
-    let bytes = Bytes::from_slice(alloc, b"#!/bin/sh\nexit 7\n")?;
+    let bytes = Content::from_slice(alloc, b"#!/bin/sh\nexit 7\n")?;
     let access = Access::own(0o755);
     host.write_new(path, &Node::File { bytes, access })
 }

@@ -11,3 +11,4 @@ pub mod HookRows
 pub mod Leftovers
 pub mod Clears
 pub mod Begins
+pub mod Declining

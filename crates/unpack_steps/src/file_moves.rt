@@ -16,7 +16,7 @@ ghost use Rattle.package_files.specs.Files.{Each};
 ghost use Rattle.package_files.specs.Free.{IsFreeIn, IsSeen};
 ghost use Rattle.package_files.specs.Names.{AllInOrder, IsHomed, IsNamed};
 ghost use Rattle.package_files.specs.Back.{CanGoBack};
-ghost use Rattle.listed_files.specs.Listing.{HasListed, HasTurnedBack, HasUnlisted, MayTurnBack, MayUnlist};
+ghost use Rattle.listed_files.specs.Listing.{DeclinesListed, HasListed, HasTurnedBack, HasUnlisted, MayTurnBack, MayUnlist};
 ghost use Rattle.undo_rows.specs.Faults.{OnlyIfDeclined};
 ghost use Rattle.undo_rows.specs.Place.{is_declined};
 ghost use Rattle.unpack_rows.specs.EndStates.{own_name};
@@ -131,6 +131,8 @@ fn write_ordered<H: Host>(
         works.new.items old new)) (H.state host.old) (H.state host.new) }
     ensures denied { IfOk result (λ declined. IfSome declined (λ path. denials (H.state host.old)
         < denials (H.state host.new))) }
+    ensures twice { DeclinesListed (list_path name.now) (list_file union) result (H.state host.old)
+        (H.state host.new) }
     ensures any_moment { AtEachMoment (MayTurnBack (list_path name.now) (list_file union)
         (list_file listed) works.new.items) (H.state host.old) (H.state host.new) }
     ensures silent { Silent (H.state host.old) (H.state host.new) }
@@ -186,6 +188,8 @@ fn write_checked<H: Host>(
         (H.state host.old) (H.state host.new) }
     ensures denied { IfOk result (λ declined. IfSome declined (λ path. denials (H.state host.old)
         < denials (H.state host.new))) }
+    ensures twice { DeclinesListed (list_path (own_name rows.now.found rows.now.incoming))
+        (list_file rows.now.union) result (H.state host.old) (H.state host.new) }
     ensures any_moment { AtEachMoment (MayTurnBack
         (list_path (own_name rows.now.found rows.now.incoming)) (list_file rows.now.union)
         (list_file rows.now.listed) works.new.items) (H.state host.old) (H.state host.new) }
@@ -252,6 +256,8 @@ pub(crate) fn check_and_write<H: Host>(
         (places.new ≡ places.old)) }
     ensures denied { IfOk result
         (λ fault. OnlyIfDeclined fault (H.state host.old) (H.state host.new)) }
+    ensures twice { DeclinesListed (list_path (own_name rows.now.found rows.now.incoming))
+        (list_file rows.now.union) result (H.state host.old) (H.state host.new) }
     ensures any_moment { AtEachMoment (MayWriteRow
         (list_path (own_name rows.now.found rows.now.incoming)) (list_file rows.now.union)
         (list_file rows.now.listed) works.old.items) (H.state host.old) (H.state host.new) }

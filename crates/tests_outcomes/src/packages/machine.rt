@@ -7,11 +7,11 @@ mod prediction;
 use super::Package;
 use crate::tables::SCRIPTS;
 use command_line::{Hosts, RootFault, ScriptStreams, TreeOwners, run_words};
-use host_core::{Access, Host, HostFault, Node, Outcome, RootPath};
+use host_core::{Access, Content, Host, HostFault, Node, Outcome, RootPath};
 use host_memory::{Ending, Entry, MemoryHost, Planned};
 use std::alloc::{AllocError, Global};
 use std::str;
-use texts::{Bytes, Text};
+use texts::Text;
 
 // A file: its path, and what it holds.
 type HeldFile = (&'static str, &'static str);
@@ -71,7 +71,7 @@ fn path_of(alloc: Global, text: &str) -> Result<RootPath, AllocError> {
 // Puts a file there that holds something.
 fn put(alloc: Global, host: &mut MemoryHost, path: &str, text: &str) -> Result<(), AllocError> {
     if !text.is_empty() {
-        let bytes = Bytes::from_slice(alloc, text.as_bytes())?;
+        let bytes = Content::from_slice(alloc, text.as_bytes())?;
         let access = Access::own(0o755);
         host.place(&path_of(alloc, path)?, Node::File { bytes, access })?;
     }

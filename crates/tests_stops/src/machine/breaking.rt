@@ -135,16 +135,30 @@ fn told_declined(answer: &str) -> Option<&str> {
     rest.split('\n').next()
 }
 
-// Whether a name is that of a path, or one beside it.
+// Whether a name is that of a path, or one beside it. A step for all files of a package has no name; told is then the first path
+// that it ships, a directory of the root.
 fn is_beside(name: &str, path: &str) -> bool {
+    if name.is_empty() {
+        return match path.strip_prefix("/") {
+            Some(rest) => !rest.contains("/"),
+            None => false,
+        };
+    }
     match name.strip_prefix(path) {
         Some(rest) => rest.is_empty() || rest.starts_with("."),
         None => false,
     }
 }
 
-// Whether an answer tells that a step at this name was declined: the unit failed for the path, or was broken off.
+// What tells behind the units that a step was declined while their notes were merged.
+const LEFT_NOTES: &str = "|notes left: /var/lib/dpkg/updates: declined\n|2\n";
+
+// Whether an answer tells that a step at this name was declined: the unit failed for the path, or it or the merging of notes
+// behind it was broken off.
 fn tells_denial(answer: &str, name: &str) -> bool {
+    if answer.ends_with(LEFT_NOTES) {
+        return name.is_empty() || name.starts_with("/var/lib/dpkg/");
+    }
     match told_declined(answer) {
         Some(path) => is_beside(name, path) && answer.ends_with("|1\n"),
         None => answer.contains("broken declined\n") && answer.ends_with(BROKEN_OFF),
@@ -338,6 +352,17 @@ impl Machine {
         self.judge_moment(row, finishes, text)
     }
 
+    // Adds the notes that stand behind a command which ended, also where power was lost then: there are none.
+    fn judge_notes(&mut self, text: &mut String) -> Result<(), AllocError> {
+        let shown = self.text_at("/var/lib/dpkg/updates")?;
+        if !["", "directory:"].contains(&shown.as_str()) {
+            text.push_str("notes: ")?;
+            text.push_str(shown.as_str())?;
+            text.push('\n')?;
+        }
+        Ok(())
+    }
+
     // Runs a command, which is broken off so, and recovers the root.
     fn run(
         &mut self,
@@ -351,6 +376,9 @@ impl Machine {
         let ran = self.ran(answer.as_str());
         self.judge_denial(answer.as_str(), text)?;
         self.recover(loss)?;
+        if ran.ended {
+            self.judge_notes(text)?;
+        }
         Ok(ran)
     }
 

@@ -21,12 +21,12 @@ mod word_rows;
 
 use super::{answer, expect, path_of, text_of};
 use command_line::{Hosts, RootFault, ScriptStreams, TreeOwners};
-use host_core::{Access, Host, HostFault, Node, Outcome, RootPath};
+use host_core::{Access, Content, Host, HostFault, Node, Outcome, RootPath};
 use host_memory::{Ending, Entry, MemoryHost, Planned};
 use std::alloc::{AllocError, Global};
 use std::process::Abort;
 use std::test::Fail;
-use texts::{Bytes, Text};
+use texts::Text;
 
 // A file of a tree: the word that names the tree, the path under it, and what stands there.
 type TreeFile = (&'static str, &'static str, &'static str);
@@ -41,7 +41,7 @@ struct MemoryHosts {
 }
 
 fn file_with(alloc: Global, text: &str, access: Access) -> Result<Node, AllocError> {
-    let bytes = Bytes::from_slice(alloc, text.as_bytes())?;
+    let bytes = Content::from_slice(alloc, text.as_bytes())?;
     Ok(Node::File { bytes, access })
 }
 
@@ -227,7 +227,9 @@ impl MemoryHosts {
         if let Some(path) = line.strip_prefix("read ") {
             return self.read(path, text);
         }
-        text.push_str(answer(self.alloc, self, line)?.as_str())
+        let answer = answer(self.alloc, self, line)?;
+        text.push_str(answer.as_str())?;
+        self.judge_notes(answer.as_str(), text)
     }
 
     // Adds the answers to lines of words.
@@ -238,9 +240,16 @@ impl MemoryHosts {
         Ok(())
     }
 
-    // The next opening merges the notes into the status file.
-    fn merge(&mut self) -> Result<(), AllocError> {
-        answer(self.alloc, self, "dpkg_cli list")?;
+    // Adds the notes that stand behind a command which wasn't broken off: there are none.
+    fn judge_notes(&mut self, answer: &str, text: &mut String) -> Result<(), AllocError> {
+        let Some(host) = &mut self.root else {
+            return Ok(());
+        };
+        let shown = shown_at(self.alloc, host, "/var/lib/dpkg/updates")?;
+        if !answer.ends_with("|2\n") && !["", "directory:"].contains(&shown.as_str()) {
+            text.push_str(shown.as_str())?;
+            text.push('\n')?;
+        }
         Ok(())
     }
 }
@@ -270,7 +279,6 @@ fn told(
     let mut text = String::new(alloc);
     let mut hosts = hosts(alloc, trees, outcomes)?;
     hosts.steps(lines, &mut text)?;
-    hosts.merge()?;
     text.push_str(hosts.left()?.as_str())?;
     Ok(text)
 }

@@ -233,15 +233,7 @@ script t preinst 644 'exit 0'",
     tree: "t",
     calls: "call new alpha preinst install: not started\n",
     rest: "state alpha none\nfailed alpha preinst install\n||1\n",
-    left: "calls 1 faults 0
-644 updates/0000
-Package: alpha
-Status: install reinstreq half-installed
-Version: 1.0
-644 updates/0001
-Package: alpha
-Status: unknown ok not-installed
-",
+    left: "calls 1 faults 0\n",
 }];
 
 #[test]
@@ -259,13 +251,6 @@ script t preinst 755 'kill -9 $$'",
         rest: "state alpha none\nfailed alpha preinst install\n||1\n",
         left: "calls 1 faults 0
 preinst install
-644 updates/0000
-Package: alpha
-Status: install reinstreq half-installed
-Version: 1.0
-644 updates/0001
-Package: alpha
-Status: unknown ok not-installed
 ",
     },
     Step {
@@ -278,13 +263,6 @@ call new alpha postrm abort-install: exit 0
         left: "calls 2 faults 0
 preinst install
 postrm abort-install
-644 updates/0000
-Package: alpha
-Status: install reinstreq half-installed
-Version: 1.0
-644 updates/0001
-Package: alpha
-Status: unknown ok not-installed
 ",
     },
 ];
@@ -326,11 +304,7 @@ preinst install
 #!/bin/sh
 echo \"preinst $*\" >>../started
 . ../looks
-644 updates/0000
-Package: alpha
-Status: install reinstreq half-installed
-Version: 1.0
-644 updates/0001
+644 status
 Package: alpha
 Status: install ok unpacked
 Version: 1.0

@@ -1,13 +1,13 @@
 // What is told and set of owners, as the superuser and as a plain user: the gate has one of them, scripts/owners has both
 // and then also names a root whose file /owned, of mode 2755, belongs to user 1 and group 42.
 use super::{NEW_DIRECTORY, RealHost, Row, check, shell};
-use host_core::{Access, Host, HostFault, Node, RootPath};
+use host_core::{Access, Content, Host, HostFault, Node, RootPath};
 use host_files::FilesHost;
 use std::alloc::{AllocError, Global};
 use std::rt::Env;
 use std::test::Fail;
 use std::{env, fs};
-use texts::{Bytes, Text};
+use texts::Text;
 
 fn node_text(alloc: Global, node: Option<Node>) -> Result<String, AllocError> {
     match node {
@@ -31,7 +31,7 @@ fn look(alloc: Global, host: &mut RealHost, path: &RootPath) -> Result<String, H
 fn write(alloc: Global, host: &mut RealHost, access: Access) -> Result<(), HostFault> {
     let new = RootPath::from_str(alloc, "/written.dpkg-inst")?;
     let node = Node::File {
-        bytes: Bytes::from_slice(alloc, b"written\n")?,
+        bytes: Content::from_slice(alloc, b"written\n")?,
         access,
     };
     host.write_new(&new, &node)?;

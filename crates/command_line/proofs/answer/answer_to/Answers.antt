@@ -2,7 +2,7 @@ use Rattle.std.proofs.Common.{rules, ◌≡◌, ◌∙◌, [], ap, map, string_b
 use Rattle.command_words.specs.Commands.{asked_of}
 use Rattle.command_words.specs.Topics.{HasScreen, named_in}
 use Rattle.command_words.specs.declared.words.Asked.TheVariants.{CompareVersions, Configure, Divert, Help, Install, Names, Purge, Query, Remove, Undivert, Unpack, Version}
-use Rattle.command_line.specs.Reports.{comparison_answer, ended_answer, memory_answer, names_answer, prints, trees_answer, usage_answer, version_answer}
+use Rattle.command_line.specs.Reports.{comparison_answer, memory_answer, names_answer, prints, trees_answer, usage_answer, version_answer, work_answer}
 use Rattle.command_line.specs.declared.answer.Answer.{Answer}
 use Rattle.command_line.proofs.Held.{appends_nothing}
 use Rattle.command_line.specs.Packages.{policy_of}
@@ -78,19 +78,19 @@ pub returns-in-Ok-Configure-clause-answered : goal.returns-in-Ok-Configure-claus
 returns-in-Ok-Configure-clause-answered g c =
     let asked : asked_of (map string_bytes c.args.words.now) ≡ Some (Configure c.in-Ok-Configure.asked) = search rules in
     let ended = c.configured.ensures.ended in
-    (ended_answer c.in-Ok-Configure.asked.root ended.0, rw asked (inl (ended.0, ended.1, refl)), ended.2)
+    (work_answer c.in-Ok-Configure.asked.root ended.0, rw asked (inl (ended.0, ended.1, refl)), ended.2)
 
 pub returns-in-Ok-Remove-clause-answered : goal.returns-in-Ok-Remove-clause-answered
 returns-in-Ok-Remove-clause-answered g c =
     let asked : asked_of (map string_bytes c.args.words.now) ≡ Some (Remove c.in-Ok-Remove.asked) = search rules in
     let ended = c.removed.ensures.ended in
-    (ended_answer c.in-Ok-Remove.asked.root ended.0, rw asked (inl (ended.0, ended.1, refl)), ended.2)
+    (work_answer c.in-Ok-Remove.asked.root ended.0, rw asked (inl (ended.0, ended.1, refl)), ended.2)
 
 pub returns-in-Ok-Purge-clause-answered : goal.returns-in-Ok-Purge-clause-answered
 returns-in-Ok-Purge-clause-answered g c =
     let asked : asked_of (map string_bytes c.args.words.now) ≡ Some (Purge c.in-Ok-Purge.asked) = search rules in
     let ended = c.purged.ensures.ended in
-    (ended_answer c.in-Ok-Purge.asked.root ended.0, rw asked (inl (ended.0, ended.1, refl)), ended.2)
+    (work_answer c.in-Ok-Purge.asked.root ended.0, rw asked (inl (ended.0, ended.1, refl)), ended.2)
 
 pub returns-in-Err-Usage-clause-answered : goal.returns-in-Err-Usage-clause-answered
 returns-in-Err-Usage-clause-answered g c =

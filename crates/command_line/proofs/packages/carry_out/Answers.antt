@@ -10,12 +10,13 @@ returns-in_ok-names-in-Configure-clause-done g c =
     let session = c.args.session.now in
     let before = held_by session.administration session.diversions in
     let begun = g.H.Host.state session.host in
+    let after = held_by c.configure.new.self.administration c.configure.new.self.diversions in
     let end = g.H.Host.state c.configure.new.self.host in
     let done = c.configure.ensures in
-    subst (λ (asked : Work). HasWorked asked c.configure.result before begun end) (sym c.in-Configure.is)
-    (subst (λ (names : Option (List (List ℕ))). HasWorked (work.Configure names c.in-Configure.policy) c.configure.result before begun end) (c.in_ok-names-in-Configure.ensures) record {
+    subst (λ (asked : Work). HasWorked asked c.configure.result before after begun end) (sym c.in-Configure.is)
+    (subst (λ (names : Option (List (List ℕ))). HasWorked (work.Configure names c.in-Configure.policy) c.configure.result before after begun end) (c.in_ok-names-in-Configure.ensures) record {
       part = done.part c.requires;
-      whole = λ none. record { after = held_by c.configure.new.self.administration c.configure.new.self.diversions; run = done.whole c.requires none };
+      whole = λ none. done.whole c.requires none;
       counts = done.counts c.requires;
       told = done.told;
       any_moment = done.any_moment c.requires;
@@ -26,12 +27,13 @@ returns-in_ok-names-in-Remove-clause-done g c =
     let session = c.args.session.now in
     let before = held_by session.administration session.diversions in
     let begun = g.H.Host.state session.host in
+    let after = held_by c.remove.new.self.administration c.remove.new.self.diversions in
     let end = g.H.Host.state c.remove.new.self.host in
     let done = c.remove.ensures in
-    subst (λ (asked : Work). HasWorked asked c.remove.result before begun end) (sym c.in-Remove.is)
-    (subst (λ (names : List (List ℕ)). HasWorked (work.Remove names) c.remove.result before begun end) (c.in_ok-names-in-Remove.ensures ∙ c.as_slice.ensures) record {
+    subst (λ (asked : Work). HasWorked asked c.remove.result before after begun end) (sym c.in-Remove.is)
+    (subst (λ (names : List (List ℕ)). HasWorked (work.Remove names) c.remove.result before after begun end) (c.in_ok-names-in-Remove.ensures ∙ c.as_slice.ensures) record {
       part = done.part c.requires;
-      whole = λ none. record { after = held_by c.remove.new.self.administration c.remove.new.self.diversions; run = done.whole c.requires none };
+      whole = λ none. done.whole c.requires none;
       counts = done.counts c.requires;
       told = done.told;
       any_moment = done.any_moment c.requires;
@@ -42,12 +44,13 @@ returns-in_ok-names-in-Purge-clause-done g c =
     let session = c.args.session.now in
     let before = held_by session.administration session.diversions in
     let begun = g.H.Host.state session.host in
+    let after = held_by c.purge.new.self.administration c.purge.new.self.diversions in
     let end = g.H.Host.state c.purge.new.self.host in
     let done = c.purge.ensures in
-    subst (λ (asked : Work). HasWorked asked c.purge.result before begun end) (sym c.in-Purge.is)
-    (subst (λ (names : List (List ℕ)). HasWorked (work.Purge names) c.purge.result before begun end) (c.in_ok-names-in-Purge.ensures ∙ c.as_slice-in-Purge.ensures) record {
+    subst (λ (asked : Work). HasWorked asked c.purge.result before after begun end) (sym c.in-Purge.is)
+    (subst (λ (names : List (List ℕ)). HasWorked (work.Purge names) c.purge.result before after begun end) (c.in_ok-names-in-Purge.ensures ∙ c.as_slice-in-Purge.ensures) record {
       part = done.part c.requires;
-      whole = λ none. record { after = held_by c.purge.new.self.administration c.purge.new.self.diversions; run = done.whole c.requires none };
+      whole = λ none. done.whole c.requires none;
       counts = done.counts c.requires;
       told = done.told;
       any_moment = done.any_moment c.requires;

@@ -1,16 +1,16 @@
 use Rattle.std.proofs.Common.{◌≡◌, subst, sym}
-use Rattle.command_line.specs.Packages.{HasWorked}
+use Rattle.command_line.specs.Packages.{HasWorkedToEnd}
 use Rattle.command_line.specs.Roots.{held_anew}
 use Rattle.unit_reports.specs.Held.{Held, held_by}
 use Rattle.command_line.proofs.Trees.{opened_anew}
 use Rattle.command_line.proofs.packages.work_on.Goals as goal
 
-pub returns-in_ok-done-in-Ok-clause-done : goal.returns-in_ok-done-in-Ok-clause-done
-returns-in_ok-done-in-Ok-clause-done g c =
+pub returns-in_ok-ended-in-Ok-clause-done : goal.returns-in_ok-ended-in-Ok-clause-done
+returns-in_ok-ended-in-Ok-clause-done g c =
     let session = c.in-Ok.session in
     let asked = c.args.asked.now in
     let begun = g.S.Opened.Host.state session.host in
-    let done = c.in_ok-done-in-Ok.field-0 in
+    let ended = c.in_ok-ended-in-Ok.field-0 in
     let before = held_by session.administration session.diversions in
     let anew = held_anew session.administration.database.records session.administration.lists.lists session.diversions.entries in
     let same : before ≡ anew = opened_anew session.administration.database session.administration.lists session.diversions c.in-Ok.ensures.number (session.opened c.in-Ok.ensures.closed).noting in
@@ -27,6 +27,6 @@ returns-in_ok-done-in-Ok-clause-done g c =
       };
       end = g.S.Opened.Host.state c.into_host.result;
       given = c.close_root.ensures.given;
-      worked = subst (λ host. HasWorked asked done anew begun (g.S.Opened.Host.state host)) (sym c.into_host.ensures)
-          (subst (λ (h : Held). HasWorked asked done h begun (g.S.Opened.Host.state c.carry_out-done.new.session.host)) same c.in_ok-done-in-Ok.ensures.done);
+      worked = subst (λ host. HasWorkedToEnd asked ended anew begun (g.S.Opened.Host.state host)) (sym c.into_host.ensures)
+          (subst (λ (h : Held). HasWorkedToEnd asked ended h begun (g.S.Opened.Host.state c.work_to_end-ended.new.session.host)) same c.in_ok-ended-in-Ok.ensures.done);
     }

@@ -22,11 +22,11 @@ returns-in-Some-clause-done g c =
     let session = c.args.session.now in
     let left = c.install.new.self in
     let a : Around = around g.S.Hosts old.hosts.now new.hosts.now in
-    subst (λ (policy : Option ConfPolicy). HasRunTrees a policy old.asked.now (Installed c.install.result) (held_by session.administration session.diversions) (g.S.Opened.Host.state session.host) (g.S.Opened.Host.state left.host)) (sym c.in-Some.is) record {
+    subst (λ (policy : Option ConfPolicy). HasRunTrees a policy old.asked.now (Installed c.install.result) (held_by session.administration session.diversions) (held_by left.administration left.diversions) (g.S.Opened.Host.state session.host) (g.S.Opened.Host.state left.host)) (sym c.in-Some.is) record {
       candidates = run.0;
       left = into_iter_items new.left.now;
       read = read_for _ g.S.Hosts (λ t. t.hosts.now) (λ t. into_iter_items t.left.now) (λ t. t.asked.now) (λ s x t h. (h.1, h.2, h.3, h.4)) old.asked.now run.0 old new refl c.requires.unread run.1;
-      all = record { after = held_by left.administration left.diversions; install = run.2; counts = c.install.ensures.counts c.requires.open; told = c.install.ensures.told };
+      all = record { install = run.2; counts = c.install.ensures.counts c.requires.open; told = c.install.ensures.told };
     }
 
 pub returns-in-Some-clause-on : goal.returns-in-Some-clause-on
@@ -47,11 +47,11 @@ returns-in-None-clause-done g c =
     let session = c.args.session.now in
     let left = c.run.new.self in
     let a : Around = around g.S.Hosts old.hosts.now new.hosts.now in
-    subst (λ (policy : Option ConfPolicy). HasRunTrees a policy old.asked.now (Unpacked c.run.result) (held_by session.administration session.diversions) (g.S.Opened.Host.state session.host) (g.S.Opened.Host.state left.host)) (sym c.in-None.is) record {
+    subst (λ (policy : Option ConfPolicy). HasRunTrees a policy old.asked.now (Unpacked c.run.result) (held_by session.administration session.diversions) (held_by left.administration left.diversions) (g.S.Opened.Host.state session.host) (g.S.Opened.Host.state left.host)) (sym c.in-None.is) record {
       candidates = run.0;
       left = into_iter_items new.left.now;
       read = read_for _ g.S.Hosts (λ t. t.hosts.now) (λ t. into_iter_items t.left.now) (λ t. t.asked.now) (λ s x t h. (h.1, h.2, h.3, h.4)) old.asked.now run.0 old new refl c.requires.unread run.1;
-      all = record { after = held_by left.administration left.diversions; run = run.2; counts = c.run.ensures.counts c.requires.open; told = c.run.ensures.told };
+      all = record { run = run.2; counts = c.run.ensures.counts c.requires.open; told = c.run.ensures.told };
     }
 
 pub returns-in-None-clause-on : goal.returns-in-None-clause-on

@@ -1,20 +1,20 @@
 use Rattle.std.proofs.Common.{◌≡◌, arith, subst, sym}
 use Rattle.command_line.specs.Roots.{Around, around, held_anew}
 use Rattle.unit_reports.specs.Held.{Held, held_by}
-use Rattle.command_line.specs.Unpacks.{HasRunTrees}
-use Rattle.command_line.proofs.Trees.{opened_anew, run_within}
+use Rattle.command_line.specs.Unpacks.{HasRunToEnd}
+use Rattle.command_line.proofs.Trees.{ended_within, opened_anew}
 use Rattle.command_line.proofs.unpacking.unpack_on.Goals as goal
 
-pub returns-in_ok-done-in-Ok-clause-done : goal.returns-in_ok-done-in-Ok-clause-done
-returns-in_ok-done-in-Ok-clause-done g c =
+pub returns-in_ok-ended-in-Ok-clause-done : goal.returns-in_ok-ended-in-Ok-clause-done
+returns-in_ok-ended-in-Ok-clause-done g c =
     let old = c.args.hosts.now in
-    let mid = c.run_trees-done.new.hosts in
+    let mid = c.run_to_end-ended.new.hosts in
     let new = c.close_root.new.self in
     let inner : Around = around g.S.Hosts old mid in
     let outer : Around = around g.S.Hosts old new in
     let session = c.in-Ok.session in
     let begun = g.S.Opened.Host.state session.host in
-    let done = c.in_ok-done-in-Ok.field-0 in
+    let ended = c.in_ok-ended-in-Ok.field-0 in
     let before = held_by session.administration session.diversions in
     let anew = held_anew session.administration.database.records session.administration.lists.lists session.diversions.entries in
     let same : before ≡ anew = opened_anew session.administration.database session.administration.lists session.diversions c.in-Ok.ensures.number (session.opened c.in-Ok.ensures.closed).noting in
@@ -31,7 +31,7 @@ returns-in_ok-done-in-Ok-clause-done g c =
       };
       end = g.S.Opened.Host.state c.into_host.result;
       given = c.close_root.ensures.given;
-      ran = subst (λ host. HasRunTrees outer c.args.policy c.args.unpacking.now done anew begun (g.S.Opened.Host.state host)) (sym c.into_host.ensures)
-          (run_within outer inner (record { tree = λ word s h. h; seen = c.close_root.ensures.seen; failed = λ h. omega arith }) c.args.policy c.args.unpacking.now done anew begun (g.S.Opened.Host.state c.run_trees-done.new.session.host)
-          (subst (λ (h : Held). HasRunTrees inner c.args.policy c.args.unpacking.now done h begun (g.S.Opened.Host.state c.run_trees-done.new.session.host)) same c.in_ok-done-in-Ok.ensures.done));
+      ran = subst (λ host. HasRunToEnd outer c.args.policy c.args.unpacking.now ended anew begun (g.S.Opened.Host.state host)) (sym c.into_host.ensures)
+          (ended_within outer inner (record { tree = λ word s h. h; seen = c.close_root.ensures.seen; failed = λ h. omega arith }) c.args.policy c.args.unpacking.now ended anew begun (g.S.Opened.Host.state c.run_to_end-ended.new.session.host)
+          (subst (λ (h : Held). HasRunToEnd inner c.args.policy c.args.unpacking.now ended h begun (g.S.Opened.Host.state c.run_to_end-ended.new.session.host)) same c.in_ok-ended-in-Ok.ensures.done));
     }

@@ -1,4 +1,5 @@
-use Rattle.dpkg_session.proofs.Barriers.{opening_to_disk, opens_stopped}
+use Rattle.std.proofs.Common.{inl}
+use Rattle.dpkg_session.proofs.Barriers.{brought_behind, opening_to_disk, opens_stopped}
 use Rattle.dpkg_session.proofs.session.open_to_disk.Goals as goal
 use Rattle.host_core.proofs.Barriers.{barrier_world}
 
@@ -11,3 +12,11 @@ returns-in-Err-barrier-clause-opens g c = λ h.
 
 pub returns-in-Err-barrier-clause-any_moment : goal.returns-in-Err-barrier-clause-any_moment
 returns-in-Err-barrier-clause-any_moment g c = opening_to_disk _ _ _ _ c.open_administration.ensures.any_moment c.barrier.ensures.does
+
+pub returns-in-Ok-barrier-clause-brought : goal.returns-in-Ok-barrier-clause-brought
+returns-in-Ok-barrier-clause-brought g c = λ h stopped.
+    brought_behind c.barrier.result (g.H.Host.state c.args.host.now) (g.H.Host.state c.open_administration.new.host) (g.H.Host.state c.barrier.new.self) (c.in-Ok.ensures.brought (c.barrier.ensures.silent.honest h) stopped) c.barrier.ensures.does
+
+pub returns-in-Err-barrier-clause-brought : goal.returns-in-Err-barrier-clause-brought
+returns-in-Err-barrier-clause-brought g c = λ h stopped.
+    inl (brought_behind c.barrier.result (g.H.Host.state c.args.host.now) (g.H.Host.state c.open_administration.new.host) (g.H.Host.state c.barrier.new.self) (c.in-Ok.ensures.brought (c.barrier.ensures.silent.honest h) stopped) c.barrier.ensures.does)

@@ -1,7 +1,7 @@
 use Rattle.std.proofs.Common.{rules, ◌∷◌, ap, ◌∙◌, IfErr}
 use Rattle.host_files.specs.Faults.{IsOfStep, IsUndeclined}
 use Rattle.host_files.specs.SystemCalls.{changes_in}
-use Rattle.host_files.specs.Shown.{access_calls, directory_calls}
+use Rattle.host_files.specs.Shown.{directory_calls, opened_calls}
 use Rattle.host_files.proofs.Answered.{first_asked, not_made}
 use Rattle.host_files.specs.declared.trace.SystemCall.TheVariants.{MakeDirectory, RemoveDirectory}
 use Rattle.host_files.proofs.steps.create_directory.Goals as goal
@@ -14,5 +14,5 @@ returns-in_err-check_settable c =
 pub returns-in_err-make_directory : goal.returns-in_err-make_directory
 returns-in_err-make_directory c =
     let step : IfErr c.from_residual-in_err-make_directory.result IsOfStep = search rules in
-    first_asked (MakeDirectory c.args.place.now) (RemoveDirectory c.args.place.now) (access_calls c.args.owners c.args.place.now c.args.access) c.make_directory.new.self.trace.calls c.from_residual-in_err-make_directory.result c.from_residual-in_err-make_directory.ensures.0 step
+    first_asked (MakeDirectory c.args.place.now) (RemoveDirectory c.args.place.now) (opened_calls c.args.owners c.args.place.now c.args.access) c.make_directory.new.self.trace.calls c.from_residual-in_err-make_directory.result c.from_residual-in_err-make_directory.ensures.0 step
     (ap changes_in (c.in_err-make_directory.ensures.made ∙ ap (λ l. MakeDirectory c.args.place.now ∷ l) c.requires.begun))

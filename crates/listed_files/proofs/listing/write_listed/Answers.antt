@@ -1,11 +1,13 @@
-use Rattle.std.proofs.Common.{IsTrue, inl, inr, sym, subst}
+use Rattle.std.proofs.Common.{◌<◌, IsTrue, rules, inl, inr, sym, subst}
 use Rattle.std.specs.Prelude.{MatchOption}
+use Rattle.host_core.specs.Host.{NoFault, denials}
 use Rattle.administration.specs.Files.{IsReplaced, IsReplacing}
 use Rattle.administration.specs.Places.{list_path}
 use Rattle.file_lists.specs.Writing.{list_file, IsListReady}
 use Rattle.package_files.specs.Files.{IsAmid, Undone, Written}
 use Rattle.listed_files.specs.Listing.{MayTurnBack}
 use Rattle.listed_files.proofs.Moments.{at_each}
+use Rattle.listed_files.proofs.Declining.{declined_early, declined_files, declined_later}
 use Rattle.listed_files.proofs.Turning.{to_disk, then_later}
 use Rattle.listed_files.proofs.Listings.{free_still, seen_still, homed_still, ready_replaced, ready_undone}
 use Rattle.listed_files.proofs.listing.write_listed.Goals as goal
@@ -161,3 +163,35 @@ returns-in_ok-replace_list-in-Some-clause-any_moment g c =
     let new = g.H.Host.state c.replace_list-in-Some.new.host in
     then_later P (IsReplacing list listed) old bak new synced
     (λ h now is. let h2 = c.replace_list-in-Some.ensures.silent.honest h in inr (bar.world, bak.world, replaced (c.write_files.ensures.silent.honest (c.barrier-in-Some.ensures.silent.honest h2)), back h2, is)) c.replace_list-in-Some.ensures.any_moment
+
+pub returns-in_err-replace_list-clause-twice : goal.returns-in_err-replace_list-clause-twice
+returns-in_err-replace_list-clause-twice g c =
+    declined_early (list_path c.args.name.now) (list_file c.args.union) c.from_residual.result (g.H.Host.state c.args.host.now) (g.H.Host.state c.replace_list.new.host) c.replace_list.ensures.any_moment
+
+pub returns-in_err-barrier-clause-twice : goal.returns-in_err-barrier-clause-twice
+returns-in_err-barrier-clause-twice g c =
+    let list = list_path c.args.name.now in
+    let union = list_file c.args.union in
+    declined_early list union c.from_residual-in_err-barrier.result (g.H.Host.state c.args.host.now) (g.H.Host.state c.barrier.new.self)
+    (to_disk (IsReplacing list union) c.barrier.result _ _ _ c.replace_list.ensures.any_moment c.barrier.ensures.does)
+
+pub returns-in_err-write_files-clause-twice : goal.returns-in_err-write_files-clause-twice
+returns-in_err-write_files-clause-twice g c =
+    let old = g.H.Host.state c.args.host.now in
+    let bar = g.H.Host.state c.barrier.new.self in
+    let first : NoFault old bar = search rules in
+    declined_files (list_path c.args.name.now) (list_file c.args.union) c.from_residual-in_err-write_files.result old bar (g.H.Host.state c.write_files.new.host) first (search rules)
+
+pub returns-in_err-barrier-in-Some-clause-twice : goal.returns-in_err-barrier-in-Some-clause-twice
+returns-in_err-barrier-in-Some-clause-twice g c =
+    let old = g.H.Host.state c.args.host.now in
+    let fil = g.H.Host.state c.write_files.new.host in
+    let first : denials old < denials fil = search rules in
+    declined_later (list_path c.args.name.now) (list_file c.args.union) c.from_residual-in_err-barrier-in-Some.result old fil (g.H.Host.state c.barrier-in-Some.new.self) first (search rules)
+
+pub returns-in_err-replace_list-in-Some-clause-twice : goal.returns-in_err-replace_list-in-Some-clause-twice
+returns-in_err-replace_list-in-Some-clause-twice g c =
+    let old = g.H.Host.state c.args.host.now in
+    let bak = g.H.Host.state c.barrier-in-Some.new.self in
+    let first : denials old < denials bak = search rules in
+    declined_later (list_path c.args.name.now) (list_file c.args.union) c.from_residual-in_err-replace_list-in-Some.result old bak (g.H.Host.state c.replace_list-in-Some.new.host) first (search rules)

@@ -15,7 +15,7 @@ returns-in_err-path-clause-opens g c = λ h. stopped_memory (Way c.args.place.no
 pub returns-in_err-make_directory-clause-opens : goal.returns-in_err-make_directory-clause-opens
 returns-in_err-make_directory-clause-opens g c = λ h.
     way_stopped _ c.args.place.now _ c.from_residual-in_err-make_directory.result _ _ c.in_ok-path.ensures c.requires.way c.from_residual-in_err-make_directory.ensures.1
-    (since_now _ _ _ c.make_directory.ensures.any_moment h) c.in_err-make_directory.ensures.memory
+    (since_now _ _ _ c.make_directory.ensures.any_moment h) (c.in_err-make_directory.ensures.unmade h)
 
 pub returns-in_err-make_directory-clause-any_moment : goal.returns-in_err-make_directory-clause-any_moment
 returns-in_err-make_directory-clause-any_moment g c =

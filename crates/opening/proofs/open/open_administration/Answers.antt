@@ -1,20 +1,14 @@
-use Rattle.host_core.proofs.Moments.{since_now}
-use Rattle.opening.specs.Parts.{fault_in}
-use Rattle.opening.proofs.Merging.{moments_merging, moments_opening, opens_failed, opens_merged}
+use Rattle.opening.proofs.Brought.{as_before, brought_then, later_of, moments_opened, opens_unbrought}
 use Rattle.opening.proofs.open.open_administration.Goals as goal
 
-pub returns-in-Ok-clause-opens : goal.returns-in-Ok-clause-opens
-returns-in-Ok-clause-opens g c = λ h.
-    let h1 = c.settle_notes.ensures.silent.honest h in
-    opens_merged (fault_in c.settle_notes.result) c.in-Ok.opened.database.records _ _ _ (c.in-Ok.ensures.opens h1) (c.in-Ok.ensures.found h1).records.holds c.settle_notes.ensures.sound
-    (since_now _ _ _ c.settle_notes.ensures.any_moment h)
-
 pub returns-in-Ok-clause-any_moment : goal.returns-in-Ok-clause-any_moment
-returns-in-Ok-clause-any_moment g c =
-    moments_merging c.in-Ok.opened.database.records _ _ _ c.read_administration.ensures.any_moment (λ h1. (c.in-Ok.ensures.found h1).records.holds) c.settle_notes.ensures.silent.honest c.settle_notes.ensures.any_moment
+returns-in-Ok-clause-any_moment g c = moments_opened _ _ _ c.bring_to_disk.ensures.same c.open_brought.ensures.silent.honest c.bring_to_disk.ensures.any_moment c.open_brought.ensures.any_moment
+
+pub returns-in-Ok-clause-brought : goal.returns-in-Ok-clause-brought
+returns-in-Ok-clause-brought g c = λ h stopped. brought_then c.open_brought.result _ _ _ (c.in-Ok.ensures.brought (c.open_brought.ensures.silent.honest h) stopped) (later_of _ _ _ c.open_brought.ensures.any_moment)
 
 pub returns-in-Err-clause-opens : goal.returns-in-Err-clause-opens
-returns-in-Err-clause-opens g c = λ h. opens_failed c.in-Err.fault _ _ (c.in-Err.ensures.opens h)
+returns-in-Err-clause-opens g c = λ h. opens_unbrought c.in-Err.fault _ _ (c.bring_to_disk.ensures.same h) c.in-Err.ensures.sound
 
 pub returns-in-Err-clause-any_moment : goal.returns-in-Err-clause-any_moment
-returns-in-Err-clause-any_moment g c = moments_opening _ _ c.read_administration.ensures.any_moment
+returns-in-Err-clause-any_moment g c = as_before _ _ c.bring_to_disk.ensures.any_moment

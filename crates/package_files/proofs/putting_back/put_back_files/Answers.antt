@@ -1,82 +1,23 @@
-use Rattle.std.proofs.Common.{◌≡◌, ◌+◌, ◌-◌, ◌<◌, [], ◌∷◌, length, take, drop, sym, subst, rules, arith}
-use Rattle.host_core.proofs.Moments.{since_start, since_then, since_weaker_if}
-use Rattle.package_files.specs.Files.{PutBack}
-use Rattle.package_files.specs.Back.{IsGoingBack}
-use Rattle.package_files.proofs.WriteLists.{all_is}
-use Rattle.package_files.proofs.BackLists.{can_here, back_here, going_here, back_none, going_none, rest_at}
+use Rattle.host_core.proofs.Moments.{since_weaker}
+use Rattle.package_files.specs.Back.{GoesBack, IsGoingBack}
+use Rattle.package_files.specs.Laid.{Undoes, IsUndoing}
+use Rattle.package_files.proofs.TakingBack.{can_all, goes_all, going_all}
+use Rattle.package_files.proofs.WriteMoments.{on_ok}
 use Rattle.package_files.proofs.putting_back.put_back_files.Goals as goal
 
-pub loop-count-init : goal.loop-count-init
-loop-count-init g c = record {
-  within = search rules;
-  silent = search rules;
-  counts = search rules;
-  back = λ h was from. back_none c.args.works.now was _;
-  any_moment = since_start _ _ (going_none c.args.works.now _);
-}
-
-pub put_back_one-requires-clause-written : goal.put_back_one-requires-clause-written
-put_back_one-requires-clause-written g c = λ h.
-    let inv = c.loop-count.invariant in
-    let works = c.args.works.now in
-    let i = c.loop-count.count - 1 in
-    let more : i + 1 ≡ c.loop-count.count = omega (arith, c.loop-count-test.true) in
-    let within : i < length works = omega (arith, c.loop-count-test.true, inv.within) in
-    let x = c.index-works-count.result in
-    let old = (g.H.Host.state c.args.host.now).world in
-    let mid = (g.H.Host.state c.loop-count.host).world in
-    can_here works (take i works) x (drop (i + 1) works) (all_is works i x within c.index-works-count.is) c.requires.named c.requires.order old mid
-    (λ was from. subst (λ n. PutBack (drop n works) was old mid) (sym more) (inv.back h was from)) (c.requires.written (inv.silent.honest h))
-
-pub loop-count-preserved : goal.loop-count-preserved
-loop-count-preserved g c =
-    let inv = c.loop-count.invariant in
-    let works = c.args.works.now in
-    let i = c.loop-count.count - 1 in
-    let more : i + 1 ≡ c.loop-count.count = omega (arith, c.loop-count-test.true) in
-    let within : i < length works = omega (arith, c.loop-count-test.true, inv.within) in
-    let x = c.index-works-count.result in
-    let old = g.H.Host.state c.args.host.now in
-    let mid = g.H.Host.state c.loop-count.host in
-    let new = g.H.Host.state c.put_back_one.new.host in
-    let all = all_is works i x within c.index-works-count.is in
-    record {
-      within = omega (arith, inv.within);
-      silent = search rules;
-      counts = search rules;
-      back = λ h was from.
-          let h1 = c.put_back_one.ensures.silent.honest h in
-          subst (λ l. PutBack l was old.world new.world) (sym (rest_at works i x within c.index-works-count.is))
-          (back_here works (take i works) x (drop (i + 1) works) all c.requires.named c.requires.order old.world mid.world
-          (λ was from. subst (λ n. PutBack (drop n works) was old.world mid.world) (sym more) (inv.back h1 was from)) new.world (c.in_ok-put_back_one.ensures.back h) was from);
-      any_moment = since_then (λ so_far. IsGoingBack works old.world) old mid new inv.any_moment
-          (since_weaker_if (λ so_far. IsGoingBack (x ∷ []) mid.world) (λ so_far. IsGoingBack works old.world) mid new
-          (λ h so_far w going. going_here works (take i works) x (drop (i + 1) works) all c.requires.named c.requires.order old.world mid.world
-          (λ was from. subst (λ n. PutBack (drop n works) was old.world mid.world) (sym more) (inv.back (c.put_back_one.ensures.silent.honest h) was from)) w going)
-          c.put_back_one.ensures.any_moment);
-    }
-
-pub returns-in_err-put_back_one-clause-any_moment : goal.returns-in_err-put_back_one-clause-any_moment
-returns-in_err-put_back_one-clause-any_moment g c =
-    let inv = c.loop-count.invariant in
-    let works = c.args.works.now in
-    let i = c.loop-count.count - 1 in
-    let more : i + 1 ≡ c.loop-count.count = omega (arith, c.loop-count-test.true) in
-    let within : i < length works = omega (arith, c.loop-count-test.true, inv.within) in
-    let x = c.index-works-count.result in
-    let old = g.H.Host.state c.args.host.now in
-    let mid = g.H.Host.state c.loop-count.host in
-    let new = g.H.Host.state c.put_back_one.new.host in
-    since_then (λ so_far. IsGoingBack works old.world) old mid new inv.any_moment
-    (since_weaker_if (λ so_far. IsGoingBack (x ∷ []) mid.world) (λ so_far. IsGoingBack works old.world) mid new
-    (λ h so_far w going. going_here works (take i works) x (drop (i + 1) works) (all_is works i x within c.index-works-count.is) c.requires.named c.requires.order old.world mid.world
-    (λ was from. subst (λ n. PutBack (drop n works) was old.world mid.world) (sym more) (inv.back (c.put_back_one.ensures.silent.honest h) was from)) w going)
-    c.put_back_one.ensures.any_moment)
+pub take_back-requires-clause-under_way : goal.take_back-requires-clause-under_way
+take_back-requires-clause-under_way g c = λ h. can_all c.args.works.now _ (c.requires.written h)
 
 pub returns-clause-back : goal.returns-clause-back
-returns-clause-back g c = λ h was from.
+returns-clause-back g c = λ h.
+    let works = c.args.works.now in
+    let old = (g.H.Host.state c.args.host.now).world in
+    let new = (g.H.Host.state c.take_back.new.host).world in
+    on_ok c.take_back.result (Undoes works old new) (GoesBack works old new) (goes_all works old new) (c.take_back.ensures.back h)
+
+pub returns-clause-any_moment : goal.returns-clause-any_moment
+returns-clause-any_moment g c =
     let works = c.args.works.now in
     let old = g.H.Host.state c.args.host.now in
-    let now = g.H.Host.state c.loop-count.host in
-    let zero : c.loop-count.count ≡ 0 = omega (arith, c.loop-count-test.false) in
-    subst (λ n. PutBack (drop n works) was old.world now.world) zero (c.loop-count.invariant.back h was from)
+    since_weaker (λ so_far. IsUndoing works old.world) (λ so_far. IsGoingBack works old.world) old (g.H.Host.state c.take_back.new.host)
+    (λ so_far w undoing. going_all works old.world w undoing) c.take_back.ensures.any_moment

@@ -4,6 +4,7 @@ use Rattle.status_db.specs.Noting.{IsStatusFile}
 use Rattle.status_records.specs.Records.{AreApart}
 use Rattle.status_db.proofs.NotedWorlds.{merged_by, notes_loose, since_merging, status_loose}
 use Rattle.status_db.proofs.Ordered.{order_apart}
+use Rattle.status_db.proofs.RecordTurns.{goes_here}
 use Rattle.status_db.proofs.merging.merge.Goals as goal
 
 pub status_node-requires : goal.status_node-requires
@@ -22,3 +23,6 @@ returns-clause-merged g c = λ h.
 pub returns-clause-any_moment : goal.returns-clause-any_moment
 returns-clause-any_moment g c =
     since_merging c.args.table.now c.in_ok-node.node (subst (IsStatusFile c.in_ok-node.node) c.as_slice.ensures c.in_ok-node.ensures) c.law.ensures.standing _ _ c.args.notes (λ h. c.requires.kept (c.replace_notes.ensures.silent.honest h)) c.replace_notes.ensures.any_moment
+
+pub returns-in_err-node-clause-turns : goal.returns-in_err-node-clause-turns
+returns-in_err-node-clause-turns g c = goes_here _

@@ -4,10 +4,14 @@ use Rattle.host_core.proofs.Moments.{since_then, since_weaker, since_weaker_if}
 use Rattle.host_core.specs.Paths.{is_path}
 use Rattle.host_core.specs.World.{HasParent}
 use Rattle.administration.specs.Files.{NoDirectory, IsReplaced, IsReplacing}
-use Rattle.administration.specs.Places.{temporary}
+use Rattle.administration.specs.Places.{status_path, temporary}
 use Rattle.status_db.specs.Taking.{IsReplacingNotes, IsTakingNotes}
 use Rattle.status_db.proofs.NotedWorlds.{replacing_notes_not, status_parent}
 use Rattle.status_db.proofs.Taken.{replacing_file, replacing_notes, replaced_by, files_after}
+use Rattle.administration.specs.Places.{home_path}
+use Rattle.status_db.proofs.RecordTurns.{goes_here, later_by, status_alone}
+use Rattle.status_db.specs.Held.{is_record_place}
+use Rattle.scattered_losses.proofs.TakingTurns.{turns_by_moments}
 use Rattle.status_db.proofs.merging.replace_notes.Goals as goal
 
 pub replace-requires-clause-room : goal.replace-requires-clause-room
@@ -51,3 +55,20 @@ returns-clause-any_moment g c =
 
 pub returns-in_err-path-clause-any_moment : goal.returns-in_err-path-clause-any_moment
 returns-in_err-path-clause-any_moment g c = replacing_notes_not c.args.status.now _ c.requires.unblocked
+
+pub returns-in_err-path-clause-turns : goal.returns-in_err-path-clause-turns
+returns-in_err-path-clause-turns g c = goes_here _
+
+pub returns-in_err-replace-clause-turns : goal.returns-in_err-replace-clause-turns
+returns-in_err-replace-clause-turns g c = λ h.
+    let old = g.H.Host.state c.args.host.now in
+    let first = subst (λ p. AtEachMoment (IsReplacing p c.args.status.now) old (g.H.Host.state c.replace.new.host)) c.in_ok-path.ensures c.replace.ensures.any_moment in
+    turns_by_moments is_record_place home_path old (g.H.Host.state c.replace.new.host) h (since_weaker _ _ _ _ (λ so_far w is. status_alone c.args.status.now old.world w is) first)
+
+pub returns-clause-turns : goal.returns-clause-turns
+returns-clause-turns g c = λ h.
+    let old = g.H.Host.state c.args.host.now in
+    let mid = g.H.Host.state c.replace.new.host in
+    let first = subst (λ p. AtEachMoment (IsReplacing p c.args.status.now) old mid) c.in_ok-path.ensures c.replace.ensures.any_moment in
+    c.take_merged.ensures.turns old (later_by (IsReplacing status_path c.args.status.now) old mid first)
+    (turns_by_moments is_record_place home_path old mid (c.take_merged.ensures.silent.honest h) (since_weaker _ _ _ _ (λ so_far w is. status_alone c.args.status.now old.world w is) first)) h

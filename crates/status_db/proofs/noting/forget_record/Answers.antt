@@ -1,6 +1,7 @@
 use Rattle.std.proofs.Common.{◌∙◌, sym}
 use Rattle.status_records.specs.Records.{drop_record}
 use Rattle.status_db.proofs.NotedWorlds.{found_named, none_there, nothing_dropped, noting_not}
+use Rattle.status_db.proofs.RecordTurns.{goes_here}
 use Rattle.status_db.proofs.noting.forget_record.Goals as goal
 
 pub returns-then-not-has-clause-table : goal.returns-then-not-has-clause-table
@@ -11,3 +12,6 @@ returns-then-not-has-clause-any_moment g c = noting_not c.args.table.now (drop_r
 
 pub write_gone-requires-clause-named : goal.write_gone-requires-clause-named
 write_gone-requires-clause-named g c = found_named c.args.name.now c.args.table.now (sym c.has.ensures ∙ c.if-not-has.false)
+
+pub returns-then-not-has-clause-turns : goal.returns-then-not-has-clause-turns
+returns-then-not-has-clause-turns g c = goes_here _

@@ -1,6 +1,7 @@
 use Rattle.status_db.specs.Notes.{said_gone}
 use Rattle.status_records.specs.Records.{drop_record}
 use Rattle.status_db.proofs.NotedWorlds.{drop_entered}
+use Rattle.status_db.proofs.RecordTurns.{goes_here}
 use Rattle.status_db.proofs.noting.write_gone.Goals as goal
 
 pub returns-clause-noted : goal.returns-clause-noted
@@ -8,3 +9,6 @@ returns-clause-noted g c = c.write_next.ensures.noted (said_gone c.args.name.now
 
 pub returns-clause-any_moment : goal.returns-clause-any_moment
 returns-clause-any_moment g c = c.write_next.ensures.any_moment (said_gone c.args.name.now) (drop_record c.args.name.now c.args.table.now) c.in_ok-node.ensures (drop_entered c.args.name.now c.args.table.now c.law.ensures.order)
+
+pub returns-in_err-node-clause-turns : goal.returns-in_err-node-clause-turns
+returns-in_err-node-clause-turns g c = goes_here _

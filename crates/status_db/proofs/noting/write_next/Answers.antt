@@ -1,4 +1,6 @@
 use Rattle.status_db.proofs.NotedWorlds.{free_loose, merging_first, note_then, noted_then, number_few}
+use Rattle.status_db.specs.Noting.{IsMerging}
+use Rattle.status_db.proofs.RecordTurns.{later_by}
 use Rattle.status_db.proofs.noting.write_next.Goals as goal
 
 pub returns-in_err-make_room-clause-any_moment : goal.returns-in_err-make_room-clause-any_moment
@@ -21,3 +23,9 @@ pub returns-clause-any_moment : goal.returns-clause-any_moment
 returns-clause-any_moment g c = λ note after file entry.
     note_then c.args.table.now after c.args.notes.now c.make_room.new.notes note c.args.node.now _ _ _ (number_few c.args.notes.now c.make_room.new.notes c.in_ok-make_room.ensures.number) file entry
     c.make_room.ensures.any_moment (λ h. c.in_ok-make_room.ensures.room (c.write_note.ensures.silent.honest h)) c.write_note.ensures.any_moment
+
+pub returns-in_err-write_note-clause-turns : goal.returns-in_err-write_note-clause-turns
+returns-in_err-write_note-clause-turns g c = λ h. c.write_note.ensures.turns _ (later_by (IsMerging c.args.table.now) _ _ c.make_room.ensures.any_moment) (c.make_room.ensures.turns (c.write_note.ensures.silent.honest h)) h
+
+pub returns-clause-turns : goal.returns-clause-turns
+returns-clause-turns g c = λ h. c.write_note.ensures.turns _ (later_by (IsMerging c.args.table.now) _ _ c.make_room.ensures.any_moment) (c.make_room.ensures.turns (c.write_note.ensures.silent.honest h)) h

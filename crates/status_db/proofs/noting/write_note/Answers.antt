@@ -3,6 +3,9 @@ use Rattle.status_db.specs.Held.{IsUnblocked}
 use Rattle.status_db.specs.Notes.{below_limit, note_path}
 use Rattle.status_db.proofs.Barriered.{disk_behind, left_between, moments_before, moments_behind, needs_behind}
 use Rattle.status_db.proofs.NotedWorlds.{replacing_not}
+use Rattle.host_core.proofs.Moments.{since_then, since_weaker}
+use Rattle.administration.specs.Places.{updates_path}
+use Rattle.status_db.proofs.RecordTurns.{later_by, note_alone, turns_from_barrier, turns_through_barrier, turns_to_barrier}
 use Rattle.status_db.proofs.noting.write_note.Goals as goal
 
 pub returns-in_err-barrier-clause-any_moment : goal.returns-in_err-barrier-clause-any_moment
@@ -34,3 +37,15 @@ returns-clause-any_moment g c =
 
 pub returns-clause-on_disk : goal.returns-clause-on_disk
 returns-clause-on_disk g c = disk_behind _ _ _ c.barrier-2.ensures.does
+
+pub returns-in_err-barrier-clause-turns : goal.returns-in_err-barrier-clause-turns
+returns-in_err-barrier-clause-turns g c = λ begun later turns. turns_to_barrier _ begun _ _ later turns c.barrier.ensures.does
+
+pub returns-in_err-replace_note-clause-turns : goal.returns-in_err-replace_note-clause-turns
+returns-in_err-replace_note-clause-turns g c = λ begun later turns.
+    turns_from_barrier updates_path begun _ _ _ later turns c.in_ok-barrier.ensures.does (since_weaker _ _ _ _ (λ so_far w is. note_alone c.args.number c.args.node.now _ w is) c.replace_note.ensures.any_moment)
+
+pub returns-clause-turns : goal.returns-clause-turns
+returns-clause-turns g c = λ begun later turns.
+    turns_through_barrier updates_path begun _ _ _ _ _ later turns c.in_ok-barrier.ensures.does
+    (since_weaker _ _ _ _ (λ so_far w is. note_alone c.args.number c.args.node.now _ w is) c.replace_note.ensures.any_moment) c.barrier-2.ensures.does c.barrier-2.ensures.silent.honest

@@ -21,11 +21,7 @@ mkdir root",
         left: "calls 0 faults 0
 644 info/bravo.list
 /.
-644 updates/0000
-Package: bravo
-Status: install reinstreq half-installed
-Version: 1
-644 updates/0001
+644 status
 Package: bravo
 Status: install ok unpacked
 Version: 1
@@ -38,8 +34,8 @@ fn root_cannot_be_written_at_first(rt: HostRuntime) -> Result<(), Fail> {
     check(&rt, ROOT_IN_PROC)
 }
 
-// Its mode doesn't bind root, which is held off by the directory's attribute. The notes can't be merged then: the system declines
-// that, and it is no fault of the device.
+// Its mode doesn't bind root, which is held off by the directory's attribute. No control file can be laid out then: the system
+// declines that, and it is no fault of the device. No note stands, so the opening has nothing to write.
 const CLOSED: &[Step] = &[
     Step {
         before: "mkdir root
@@ -52,11 +48,7 @@ script b preinst 755 'exit 0'",
         left: "calls 0 faults 0
 644 info/alpha.list
 /.
-644 updates/0000
-Package: alpha
-Status: install reinstreq half-installed
-Version: 1.0
-644 updates/0001
+644 status
 Package: alpha
 Status: install ok unpacked
 Version: 1.0
@@ -67,16 +59,12 @@ Version: 1.0
 [ \"$(id -u)\" -ne 0 ] || chattr +i root/var/lib/dpkg",
         tree: "b",
         calls: "",
-        rest: "|broken declined\n|2\n",
+        rest: "broken declined\n||2\n",
         left: "calls 0 faults 0
 555 root/var/lib/dpkg
 644 info/alpha.list
 /.
-644 updates/0000
-Package: alpha
-Status: install reinstreq half-installed
-Version: 1.0
-644 updates/0001
+644 status
 Package: alpha
 Status: install ok unpacked
 Version: 1.0
@@ -102,11 +90,7 @@ exit 0
 Package: alpha
 Status: install ok unpacked
 Version: 1.0
-644 updates/0000
-Package: bravo
-Status: install reinstreq half-installed
-Version: 1
-644 updates/0001
+
 Package: bravo
 Status: install ok unpacked
 Version: 1
@@ -155,11 +139,7 @@ Version: 1.0
 Package: alpha
 Status: install reinstreq half-installed
 Version: 1.0
-644 updates/0000
-Package: bravo
-Status: install reinstreq half-installed
-Version: 1
-644 updates/0001
+
 Package: bravo
 Status: install ok unpacked
 Version: 1

@@ -2,14 +2,14 @@
 use super::{NEW_DIRECTORY, RealHost, shell};
 use crate::answers::{path_of, text_of};
 use host_core::{
-    Access, Call, Host, HostFault, Keep, Node, Outcome, Places, RootPath, Script, Side,
+    Access, Call, Content, Host, HostFault, Keep, Node, Outcome, Places, RootPath, Script, Side,
 };
 use host_files::FilesHost;
 use std::alloc::{AllocError, Global};
 use std::fs;
 use std::process::Abort;
 use std::test::Fail;
-use texts::{Bytes, Text, Texts};
+use texts::{Text, Texts};
 
 // Links under the root lead to what stands outside.
 const LINKS: &str = "mkdir root outside outside/bare outside/full
@@ -62,7 +62,7 @@ fn write(alloc: Global, host: &mut RealHost, path: &RootPath) -> Result<(), Host
     if !path.as_str().ends_with(".dpkg-inst") {
         return Err(HostFault::NoMemory);
     }
-    let bytes = Bytes::from_slice(alloc, b"written\n")?;
+    let bytes = Content::from_slice(alloc, b"written\n")?;
     let access = Access::own(0o1775);
     host.write_new(path, &Node::File { bytes, access })
 }

@@ -1,4 +1,4 @@
-use Rattle.std.proofs.Common.{◌≡◌, ◌<◌, false, List, Option, ◌++◌, ap, arith, refl, subst, sym, ◌∙◌}
+use Rattle.std.proofs.Common.{◌≡◌, ◌<◌, false, List, Option, ◌++◌, ap, arith, refl, rules, subst, sym, ◌∙◌}
 use Rattle.std.proofs.lemmas.Bool.{true≢false}
 use Rattle.std.specs.Prelude.{IfSome}
 use Rattle.host_core.specs.Paths.{Path}
@@ -16,6 +16,7 @@ use Rattle.undo_rows.specs.declared.fall.StepFault.{StepFault}
 use Rattle.file_check.specs.Clashes.{owning}
 use Rattle.unpack_steps.specs.FileMoves.{IsPathOf}
 use Rattle.unpack_steps.proofs.Answering.{looking_moments, row_written, step_fault, stopped_by, where_none, where_some, writing_moments}
+use Rattle.unpack_steps.proofs.Declining.{looked_only}
 use Rattle.unpack_steps.proofs.Rearranged.{path_rearranged, places_same}
 use Rattle.unpack_steps.proofs.file_moves.check_and_write.Goals as goal
 
@@ -176,3 +177,8 @@ returns-clause-denied g c =
     let same = c.in_ok-found.ensures.looks.counts in
     let told = subst (λ (o : Option Path). IfSome o (λ path. denials (g.H.Host.state c.check_works.new.host) < denials (g.H.Host.state c.write_checked.new.host))) c.in-Some-2.is c.in_ok-path.ensures.denied in
     omega (arith, same.denials, told)
+
+pub returns-in_err-found-clause-twice : goal.returns-in_err-found-clause-twice
+returns-in_err-found-clause-twice g c =
+    looked_only (list_path (own_name c.args.rows.now.found c.args.rows.now.incoming)) (list_file c.args.rows.now.union) c.from_residual.result (g.H.Host.state c.args.host.now) (g.H.Host.state c.check_works.new.host)
+    c.check_works.ensures.looks.reads (search rules)

@@ -39,7 +39,7 @@ returns-clause-ok c =
     let goes : left ≡ after s (get_by_text h.files.nodes) = ap (λ (f : Files). get_by_text f.nodes) c.replace-files.ensures.after ∙ c.in_ok-perform.ensures.ok ∙ ap (after s) c.in_ok-files.ensures in (
       record {
         happened = subst (λ (t : State). Happens (Did s ∷ []) t (record { honest = true; world = left; events = map event_of events })) c.make_room.ensures.same.state (happens_so h events (Did s) told left goes);
-        disk = disk_behind s c.args.self.now _ c.requires.naming (disk_stays h events (Did s) told ∙ c.make_room.ensures.same.disk);
+        disk = disk_behind s c.args.self.now _ (naming_flushes s c.requires.naming) (disk_stays h events (Did s) told ∙ c.make_room.ensures.same.disk);
       },
       omega (arith, c.in_ok-make_room.ensures.ok.events, c.push_reserved-2.ensures.len, c.push_reserved-2.ensures.capacity),
     )

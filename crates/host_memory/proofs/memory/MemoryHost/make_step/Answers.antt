@@ -1,8 +1,9 @@
-use Rattle.std.proofs.Common.{Ok, Err, sym, subst, ◌∙◌}
+use Rattle.std.proofs.lemmas.Result.{err_from_is_err_and}
+use Rattle.std.proofs.Common.{Ok, Err, refl, sym, subst, ◌∙◌}
 use Rattle.host_core.specs.Paths.{Path}
 use Rattle.host_memory.specs.Histories.{Goes, Steps, Breaks}
 use Rattle.host_memory.specs.declared.history.History.{History}
-use Rattle.host_core.specs.declared.fault.HostFault.TheVariants.{Device, Declined}
+use Rattle.host_core.specs.declared.fault.HostFault.TheVariants.{Device, NoMemory, Declined}
 use Rattle.host_core.specs.Events.{Denied}
 use Rattle.host_memory.specs.Doings.{part_left, place_of, step_of}
 use Rattle.host_memory.proofs.Since.{goes_from}
@@ -27,3 +28,9 @@ returns-in_ok-make_room_for_fault-in-Declined c =
       subst (λ (h : History). Goes (Denied (place_of (step_of c.args.step))) c.args.self.now.history h) (sym c.pass_step-in-Declined.ensures.history) there,
       record { planned = c.pass_step-in-Declined.ensures.passed.planned; faults = c.pass_step-in-Declined.ensures.passed.faults; denials = c.pass_step-in-Declined.ensures.passed.denials },
     ) c.pass_step-in-Declined.ensures.passed.planned
+
+pub returns-in_err-make_room_for_fault-in-Declined : goal.returns-in_err-make_room_for_fault-in-Declined
+returns-in_err-make_room_for_fault-in-Declined c =
+    let back = c.from_residual-in_err-make_room_for_fault-in-Declined in
+    let p = err_from_is_err_and back.result back.ensures.1 in
+    rw (p.1, p.2) (makes_step {T = Unit {0}} (Err NoMemory) (step_of c.args.step) c.args.self.now _ record { same = c.in_err-make_room_for_fault-in-Declined.ensures.same; plans = record { planned = refl; faults = refl; denials = refl } } refl)

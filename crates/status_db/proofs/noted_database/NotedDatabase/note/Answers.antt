@@ -1,6 +1,10 @@
 use Rattle.status_db.specs.Noting.{entered_in}
 use Rattle.status_db.proofs.NotedWorlds.{noting_not}
+use Rattle.status_db.proofs.RecordTurns.{goes_here}
 use Rattle.status_db.proofs.noted_database.NotedDatabase.note.Goals as goal
 
 pub returns-then-self-clause-any_moment : goal.returns-then-self-clause-any_moment
 returns-then-self-clause-any_moment g c = noting_not c.args.self.now.records (entered_in c.args.entry c.args.self.now.records) c.args.self.now.notes _ c.requires.kept
+
+pub returns-then-self-clause-turns : goal.returns-then-self-clause-turns
+returns-then-self-clause-turns g c = goes_here _

@@ -1,0 +1,4 @@
+pub mod ByDirectory
+pub mod Answered
+pub mod Settled
+pub mod TakingTurns

@@ -1,0 +1,2 @@
+pub mod Scattered
+pub mod Turns
