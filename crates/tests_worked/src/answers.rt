@@ -64,8 +64,25 @@ fn is_cut_short(text: &str, calls: &str) -> bool {
     false
 }
 
+// Told where the notes of a command that has made all its calls aren't merged into the status file for want of memory.
+const NOTES_LEFT: &str = "|notes left: /var/lib/dpkg/updates: memory\n|2\n";
+
+// Whether the notes are left behind all calls, or behind a unit that was itself broken off for want of memory.
+fn is_left_in_notes(text: &str, calls: &str) -> bool {
+    let Some(told) = text.strip_suffix(NOTES_LEFT) else {
+        return false;
+    };
+    match told.strip_suffix("broken memory\n") {
+        Some(made) => calls.starts_with(made) && (made.is_empty() || made.ends_with("\n")),
+        None => told.starts_with(calls),
+    }
+}
+
 fn is_want(text: &str, calls: &str) -> bool {
-    is_cut_short(text, calls) || is_unread_tree(text) || is_broken_off(text, calls)
+    is_cut_short(text, calls)
+        || is_unread_tree(text)
+        || is_broken_off(text, calls)
+        || is_left_in_notes(text, calls)
 }
 
 // Whether an allocation of this run is refused, as scripts/refused_memory does: only then may a want of memory stand in
