@@ -6,7 +6,7 @@ use Rattle.host_core.specs.declared.node.Kind.{Kind}
 use Rattle.host_core.specs.declared.node.Node.{Node}
 use Rattle.host_core.specs.declared.node.Node.TheVariants.{File, Dir, Link}
 use Rattle.package_files.specs.declared.work.Work.{Work}
-use Rattle.package_files.specs.Files.{cleared, HasWritten, IsWhole, before}
+use Rattle.package_files.specs.Files.{cleared, saved, HasWritten, IsWhole, before}
 use Rattle.package_files.specs.Free.{IsFreeIn, IsSeen}
 use Rattle.package_files.specs.Laid.{is_exchanged, IsLaid, IsPreparedAs, HasPrepared, IsUnderWay}
 use Rattle.package_files.proofs.WorkLists.{Agree, old_agree, new_agree}
@@ -80,7 +80,7 @@ module _ (old now : World) (x : Work) where
 -- worlds that agree at its names
 
 as_old : (b : Bool) (old was new : World) (x : Work) → Agree old was x → IsPreparedAs b old new x → IsPreparedAs b was new x
-as_old true old was new x same laid = record { target = laid.target ∙ same.target; backup = laid.backup ∙ ap cleared same.backup; fresh = laid.fresh }
+as_old true old was new x same laid = record { target = laid.target ∙ same.target; backup = laid.backup ∙ (λ i. saved true (same.target i) (same.backup i)); fresh = laid.fresh }
 as_old false old was new x same has = old_agree old was new x same has
 
 as_new : (b : Bool) (old new later : World) (x : Work) → Agree later new x → IsPreparedAs b old new x → IsPreparedAs b old later x

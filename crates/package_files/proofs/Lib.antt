@@ -9,6 +9,7 @@ pub mod BackOne
 pub mod BackLists
 pub mod Tried
 pub mod Undoing
+pub mod Copying
 pub mod Taking
 pub mod PartWay
 pub mod TakingBack

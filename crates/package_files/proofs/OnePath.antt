@@ -14,10 +14,10 @@ use Rattle.package_files.specs.Free.{IsFree, IsFreeIn, IsSeen}
 use Rattle.package_files.specs.Laid.{is_exchanged, IsPreparedAs, Prepared}
 use Rattle.package_files.specs.Names.{IsNamed}
 use Rattle.package_files.specs.Apart.{IsApart}
-use Rattle.package_files.specs.Steps.{IsCleared, AreCleared, KeepsBesideSpares, IsReady}
-use Rattle.package_files.proofs.Laid.{exchanged_free, left_there, laid_prepared, written_prepared}
+use Rattle.package_files.specs.Steps.{IsCleared, AreCleared, KeepsBesideSpares, IsReady, IsSaved, HasBegun}
+use Rattle.package_files.proofs.Laid.{exchanged_there, exchanged_free, left_there, laid_prepared, written_prepared}
 use Rattle.package_files.proofs.WorkNames.{named_apart, home_stays}
-use Rattle.package_files.proofs.Written.{kind_file, kind_directory, keeps_directory, keeps_link, makes_over_file, makes_at_none, cleared_again, saved_cleared, free_cleared, saved_some, shown_directory, whole_from}
+use Rattle.package_files.proofs.Written.{kind_file, kind_directory, keeps_directory, keeps_link, makes_over_file, makes_at_none, cleared_again, cleared_saved, saved_cleared, free_cleared, saved_some, shown_directory, whole_from}
 
 other : {p q : Path} → p ≢ q → q ≢ p
 other ne e = ne (sym e)
@@ -77,7 +77,7 @@ module _ (x : Work) (w v : World) (named : IsNamed x) where
     then_as : (b : Bool) (u : World) → IsPreparedAs b v u x → IsPreparedAs b w u x
     then_as true u laid = record {
       target = laid.target ∙ cleared_target;
-      backup = laid.backup ∙ ap cleared clear.backup ∙ cleared_again (w x.backup);
+      backup = laid.backup ∙ saved_then true;
       fresh = laid.fresh;
     }
     then_as false u has = record {
@@ -100,9 +100,6 @@ module _ (x : Work) (w v : World) (named : IsNamed x) where
 
   pub amid_spares : KeepsBesideSpares x w v → IsAmid (x ∷ []) w w v
   amid_spares keeps = amid_before x w v (keeps x.target (other apart.backup) (other apart.fresh)) (λ q misses. keeps q misses.backup misses.fresh)
-
-  pub amid_fresh : KeepsBeside x.fresh w v → IsAmid (x ∷ []) w w v
-  amid_fresh keeps = amid_spares (keeps_first x w v keeps)
 
 -- nothing is written
 pub left_written : (x : Work) (w : World) → is_written x.node (w x.target) ≡ false → IsReady x w → Written (x ∷ []) w w
@@ -131,20 +128,49 @@ module _ (x : Work) (w : World) (named : IsNamed x) (is : is_exchanged x.node x.
   pub fresh_absent : w x.fresh ≡ None
   fresh_absent = sym ready.fresh ∙ (exchanged_free w x seen is ready.free).1
 
-  pub laid_here : (v : World) → IsAside x.fresh x.node w v → Prepared (x ∷ []) w v
-  laid_here v aside =
-      let names = named_apart x named in
-      record {
-        each = (
-          laid_prepared w v x is record {
-            target = aside.rest x.target (other names.fresh);
-            backup = aside.rest x.backup (other names.spare) ∙ sym ready.backup;
-            fresh = aside.target;
-          },
-          tt,
-        );
-        rest = λ q misses. aside.rest q misses.0.fresh;
-      }
+  pub spare_absent : w x.backup ≡ None
+  spare_absent = sym ready.backup ∙ (exchanged_free w x seen is ready.free).0
+
+  pub not_over : is_directory (w x.target) ≡ false
+  not_over = (exchanged_there w x seen is).1
+
+  -- where nothing is to be saved
+  pub none_saved : w x.target ≡ None → IsSaved x w w
+  none_saved none = record { backup = sym ready.backup ∙ ap (λ o. saved true o (w x.backup)) (sym none); rest = λ q ne. refl }
+
+  -- what stands at the target is saved
+  module _ (v : World) (save : IsSaved x w v) where
+    names : IsApart x
+    names = named_apart x named
+
+    pub saved_absent : v x.fresh ≡ None
+    saved_absent = save.rest x.fresh names.spare ∙ fresh_absent
+
+    pub saved_home : HasParent v x.place
+    saved_home = home_stays x w v named (λ q misses. save.rest q misses.backup) ready.parent
+
+    pub saved_begun : (u : World) → u ≡ v → HasBegun x w u
+    saved_begun u same = subst (HasBegun x w) (sym same) record {
+      backup = ap cleared save.backup ∙ cleared_saved (w x.target) (w x.backup) not_over (ap cleared spare_absent) ∙ sym (ap cleared spare_absent);
+      fresh = ap cleared (save.rest x.fresh names.spare);
+      rest = λ q ne_b ne_f. save.rest q ne_b;
+    }
+
+    pub laid_here : (u : World) → IsAside x.fresh x.node v u → Prepared (x ∷ []) w u
+    laid_here u aside = record {
+      each = (
+        laid_prepared w u x is record {
+          target = aside.rest x.target (other names.fresh) ∙ save.rest x.target (other names.backup);
+          backup = aside.rest x.backup (other names.spare) ∙ save.backup;
+          fresh = aside.target;
+        },
+        tt,
+      );
+      rest = λ q misses. aside.rest q misses.0.fresh ∙ save.rest q misses.0.backup;
+    }
+
+    pub amid_laying : (c : World) → KeepsBeside x.fresh v c → IsAmid (x ∷ []) w w c
+    amid_laying c keeps = amid_spares x w c named (λ q ne_b ne_f. keeps q ne_f ∙ save.rest q ne_b)
 
 -- a directory is made, once its place is free
 

@@ -12,7 +12,7 @@ use Rattle.package_files.specs.Names.{IsNamed, AllInOrder}
 use Rattle.package_files.specs.Apart.{Differ}
 use Rattle.package_files.proofs.WorkNames.{named_apart, IsNotBelow}
 use Rattle.package_files.proofs.WorkLists.{each_map, each_of, each_front, each_later, each_join, differ_back, Agree, new_agree, agree_by}
-use Rattle.package_files.proofs.Written.{writes_loose, saved_cleared, written_whole, whole_new}
+use Rattle.package_files.proofs.Written.{writes_loose, written_whole, whole_new}
 use Rattle.package_files.proofs.Laid.{exchanged_there, exchanged_free, prepared_laid, prepared_written, prepared_new, prepared_whole}
 use Rattle.package_files.proofs.WriteLists.{earlier, later}
 use Rattle.package_files.proofs.Undoing.{undone_from, undoing_from}
@@ -30,7 +30,6 @@ module _ (x : Work) (was v : World) (named : IsNamed x) (free : IsFreeIn was x) 
           loose = nodes.0;
           seen = seen ∙ ap kind_of (sym laid.target);
           over = ap is_directory laid.target ∙ nodes.1;
-          spare = laid.backup ∙ (exchanged_free was x seen is free).0;
           fresh = laid.fresh;
         }
     by false is = tt
@@ -39,10 +38,11 @@ module _ (x : Work) (was v : World) (named : IsNamed x) (free : IsFreeIn was x) 
   taken_written is u taken =
       let laid = prepared_laid was v x is has in
       let nodes = exchanged_there was x seen is in
+      let names = named_apart x named in
       let wrote : is_written x.node (was x.target) ≡ true = writes_loose x.node (was x.target) nodes.0 nodes.1 in
       record {
         target = taken.target ∙ ap (λ a. shown a x.node (was x.target)) (sym wrote);
-        backup = taken.backup ∙ (λ i. saved true (laid.target i) (laid.backup i)) ∙ saved_cleared true (was x.target) (was x.backup) ∙ ap (λ a. saved a (was x.target) (was x.backup)) (sym wrote);
+        backup = taken.rest x.backup names.backup (λ e. names.spare (sym e)) ∙ laid.backup ∙ ap (λ a. saved a (was x.target) (was x.backup)) (sym wrote);
         fresh = taken.fresh ∙ sym (exchanged_free was x seen is free).1;
       }
 
@@ -56,21 +56,21 @@ module _ (x : Work) (was v : World) (named : IsNamed x) (free : IsFreeIn was x) 
   pub committing_whole : (c : World) → IsCommitting x v c → IsWhole was c x
   committing_whole c committing = by (is_exchanged x.node x.had) refl committing where
     by : (b : Bool) → is_exchanged x.node x.had ≡ b → IsTaking b x v c → IsWhole was c x
-    by true is (inl keeps) = before (keeps x.target (λ e. (named_apart x named).backup (sym e)) ∙ (prepared_laid was v x is has).target)
+    by true is (inl same) = subst (λ w. IsWhole was w x) (sym same) (prepared_whole was v x has)
     by true is (inr taken) = written_whole was c x (taken_written is c taken)
     by false is same = subst (λ w. IsWhole was w x) (sym same) (prepared_whole was v x has)
 
 pub commits_rest : (x : Work) (v u : World) → Commits x v u → (q : Path) → Misses x q → u q ≡ v q
 commits_rest x v u commits = by (is_exchanged x.node x.had) commits where
   by : (b : Bool) → Takes b x v u → (q : Path) → Misses x q → u q ≡ v q
-  by true taken q misses = taken.rest q misses
+  by true taken q misses = taken.rest q misses.target misses.fresh
   by false same q misses = ap (λ w. w q) same
 
 committing_rest : (x : Work) (v c : World) → IsCommitting x v c → (q : Path) → Misses x q → c q ≡ v q
 committing_rest x v c committing = by (is_exchanged x.node x.had) committing where
   by : (b : Bool) → IsTaking b x v c → (q : Path) → Misses x q → c q ≡ v q
-  by true (inl keeps) q misses = keeps q misses.backup
-  by true (inr taken) q misses = taken.rest q misses
+  by true (inl same) q misses = ap (λ w. w q) same
+  by true (inr taken) q misses = taken.rest q misses.target misses.fresh
   by false same q misses = ap (λ w. w q) same
 
 -- what was to take a place, and where nothing is to be done

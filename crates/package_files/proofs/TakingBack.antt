@@ -3,22 +3,22 @@ use Rattle.std.proofs.Common.{◌≡◌, Bool, true, false, List, [], ◌∷◌,
 use Rattle.std.specs.Prelude.{IsSome}
 use Rattle.std.proofs.lemmas.Bool.{true≢false}
 use Rattle.host_core.specs.Paths.{Path}
-use Rattle.host_core.specs.World.{World, put, IsDirectory, IsLoose, is_directory}
+use Rattle.host_core.specs.World.{World, IsDirectory, IsLoose, is_directory}
 use Rattle.host_core.proofs.Nodes.{none_stands}
-use Rattle.host_core.proofs.WorldLaws.{put_same, put_other}
 use Rattle.host_core.specs.declared.node.Node.{Node}
 use Rattle.host_core.specs.declared.node.Node.TheVariants.{File, Dir, Link}
 use Rattle.package_files.specs.declared.work.Work.{Work}
-use Rattle.package_files.specs.Files.{cleared, HasWritten, PutBack, IsAmid}
+use Rattle.package_files.specs.Files.{cleared, HasWritten, PutBack, before, IsAmid}
 use Rattle.package_files.specs.Free.{IsWrittenFrom}
 use Rattle.package_files.specs.Back.{CanGoBack, GoesBack, IsGoingBack}
 use Rattle.package_files.specs.Laid.{is_exchanged, IsLaid, HasPrepared, IsPreparedAs, IsUnderWay, IsUnderWayFrom, CanUndo, Undoes, IsUndoing}
 use Rattle.package_files.specs.Names.{IsNamed}
+use Rattle.package_files.specs.Apart.{IsApart}
+use Rattle.package_files.specs.Steps.{AreCleared, KeepsBesideSpares}
 use Rattle.package_files.proofs.WorkNames.{named_apart}
 use Rattle.package_files.proofs.WorkLists.{each_of}
-use Rattle.package_files.proofs.Written.{loose_at}
-use Rattle.package_files.proofs.Laid.{directory_stands_out, exchanged_free, prepared_written, under_way_whole}
-use Rattle.package_files.proofs.BackOne.{back_amid}
+use Rattle.package_files.proofs.Written.{loose_at, cleared_loose, cleared_saved}
+use Rattle.package_files.proofs.Laid.{directory_stands_out, exchanged_there, exchanged_free, prepared_written, under_way_whole}
 
 other : {p q : Path} → (p ≡ q → ⊥) → q ≡ p → ⊥
 other ne e = ne (sym e)
@@ -68,21 +68,35 @@ module _ (x : Work) (was v : World) (from : IsUnderWayFrom (x ∷ []) was v) whe
       by (inl has) = never has
       by (inr has) = here (is_exchanged x.node x.had) refl has
 
-    -- it goes
-    pub laid_back : IsNamed x → IsLoose (v x.fresh) → PutBack (x ∷ []) was v (put v x.fresh None)
-    laid_back named there =
-        let a = named_apart x named in
-        let at = there_laid there in
-        record {
-          each = (
-            record {
-              is = inl record { target = put_other v x.fresh x.target None (other a.fresh) ∙ at.1.target; backup = put_other v x.fresh x.backup None (other a.spare) ∙ at.1.backup };
-              fresh = put_same v x.fresh x.fresh None refl ∙ sym (exchanged_free was x from.seen.0 at.0 from.free.0).1;
-            },
-            tt,
-          );
-          rest = λ q misses. put_other v x.fresh q None misses.0.fresh;
-        }
+    -- both go
+    module _ (named : IsNamed x) (there : IsLoose (v x.fresh)) where
+      names : IsApart x
+      names = named_apart x named
+
+      pub laid_back : (u : World) → AreCleared x v u → PutBack (x ∷ []) was v u
+      laid_back u clear =
+          let at = there_laid there in
+          let nodes = exchanged_there was x from.seen.0 at.0 in
+          let free = exchanged_free was x from.seen.0 at.0 from.free.0 in
+          record {
+            each = (
+              record {
+                is = inl record {
+                  target = clear.rest x.target (other names.backup) (other names.fresh) ∙ at.1.target;
+                  backup = clear.backup ∙ ap cleared at.1.backup ∙ cleared_saved (was x.target) (was x.backup) nodes.1 free.0 ∙ sym free.0;
+                };
+                fresh = clear.fresh ∙ ap cleared at.1.fresh ∙ cleared_loose x.node loose ∙ sym free.1;
+              },
+              tt,
+            );
+            rest = λ q misses. clear.rest q misses.0.backup misses.0.fresh;
+          }
+
+      pub laid_going : (c : World) → KeepsBesideSpares x v c → IsAmid (x ∷ []) was v c
+      laid_going c keeps = record {
+        each = (before (keeps x.target (other names.backup) (other names.fresh) ∙ (there_laid there).1.target), tt);
+        rest = λ q misses. keeps q misses.0.backup misses.0.fresh;
+      }
 
   pub under_way_amid : IsAmid (x ∷ []) was v v
   under_way_amid = record { each = (under_way_whole was v x from.has.0, tt); rest = λ q misses. refl }
@@ -104,11 +118,11 @@ module _ (x : Work) (v : World) where
     undoing_by w going was from = going was (so was from)
 
   module _ (named : IsNamed x) (loose : is_directory (Some x.node) ≡ false) (there : IsLoose (v x.fresh)) where
-    pub undoes_laid : Undoes (x ∷ []) v (put v x.fresh None)
-    undoes_laid was from = laid_back x was v from loose named there
+    pub undoes_laid : (u : World) → AreCleared x v u → Undoes (x ∷ []) v u
+    undoes_laid u clear was from = laid_back x was v from loose named there u clear
 
-    pub undoing_laid : IsUndoing (x ∷ []) v (put v x.fresh None)
-    undoing_laid was from = back_amid x was v (put v x.fresh None) (undoes_laid was from)
+    pub undoing_laid : (c : World) → KeepsBesideSpares x v c → IsUndoing (x ∷ []) v c
+    undoing_laid c keeps was from = laid_going x was v from loose named there c keeps
 
 pub no_loose_none : (o : Option Node) → o ≡ None → IsLoose o → ⊥
 no_loose_none o is loose = none_stands o is loose.0

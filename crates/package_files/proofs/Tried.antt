@@ -51,9 +51,6 @@ begun_same x old new same = record {
   rest = λ q ne_b ne_f. ap (λ w. w q) same;
 }
 
-pub tried_same : (x : Work) (old new : World) → new ≡ old → HasTried x old new
-tried_same x old new same = inl (begun_same x old new same)
-
 pub begun_then : (x : Work) (old mid new : World) → HasBegun x old mid → HasBegun x mid new → HasBegun x old new
 begun_then x old mid new first second = record {
   backup = second.backup ∙ first.backup;

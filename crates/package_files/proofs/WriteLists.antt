@@ -67,13 +67,13 @@ written_keeps x w v q has free dir = elim (decide q x.target) [
   ]
 ]
 
-laid_keeps : (x : Work) (w v : World) (q : Path) → IsLaid w v x → cleared (w x.fresh) ≡ None → IsDirectory (w q) → (v q ≡ w q) ⊎ Misses x q
+laid_keeps : (x : Work) (w v : World) (q : Path) → IsLaid w v x → (cleared (w x.backup) ≡ None) × (cleared (w x.fresh) ≡ None) → IsDirectory (w q) → (v q ≡ w q) ⊎ Misses x q
 laid_keeps x w v q has free dir = elim (decide q x.target) [
   | inl e ↦ inl (ap v e ∙ has.target ∙ ap w (sym e))
   | inr ne_t ↦ elim (decide q x.backup) [
-    | inl e ↦ inl (ap v e ∙ has.backup ∙ cleared_keeps (w x.backup) (subst (λ p. IsDirectory (w p)) e dir) ∙ ap w (sym e))
+    | inl e ↦ absurd (no_dir (w x.backup) free.0 (subst (λ p. IsDirectory (w p)) e dir))
     | inr ne_b ↦ elim (decide q x.fresh) [
-      | inl e ↦ absurd (no_dir (w x.fresh) free (subst (λ p. IsDirectory (w p)) e dir))
+      | inl e ↦ absurd (no_dir (w x.fresh) free.1 (subst (λ p. IsDirectory (w p)) e dir))
       | inr ne_f ↦ inr record { target = ne_t; backup = ne_b; fresh = ne_f }
     ]
   ]
@@ -83,7 +83,7 @@ laid_keeps x w v q has free dir = elim (decide q x.target) [
 stays_at : (x : Work) (w v : World) (q : Path) → HasPrepared w v x → IsFreeIn w x → IsSeen w x → IsDirectory (w q) → (v q ≡ w q) ⊎ Misses x q
 stays_at x w v q has free seen dir = by (is_exchanged x.node x.had) refl where
   by : (b : Bool) → is_exchanged x.node x.had ≡ b → (v q ≡ w q) ⊎ Misses x q
-  by true is = laid_keeps x w v q (prepared_laid w v x is has) (exchanged_free w x seen is free).1 dir
+  by true is = laid_keeps x w v q (prepared_laid w v x is has) (exchanged_free w x seen is free) dir
   by false is = written_keeps x w v q (prepared_written w v x is has) free dir
 
 stays_in : (xs : List Work) (w v : World) (q : Path) → Each (HasPrepared w v) xs → Each (IsFreeIn w) xs → Each (IsSeen w) xs → IsDirectory (w q) → (v q ≡ w q) ⊎ Each (λ x. Misses x q) xs

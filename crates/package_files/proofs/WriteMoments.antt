@@ -1,8 +1,7 @@
 -- What holds at each moment of the parts of a file step.
 use Rattle.std.proofs.Common.{◌≡◌, ◌≢◌, Option, Some, None, IsTrue, Result, Ok, Err, OnOk, refl, sym, ap, subst, ◌∙◌}
-use Rattle.std.specs.Prelude.{IsSome}
 use Rattle.host_core.specs.Paths.{Path}
-use Rattle.host_core.specs.World.{World, put, moved, Step, Write, Move, Take, MakeDir, RemoveDir, HardLink, MakeLink, SyncAll, after, IsPart}
+use Rattle.host_core.specs.World.{World, put, moved, Step, Write, Move, Take, MakeDir, RemoveDir, HardLink, MakeLink, Sync, SyncAll, after, IsPart}
 use Rattle.host_core.specs.Host.{State, Reads, Does, Since}
 use Rattle.host_core.proofs.WorldLaws.{put_same, put_other}
 use Rattle.host_core.proofs.Moments.{since_does, since_reads}
@@ -11,9 +10,6 @@ use Rattle.host_core.specs.declared.node.Access.{Access}
 use Rattle.host_core.specs.declared.node.Node.{Node}
 use Rattle.host_core.specs.declared.node.Node.TheVariants.{File, Dir, Link}
 use Rattle.administration.specs.Files.{KeepsBeside, IsAside}
-use Rattle.package_files.specs.declared.work.Work.{Work}
-use Rattle.package_files.specs.Steps.{IsSaved}
-use Rattle.package_files.proofs.Written.{saved_some}
 
 pub on_ok : {T E : Type 0} (result : Result T E) (P Q : Type 0) → (P → Q) → OnOk result P → OnOk result Q
 on_ok (Ok x) P Q so is = so is
@@ -59,6 +55,10 @@ module _ {T : Type 0} (result : Result T HostFault) (P : World → Type 0) (a b 
   since_make_dir p access first second does = since_does P result (MakeDir p access) a b does
       (λ h. record { before = first h; inside = λ t part. subst (λ s. P (after s a.world)) (sym part.1) (second h part.0); behind = second h access })
 
+-- a file goes to the disk
+pub since_brought : {T : Type 0} (result : Result T HostFault) (P : World → Type 0) (a b : State) (p : Path) → (IsTrue b.honest → P a.world) → Does (Sync p) a b result → Since (λ so_far. P) a b
+since_brought result P a b p here does = since_does P result (Sync p) a b does (λ h. record { before = here h; inside = λ t part. absurd part; behind = here h })
+
 -- all files go to the disk
 pub since_synced : {T : Type 0} (result : Result T HostFault) (P : World → Type 0) (a b : State) → P a.world → Does SyncAll a b result → Since (λ so_far. P) a b
 since_synced result P a b here does = since_does P result SyncAll a b does (λ h. record { before = here; inside = λ t part. absurd part; behind = here })
@@ -72,13 +72,6 @@ moved_by (Err e) from to a b P there does = tt
 pub made_by : {T : Type 0} (result : Result T HostFault) (p : Path) (access : Access) (a b : State) (P : World → Type 0) → P (put a.world p (Some (Dir access))) → Does (MakeDir p access) a b result → OnOk result (P b.world)
 made_by (Ok x) p access a b P there does = subst P (sym does.world) there
 made_by (Err e) p access a b P there does = tt
-
-pub saved_by : {T : Type 0} (result : Result T HostFault) (x : Work) (a b : State) → IsSome (a.world x.target) → Does (HardLink x.target x.backup) a b result → OnOk result (IsSaved x a.world b.world)
-saved_by (Ok r) x a b some does = record {
-  backup = ap (λ w. w x.backup) does.world ∙ put_same a.world x.backup x.backup (a.world x.target) refl ∙ sym (saved_some (a.world x.target) (a.world x.backup) some);
-  rest = λ q ne. ap (λ w. w q) does.world ∙ put_other a.world x.backup q (a.world x.target) ne;
-}
-saved_by (Err e) x a b some does = tt
 
 -- what is at a path goes
 

@@ -81,6 +81,16 @@ cleared_again (Some (File b m)) = refl
 cleared_again (Some (Dir m)) = refl
 cleared_again (Some (Link t)) = refl
 
+pub cleared_loose : (n : Node) → is_directory (Some n) ≡ false → cleared (Some n) ≡ None
+cleared_loose (File b m) plain = refl
+cleared_loose (Dir m) plain = absurd (true≢false plain)
+cleared_loose (Link t) plain = refl
+
+-- a file or link that is saved can be cleared
+pub cleared_saved : (t b : Option Node) → is_directory t ≡ false → cleared b ≡ None → cleared (saved true t b) ≡ None
+cleared_saved None b plain none = cleared_again b ∙ none
+cleared_saved (Some n) b plain none = cleared_loose n plain
+
 pub saved_cleared : (a : Bool) (had b : Option Node) → saved a had (cleared b) ≡ saved a had b
 saved_cleared true (Some n) b = refl
 saved_cleared true None b = cleared_again b

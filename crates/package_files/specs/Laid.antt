@@ -1,5 +1,5 @@
 -- New files at their temporary names, before they take the places of what stands at their targets.
-use Rattle.std.specs.Prelude.{◌≡◌, ◌⊎◌, Bool, true, false, List, [], ◌∷◌, Option, Some, None}
+use Rattle.std.specs.Prelude.{◌≡◌, ◌≢◌, ◌⊎◌, Bool, true, false, List, [], ◌∷◌, Option, Some, None}
 use Rattle.host_core.specs.Paths.{Path}
 use Rattle.host_core.specs.World.{World, is_directory}
 use Rattle.host_core.specs.Events.{Event}
@@ -8,9 +8,8 @@ use Rattle.host_core.specs.declared.node.Kind.{Kind}
 use Rattle.host_core.specs.declared.node.Kind.TheVariants as kind
 use Rattle.host_core.specs.declared.node.Node.{Node}
 use Rattle.host_core.specs.declared.node.Node.TheVariants.{File, Dir, Link}
-use Rattle.administration.specs.Files.{KeepsBeside}
 use Rattle.package_files.specs.declared.work.Work.{Work}
-use Rattle.package_files.specs.Files.{Each, Misses, HasWritten, Written, PutBack, Undone, IsAmid, cleared, saved}
+use Rattle.package_files.specs.Files.{Each, Misses, HasWritten, Written, PutBack, Undone, IsAmid, saved}
 use Rattle.package_files.specs.Free.{IsFreeIn, IsSeen}
 
 -- whether a file or link takes the place of what was seen: of all but a directory
@@ -26,10 +25,10 @@ is_exchanged (File b m) had = is_replaced had
 is_exchanged (Dir m) had = false
 is_exchanged (Link t) had = is_replaced had
 
--- the new node stands at the temporary name, and the target is as it was
+-- the new node stands at the temporary name, what stands at the target at the backup too, and the target is as it was
 pub record IsLaid (old now : World) (x : Work) : Type 0 where
   pub target : now x.target ≡ old x.target
-  pub backup : now x.backup ≡ cleared (old x.backup)
+  pub backup : now x.backup ≡ saved true (old x.target) (old x.backup)
   pub fresh : now x.fresh ≡ Some x.node
 
 abbrev pub IsPreparedAs : Bool → World → World → Work → Type 0
@@ -71,15 +70,13 @@ pub record CanTakePlace (x : Work) (w : World) : Type 0 where
   pub loose : is_directory (Some x.node) ≡ false
   pub seen : IsSeen w x
   pub over : is_directory (w x.target) ≡ false
-  pub spare : w x.backup ≡ None
   pub fresh : w x.fresh ≡ Some x.node
 
--- it has taken its place, and what stood there has the backup's name
+-- it has taken its place, and all else is as before
 pub record HasTakenPlace (x : Work) (old new : World) : Type 0 where
   pub target : new x.target ≡ Some x.node
-  pub backup : new x.backup ≡ saved true (old x.target) (old x.backup)
   pub fresh : new x.fresh ≡ None
-  pub rest : (q : Path) → Misses x q → new q ≡ old q
+  pub rest : (q : Path) → q ≢ x.target → q ≢ x.fresh → new q ≡ old q
 
 abbrev pub CanTake : Bool → Work → World → Type 0
 CanTake true x w = CanTakePlace x w
@@ -97,9 +94,9 @@ Takes false x old new = new ≡ old
 abbrev pub Commits : Work → World → World → Type 0
 Commits x old new = Takes (is_exchanged x.node x.had) x old new
 
--- at any moment all but the backup is as before, or the new node has taken its place
+-- at any moment all is as before, or the new node has taken its place
 abbrev pub IsTakingPlace : Work → World → World → Type 0
-IsTakingPlace x old now = KeepsBeside x.backup old now ⊎ HasTakenPlace x old now
+IsTakingPlace x old now = (now ≡ old) ⊎ HasTakenPlace x old now
 
 abbrev pub IsTaking : Bool → Work → World → World → Type 0
 IsTaking true x old now = IsTakingPlace x old now

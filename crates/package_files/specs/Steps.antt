@@ -35,7 +35,7 @@ pub record IsReady (x : Work) (w : World) : Type 0 where
   pub fresh : cleared (w x.fresh) ≡ w x.fresh
   pub parent : HasParent w x.place
 
--- what stands at the target has the backup's name too
+-- what stands at the target stands at the backup too
 pub record IsSaved (x : Work) (old new : World) : Type 0 where
   pub backup : new x.backup ≡ saved true (old x.target) (old x.backup)
   pub rest : KeepsBeside x.backup old new
@@ -56,11 +56,6 @@ pub record HasBegun (x : Work) (old new : World) : Type 0 where
   pub backup : cleared (new x.backup) ≡ cleared (old x.backup)
   pub fresh : cleared (new x.fresh) ≡ cleared (old x.fresh)
   pub rest : KeepsBesideSpares x old new
-
--- a file or link may have got the backup's name, or have lost it, and all else is as before
-pub record HasSpared (x : Work) (old new : World) : Type 0 where
-  pub backup : cleared (new x.backup) ≡ cleared (old x.backup)
-  pub rest : KeepsBeside x.backup old new
 
 -- a directory was to take the place of a file, which has the backup's name alone
 pub record IsMadeRoom (x : Work) (old new : World) : Type 0 where

@@ -1,59 +1,17 @@
 // Files and links that stand at their temporary names take their places.
-ghost use Rattle.std.specs.Prelude.{◌≡◌, ◌<◌, false, None, IfOk, IfSome, IsTrue, OnOk, length};
-ghost use Rattle.host_core.specs.World.{HasParent, is_directory};
-ghost use Rattle.host_core.specs.Host.{AtEachMoment, Counts, Gives, Leaves, Needs, Silent, denials};
-ghost use Rattle.administration.specs.Files.{KeepsBeside};
+ghost use Rattle.std.specs.Prelude.{◌≡◌, ◌<◌, false, IfOk, IfSome, IsTrue, length};
+ghost use Rattle.host_core.specs.Host.{AtEachMoment, Counts, Gives, Needs, Silent, denials};
 ghost use Rattle.package_files.specs.Files.{Each};
-ghost use Rattle.package_files.specs.Free.{IsSeen};
 ghost use Rattle.package_files.specs.Laid.{AllSynced, AreCommitting, CanCommit, CanCommitAll, CanTakePlace, Commits, CommitsAll, HasTakenPlace, IsCommitting, IsSame, IsTakingPlace};
 ghost use Rattle.package_files.specs.Names.{AllInOrder, IsNamed};
-ghost use Rattle.package_files.specs.Steps.{DeclinesTwice, HasSpared, IsSaved, Tries};
+ghost use Rattle.package_files.specs.Steps.{DeclinesTwice};
 
-use crate::preparing::clear_name;
 use crate::putting_back::take_back;
 use crate::work::Work;
 use host_core::{Host, HostFault};
 
-/// Gives what stands at the target its second name.
-fn save_old<H: Host>(host: &mut H, work: &Work) -> Result<(), HostFault>
-    requires named { IsNamed work.now }
-    requires seen { Needs (H.state host.old) (λ w. IsSeen w work.now) }
-    requires over { Needs (H.state host.old) (λ w. is_directory (w work.now.target) ≡ false) }
-    requires spare { Needs (H.state host.old) (λ w. w work.now.backup ≡ None) }
-    requires parent { Needs (H.state host.old) (λ w. HasParent w work.now.place) }
-    ensures saved { Leaves result (IsSaved work.now) (H.state host.old) (H.state host.new) }
-    ensures synced { AllSynced (H.state host.old).events → OnOk result (AllSynced (H.state host.new).events) }
-    ensures tried { Tries result (λ old new. new ≡ old) (H.state host.old) (H.state host.new) }
-    ensures any_moment { AtEachMoment (KeepsBeside work.now.backup) (H.state host.old)
-        (H.state host.new) }
-    ensures silent { Silent (H.state host.old) (H.state host.new) }
-    ensures counts { Counts (H.state host.old) (H.state host.new) result }
-{
-    match work.had {
-        None => Ok(()),
-        Some(_) => host.link(&work.target, &work.backup),
-    }
-}
-
-/// A file or link takes the place of a file, a link or nothing, which is never missing.
-fn take_place<H: Host>(host: &mut H, work: &Work) -> Result<(), HostFault>
-    requires named { IsNamed work.now }
-    requires synced { AllSynced (H.state host.old).events }
-    requires ready { Needs (H.state host.old) (CanTakePlace work.now) }
-    ensures taken { Leaves result (HasTakenPlace work.now) (H.state host.old) (H.state host.new) }
-    ensures synced { OnOk result (AllSynced (H.state host.new).events) }
-    ensures tried { Tries result (HasSpared work.now) (H.state host.old) (H.state host.new) }
-    ensures any_moment { AtEachMoment (IsTakingPlace work.now) (H.state host.old)
-        (H.state host.new) }
-    ensures silent { Silent (H.state host.old) (H.state host.new) }
-    ensures counts { Counts (H.state host.old) (H.state host.new) result }
-{
-    save_old(host, work)?;
-    host.rename(&work.fresh, &work.target)
-}
-
-/// The same, and whether it was done; where a step was declined the second name goes.
-fn take_or_leave<H: Host>(host: &mut H, work: &Work) -> Result<bool, HostFault>
+/// A file or link takes the place of a file, a link or nothing, which is never missing; tells whether it has.
+fn take_place<H: Host>(host: &mut H, work: &Work) -> Result<bool, HostFault>
     requires named { IsNamed work.now }
     requires synced { AllSynced (H.state host.old).events }
     requires ready { Needs (H.state host.old) (CanTakePlace work.now) }
@@ -70,12 +28,9 @@ fn take_or_leave<H: Host>(host: &mut H, work: &Work) -> Result<bool, HostFault>
     ensures silent { Silent (H.state host.old) (H.state host.new) }
     ensures counts { Counts (H.state host.old) (H.state host.new) result }
 {
-    match take_place(host, work) {
+    match host.rename(&work.fresh, &work.target) {
         Ok(()) => Ok(true),
-        Err(HostFault::Declined) => {
-            clear_name(host, &work.backup)?;
-            Ok(false)
-        }
+        Err(HostFault::Declined) => Ok(false),
         Err(HostFault::Device) => Err(HostFault::Device),
         Err(HostFault::NoMemory) => Err(HostFault::NoMemory),
     }
@@ -102,7 +57,7 @@ fn commit_one<H: Host>(host: &mut H, work: &Work) -> Result<bool, HostFault>
     if !work.is_exchanged() {
         return Ok(true);
     }
-    take_or_leave(host, work)
+    take_place(host, work)
 }
 
 /// Paths that were prepared take their places. Where a step is declined all are put back, and the answer is the place among

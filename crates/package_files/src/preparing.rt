@@ -1,48 +1,20 @@
 // Shipped paths are prepared: a directory is made, a file or link stands at its temporary name.
-ghost use Rattle.std.specs.Prelude.{◌≡◌, ◌∷◌, ◌<◌, [], false, None, Some, IfOk, IfSome, IsTrue, MatchOption, length};
-ghost use Rattle.host_core.specs.World.{World, HasParent, is_directory, kind_of};
+ghost use Rattle.std.specs.Prelude.{◌≡◌, ◌∷◌, ◌<◌, [], true, false, None, Some, IfOk, IfSome, IsTrue, MatchOption, length};
+ghost use Rattle.host_core.specs.World.{World, HasParent, IsFile, IsLoose, is_directory, kind_of};
 ghost use Rattle.host_core.specs.Host.{AtEachMoment, Counts, Gives, Leaves, Needs, Silent, denials};
 ghost use Rattle.host_core.specs.declared.node.Kind.TheVariants as kind;
 ghost use Rattle.host_core.specs.declared.node.Node.TheVariants.{Dir};
 ghost use Rattle.administration.specs.Files.{IsAside, KeepsBeside};
 ghost use Rattle.package_files.specs.Files.{Each, IsAmid, Undone, Written};
 ghost use Rattle.package_files.specs.Free.{IsFreeIn, IsSeen};
-ghost use Rattle.package_files.specs.Laid.{Prepared};
+ghost use Rattle.package_files.specs.Laid.{Prepared, is_exchanged};
 ghost use Rattle.package_files.specs.Names.{AllInOrder, IsHomed, IsNamed};
-ghost use Rattle.package_files.specs.Steps.{AreCleared, DeclinesTwice, HasBegun, HasTried, IsCleared, IsReady, KeepsBesideSpares, Tries, WasTried, WasTriedFrom};
+ghost use Rattle.package_files.specs.Steps.{AreCleared, DeclinesTwice, HasBegun, HasTried, IsReady, IsSaved, KeepsBesideSpares, Tries, WasTried, WasTriedFrom};
 
+use crate::clearing::clear_spares;
 use crate::putting_back::take_back;
 use crate::work::Work;
-use host_core::{Access, Host, HostFault, Kind, Node, RootPath};
-
-/// A file or link at a reserved name goes; a directory stays.
-pub(crate) fn clear_name<H: Host>(host: &mut H, path: &RootPath) -> Result<(), HostFault>
-    ensures cleared { Leaves result (IsCleared path.now) (H.state host.old) (H.state host.new) }
-    ensures tried { Tries result (λ old new. new ≡ old) (H.state host.old) (H.state host.new) }
-    ensures any_moment { AtEachMoment (KeepsBeside path.now) (H.state host.old) (H.state host.new) }
-    ensures silent { Silent (H.state host.old) (H.state host.new) }
-    ensures counts { Counts (H.state host.old) (H.state host.new) result }
-{
-    match host.kind(path)? {
-        None => Ok(()),
-        Some(Kind::Directory) => Ok(()),
-        Some(Kind::File) => host.remove(path),
-        Some(Kind::SymbolicLink) => host.remove(path),
-    }
-}
-
-fn clear_spares<H: Host>(host: &mut H, work: &Work) -> Result<(), HostFault>
-    requires named { IsNamed work.now }
-    ensures cleared { Leaves result (AreCleared work.now) (H.state host.old) (H.state host.new) }
-    ensures tried { Tries result (HasBegun work.now) (H.state host.old) (H.state host.new) }
-    ensures any_moment { AtEachMoment (KeepsBesideSpares work.now) (H.state host.old)
-        (H.state host.new) }
-    ensures silent { Silent (H.state host.old) (H.state host.new) }
-    ensures counts { Counts (H.state host.old) (H.state host.new) result }
-{
-    clear_name(host, &work.fresh)?;
-    clear_name(host, &work.backup)
-}
+use host_core::{Access, Host, HostFault, Kind, Node};
 
 /// Makes the file or link at its temporary name. Its bytes go to the disk with those of all others.
 fn lay<H: Host>(host: &mut H, work: &Work) -> Result<(), HostFault>
@@ -104,7 +76,75 @@ fn place_directory<H: Host>(host: &mut H, work: &Work, access: Access) -> Result
     }
 }
 
-/// A file or link that takes a place is made at its temporary name.
+/// A copy of the old file stands at the backup. It is written at the temporary name, so that no part of it ever stands there.
+fn copy_file<H: Host>(host: &mut H, work: &Work, node: &Node) -> Result<(), HostFault>
+    requires named { IsNamed work.now }
+    requires file { IsFile node.now }
+    requires spare { Needs (H.state host.old) (λ w. w work.now.backup ≡ None) }
+    requires absent { Needs (H.state host.old) (λ w. w work.now.fresh ≡ None) }
+    requires parent { Needs (H.state host.old) (λ w. HasParent w work.now.place) }
+    ensures copied { Leaves result (IsAside work.now.backup node.now) (H.state host.old)
+        (H.state host.new) }
+    ensures tried { Tries result (HasBegun work.now) (H.state host.old) (H.state host.new) }
+    ensures any_moment { AtEachMoment (KeepsBesideSpares work.now) (H.state host.old)
+        (H.state host.new) }
+    ensures silent { Silent (H.state host.old) (H.state host.new) }
+    ensures counts { Counts (H.state host.old) (H.state host.new) result }
+{
+    host.write_new(&work.fresh, node)?;
+    host.sync(&work.fresh)?;
+    host.rename(&work.fresh, &work.backup)
+}
+
+/// The old file or link gets its second name, or a copy stands there where the file system gives none.
+fn link_or_copy<H: Host>(host: &mut H, work: &Work) -> Result<(), HostFault>
+    requires named { IsNamed work.now }
+    requires there { Needs (H.state host.old) (λ w. IsLoose (w work.now.target)) }
+    requires spare { Needs (H.state host.old) (λ w. w work.now.backup ≡ None) }
+    requires absent { Needs (H.state host.old) (λ w. w work.now.fresh ≡ None) }
+    requires parent { Needs (H.state host.old) (λ w. HasParent w work.now.place) }
+    ensures saved { Leaves result (IsSaved work.now) (H.state host.old) (H.state host.new) }
+    ensures tried { Tries result (HasBegun work.now) (H.state host.old) (H.state host.new) }
+    ensures any_moment { AtEachMoment (KeepsBesideSpares work.now) (H.state host.old)
+        (H.state host.new) }
+    ensures silent { Silent (H.state host.old) (H.state host.new) }
+    ensures counts { Counts (H.state host.old) (H.state host.new) result }
+{
+    match host.link(&work.target, &work.backup) {
+        Ok(()) => Ok(()),
+        Err(HostFault::Declined) => match host.node(&work.target)? {
+            None => Err(HostFault::Declined),
+            Some(node) => match &node {
+                Node::File { .. } => copy_file(host, work, &node),
+                Node::Dir { .. } => Err(HostFault::Declined),
+                Node::Link { target } => host.make_link(&work.backup, target),
+            },
+        },
+        Err(HostFault::Device) => Err(HostFault::Device),
+        Err(HostFault::NoMemory) => Err(HostFault::NoMemory),
+    }
+}
+
+/// What stands at the target, if anything does, stands at the backup too.
+fn save_old<H: Host>(host: &mut H, work: &Work) -> Result<(), HostFault>
+    requires named { IsNamed work.now }
+    requires exchanged { is_exchanged work.now.node work.now.had ≡ true }
+    requires ready { Needs (H.state host.old) (IsReady work.now) }
+    requires seen { Needs (H.state host.old) (λ w. IsSeen w work.now) }
+    ensures saved { Leaves result (IsSaved work.now) (H.state host.old) (H.state host.new) }
+    ensures tried { Tries result (HasBegun work.now) (H.state host.old) (H.state host.new) }
+    ensures any_moment { AtEachMoment (KeepsBesideSpares work.now) (H.state host.old)
+        (H.state host.new) }
+    ensures silent { Silent (H.state host.old) (H.state host.new) }
+    ensures counts { Counts (H.state host.old) (H.state host.new) result }
+{
+    match work.had {
+        None => Ok(()),
+        Some(_) => link_or_copy(host, work),
+    }
+}
+
+/// A file or link that takes a place is made at its temporary name, once what it takes the place of stands at the backup too.
 fn prepare_loose<H: Host>(host: &mut H, work: &Work) -> Result<(), HostFault>
     requires named { IsNamed work.now }
     requires loose { is_directory (Some work.now.node) ≡ false }
@@ -121,6 +161,7 @@ fn prepare_loose<H: Host>(host: &mut H, work: &Work) -> Result<(), HostFault>
     if !work.is_exchanged() {
         return Ok(());
     }
+    save_old(host, work)?;
     lay(host, work)
 }
 

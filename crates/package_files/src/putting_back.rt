@@ -7,6 +7,7 @@ ghost use Rattle.package_files.specs.Laid.{CanUndo, IsUndoing, Undoes};
 ghost use Rattle.package_files.specs.Names.{AllInOrder, IsNamed};
 ghost use Rattle.package_files.specs.Back.{CanGoBack, CanRestore, GoesBack, IsGoingBack, MakesDirectory, restored};
 
+use crate::clearing::clear_spares;
 use crate::work::Work;
 use administration::is_bare;
 use host_core::{Host, HostFault, Kind, Node, RootPath};
@@ -84,7 +85,8 @@ fn put_back_loose<H: Host>(host: &mut H, work: &Work) -> Result<(), HostFault>
     }
 }
 
-/// A file or link that hasn't taken its place yet goes from its temporary name; one that has is put back.
+/// A file or link that hasn't taken its place yet goes from its temporary name, and what it was to take the place of from the
+/// backup; one that has is put back.
 fn take_back_loose<H: Host>(host: &mut H, work: &Work) -> Result<(), HostFault>
     requires named { IsNamed work.now }
     requires node { is_directory (Some work.now.node) ≡ false }
@@ -97,9 +99,9 @@ fn take_back_loose<H: Host>(host: &mut H, work: &Work) -> Result<(), HostFault>
 {
     match host.kind(&work.fresh)? {
         None => put_back_loose(host, work),
-        Some(Kind::File) => host.remove(&work.fresh),
+        Some(Kind::File) => clear_spares(host, work),
         Some(Kind::Directory) => put_back_loose(host, work),
-        Some(Kind::SymbolicLink) => host.remove(&work.fresh),
+        Some(Kind::SymbolicLink) => clear_spares(host, work),
     }
 }
 

@@ -29,7 +29,7 @@ pub(crate) struct Row {
     pub(crate) left_again: &'static [Thing],
 }
 
-const NEVER: Break = Break::Read(LIMIT);
+pub(crate) const NEVER: Break = Break::Read(LIMIT);
 
 // Adds a line where two paths have neither of what they may have together.
 fn judge_pair(

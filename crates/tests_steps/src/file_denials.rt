@@ -1,8 +1,8 @@
 // Files that are written over old ones, where each step is declined in turn, and also one of those that put back what was
 // written before.
-use crate::breaking::{Break, LIMIT, denied_last, recovered};
+use crate::breaking::{Break, LIMIT, denied_last, plan, recovered};
 use crate::file_acts::{Act, Package, Ships, fault_text, perform};
-use crate::file_breaking::{Found, Row, judge_again, judge_pairs};
+use crate::file_breaking::{Found, NEVER, Row, judge_again, judge_pairs};
 use crate::root::{judge_things, root_of};
 use host_core::{HostFault, RootPath};
 use host_memory::{Done, MemoryHost};
@@ -19,7 +19,7 @@ struct Case {
     undone: &'static [Found],
 }
 
-// A file over a file, a link over a file, and new ones; a conffile.
+// A file over a file and over a link, a link over a file, and new ones; a conffile.
 const OVER: Package = Package {
     name: "alpha",
     ships: &[
@@ -28,6 +28,7 @@ const OVER: Package = Package {
         ("/usr", Ships::Directory),
         ("/usr/bin", Ships::Directory),
         ("/usr/bin/a", Ships::File("new")),
+        ("/usr/bin/l", Ships::File("new")),
         ("/usr/bin/m", Ships::Link("a")),
         ("/usr/bin/n", Ships::File("new")),
         ("/usr/lib", Ships::Directory),
@@ -43,6 +44,7 @@ const OVER_CASE: Case = Case {
         there: &[
             ("/etc/z.conf", "mine"),
             ("/usr/bin/a", "old"),
+            ("/usr/bin/l", "@old"),
             ("/usr/bin/m", "old"),
             ("/usr/bin/m.dpkg-tmp", "left"),
             ("/usr/bin/other", "other"),
@@ -53,6 +55,8 @@ const OVER_CASE: Case = Case {
             ("/etc/z.conf.dpkg-new", "shipped"),
             ("/usr/bin/a", "new"),
             ("/usr/bin/a.dpkg-tmp", "old"),
+            ("/usr/bin/l", "new"),
+            ("/usr/bin/l.dpkg-tmp", "@old"),
             ("/usr/bin/m", "@a"),
             ("/usr/bin/m.dpkg-tmp", "old"),
             ("/usr/bin/n", "new"),
@@ -63,6 +67,10 @@ const OVER_CASE: Case = Case {
             (
                 ("/usr/bin/a", "/usr/bin/a.dpkg-tmp"),
                 &[("old", ""), ("old", "old"), ("new", "old")],
+            ),
+            (
+                ("/usr/bin/l", "/usr/bin/l.dpkg-tmp"),
+                &[("@old", ""), ("@old", "@old"), ("new", "@old")],
             ),
             (
                 ("/usr/bin/m", "/usr/bin/m.dpkg-tmp"),
@@ -88,6 +96,8 @@ const OVER_CASE: Case = Case {
             ("/etc/z.conf.dpkg-inst", ""),
             ("/usr/bin/a", "new"),
             ("/usr/bin/a.dpkg-inst", ""),
+            ("/usr/bin/l", "new"),
+            ("/usr/bin/l.dpkg-inst", ""),
             ("/usr/bin/m", "@a"),
             ("/usr/bin/m.dpkg-inst", ""),
             ("/usr/bin/n", "new"),
@@ -104,6 +114,8 @@ const OVER_CASE: Case = Case {
         ),
         (("/usr/bin/a", "/usr/bin/a.dpkg-tmp"), &[("old", "")]),
         (("/usr/bin/a.dpkg-inst", "/usr/bin/a.dpkg-new"), &[("", "")]),
+        (("/usr/bin/l", "/usr/bin/l.dpkg-tmp"), &[("@old", "")]),
+        (("/usr/bin/l.dpkg-inst", "/usr/bin/l.dpkg-new"), &[("", "")]),
         (
             ("/usr/bin/m", "/usr/bin/m.dpkg-tmp"),
             &[("old", "left"), ("old", "")],
@@ -164,15 +176,17 @@ fn place_of<'a>(path: &'a RootPath, first: &'a str) -> &'a str {
     }
 }
 
-// What is to be told of the first step that was declined.
-fn first_denied(alloc: Global, host: &MemoryHost, first: &str) -> Result<String, AllocError> {
+// What is to be told of the last step that was declined: what was declined before it was a second name, for which a copy stands
+// in.
+fn last_denied(alloc: Global, host: &MemoryHost, first: &str) -> Result<String, AllocError> {
+    let mut told = String::new(alloc);
     for done in host.events() {
         if let Done::Denied(path) = done {
             let place = place_of(path, first);
-            return format!(in alloc; "Declined {place}");
+            told = format!(in alloc; "Declined {place}")?;
         }
     }
-    Ok(String::new(alloc))
+    Ok(told)
 }
 
 // Adds a line where another path is told than that whose step was declined, or where what was written isn't put back.
@@ -184,14 +198,14 @@ fn judge_undone(
     text: &mut String,
 ) -> Result<(), AllocError> {
     let told = fault_text(alloc, fault)?;
-    if told.as_str() != first_denied(alloc, host, case.first)?.as_str() {
+    if told.as_str() != last_denied(alloc, host, case.first)?.as_str() {
         text.push_str(format!(in alloc; "told: {told}\n")?.as_str())?;
     }
     judge_pairs(alloc, host, case.undone, text)
 }
 
-// Where nothing more was declined, all is put back; where a step that puts something back was declined too, what stood there
-// and what was shipped are found as where the device fails.
+// Where only second names were declined, all is written. Where a step is told, all is put back; where one that puts something
+// back was declined too, what stood there and what was shipped are found as where the device fails.
 fn judge(
     alloc: Global,
     host: &mut MemoryHost,
@@ -200,8 +214,8 @@ fn judge(
     text: &mut String,
 ) -> Result<(), AllocError> {
     match (host.denials(), answer) {
-        (0, Ok(None)) => judge_things(alloc, host, case.row.left, text),
-        (1, Ok(Some(fault))) => judge_undone(alloc, host, case, Some(fault), text),
+        (_, Ok(None)) => judge_things(alloc, host, case.row.left, text),
+        (1 | 2, Ok(Some(fault))) => judge_undone(alloc, host, case, Some(fault), text),
         (2, Err(HostFault::Declined)) if denied_last(host).is_some() => {
             judge_pairs(alloc, host, case.row.found, text)
         }
@@ -254,4 +268,38 @@ fn a_declined_step_leaves_nothing_written(rt: HostRuntime) -> Result<(), Fail> {
         decline_each_step(&rt, case)?;
     }
     Ok(())
+}
+
+// Writes files and puts them back, while a step of either is declined. Nothing is left of them, unless a step that puts one back
+// was declined. The answer is whether a step was.
+fn put_back(
+    alloc: Global,
+    case: &Case,
+    back: &Act,
+    before: usize,
+    text: &mut String,
+) -> Result<bool, AllocError> {
+    let mut host = root_of(alloc, case.row.there)?;
+    plan(&mut host, Break::Decline(before))?;
+    match perform(alloc, &mut host, back, NEVER) {
+        Ok(_) => judge_pairs(alloc, &mut host, case.undone, text)?,
+        Err(HostFault::Declined) if denied_last(&host).is_some() => {}
+        Err(_) => text.push_str("another answer\n")?,
+    }
+    Ok(host.denials() > 0)
+}
+
+// A copy that stands in for a second name is put back like one.
+#[test]
+fn a_copy_is_put_back(rt: HostRuntime) -> Result<(), Fail> {
+    let alloc = rt.alloc();
+    for before in 0..LIMIT {
+        let mut text = String::new(alloc);
+        let declined = put_back(alloc, &OVER_CASE, &Act::PutBack(&OVER), before, &mut text)?;
+        assert!(rt; text.is_empty(), "{before}: {text}");
+        if !declined {
+            return Ok(());
+        }
+    }
+    panic!(rt; "it makes too many steps")
 }

@@ -154,14 +154,15 @@ fn is_beside(name: &str, path: &str) -> bool {
 const LEFT_NOTES: &str = "|notes left: /var/lib/dpkg/updates: declined\n|2\n";
 
 // Whether an answer tells that a step at this name was declined: the unit failed for the path, or it or the merging of notes
-// behind it was broken off.
+// behind it was broken off. For a second name that is declined a copy stands in, and nothing is told.
 fn tells_denial(answer: &str, name: &str) -> bool {
     if answer.ends_with(LEFT_NOTES) {
         return name.is_empty() || name.starts_with("/var/lib/dpkg/");
     }
     match told_declined(answer) {
         Some(path) => is_beside(name, path) && answer.ends_with("|1\n"),
-        None => answer.contains("broken declined\n") && answer.ends_with(BROKEN_OFF),
+        None if answer.contains("broken declined\n") => answer.ends_with(BROKEN_OFF),
+        None => name.ends_with(".dpkg-tmp") && !answer.ends_with(BROKEN_OFF),
     }
 }
 

@@ -14,16 +14,16 @@ returns-then-not-is_exchanged-clause-any_moment g c =
     let x = c.args.work.now in
     since_start (λ so_far. IsCommitting x old.world) old (same_committing x old.world old.world (sym c.is_exchanged.ensures ∙ c.if-not-is_exchanged.true) refl)
 
-pub take_or_leave-requires-clause-ready : goal.take_or_leave-requires-clause-ready
-take_or_leave-requires-clause-ready g c = λ h. can_take c.args.work.now _ (sym c.is_exchanged.ensures ∙ c.if-not-is_exchanged.false) (c.requires.ready h)
+pub take_place-requires-clause-ready : goal.take_place-requires-clause-ready
+take_place-requires-clause-ready g c = λ h. can_take c.args.work.now _ (sym c.is_exchanged.ensures ∙ c.if-not-is_exchanged.false) (c.requires.ready h)
 
 pub returns-clause-taken : goal.returns-clause-taken
 returns-clause-taken g c = λ h.
-    IfOk-weaker c.take_or_leave.result _ _ (λ whole taken is. taken_commits c.args.work.now _ _ (sym c.is_exchanged.ensures ∙ c.if-not-is_exchanged.false) (taken is)) (c.take_or_leave.ensures.taken h)
+    IfOk-weaker c.take_place.result _ _ (λ whole taken is. taken_commits c.args.work.now _ _ (sym c.is_exchanged.ensures ∙ c.if-not-is_exchanged.false) (taken is)) (c.take_place.ensures.taken h)
 
 pub returns-clause-any_moment : goal.returns-clause-any_moment
 returns-clause-any_moment g c =
     let old = g.H.Host.state c.args.host.now in
     let x = c.args.work.now in
-    since_weaker (λ so_far. IsTakingPlace x old.world) (λ so_far. IsCommitting x old.world) old (g.H.Host.state c.take_or_leave.new.host)
-    (λ so_far w taking. taking_commits x old.world w (sym c.is_exchanged.ensures ∙ c.if-not-is_exchanged.false) taking) c.take_or_leave.ensures.any_moment
+    since_weaker (λ so_far. IsTakingPlace x old.world) (λ so_far. IsCommitting x old.world) old (g.H.Host.state c.take_place.new.host)
+    (λ so_far w taking. taking_commits x old.world w (sym c.is_exchanged.ensures ∙ c.if-not-is_exchanged.false) taking) c.take_place.ensures.any_moment

@@ -1,5 +1,5 @@
 use Rattle.std.proofs.Common.{refl}
-use Rattle.host_core.specs.World.{Write, MakeLink}
+use Rattle.host_core.specs.World.{Write}
 use Rattle.package_files.proofs.WorkNames.{fresh_temporary, home_of, fresh_name}
 use Rattle.package_files.proofs.WriteMoments.{since_write, since_make_link, wrote_by, linked_by}
 use Rattle.package_files.proofs.Tried.{declined_same}

@@ -1,4 +1,4 @@
-use Rattle.std.proofs.Common.{[], ◌∷◌, ap, ◌∙◌, refl}
+use Rattle.std.proofs.Common.{[], ◌∷◌, ap}
 use Rattle.package_files.specs.Files.{Written}
 use Rattle.package_files.specs.Laid.{is_exchanged, Prepared}
 use Rattle.package_files.proofs.OnePath.{written_is_prepared}

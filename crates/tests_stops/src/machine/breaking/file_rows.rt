@@ -327,11 +327,11 @@ fn count_failed(rt: &(impl Abort + AllocGlobal), path: &str, wanted: &str) -> Re
     panic!(rt; "the upgrade makes too many steps")
 }
 
-// Each file is written and moved to its place; one that takes the place of another gives that a second name before. That all of
-// them go to the disk is one step, of which the package's first path is told.
+// Each file is written and moved to its place; for the second name of one that it takes the place of a copy stands in. That all
+// of them go to the disk is one step, of which the package's first path is told.
 #[test]
 fn an_upgrade_fails_for_the_file_that_is_declined(rt: HostRuntime) -> Result<(), Fail> {
-    for ((path, wanted), steps) in FAILED.iter().zip([3, 2, 1]) {
+    for ((path, wanted), steps) in FAILED.iter().zip([2, 2, 1]) {
         assert_eq!(rt; count_failed(&rt, path, wanted)?, steps);
     }
     Ok(())

@@ -7,7 +7,7 @@ use Rattle.package_files.proofs.OnePath.{cleared_both, keeps_first, keeps_second
 use Rattle.package_files.proofs.WriteMoments.{on_ok}
 use Rattle.package_files.specs.Steps.{HasBegun}
 use Rattle.package_files.proofs.Tried.{begun_clearing, on_declined}
-use Rattle.package_files.proofs.preparing.clear_spares.Goals as goal
+use Rattle.package_files.proofs.clearing.clear_spares.Goals as goal
 
 pub returns-in_err-clear_name-clause-any_moment : goal.returns-in_err-clear_name-clause-any_moment
 returns-in_err-clear_name-clause-any_moment g c =

@@ -1,7 +1,7 @@
 use Rattle.host_core.proofs.Moments.{since_then}
 use Rattle.administration.specs.Files.{KeepsBeside}
 use Rattle.package_files.proofs.WriteMoments.{looked, keeps_looked, since_take}
-use Rattle.package_files.proofs.preparing.clear_name.Goals as goal
+use Rattle.package_files.proofs.clearing.clear_name.Goals as goal
 
 pub returns-in_err-kind-clause-any_moment : goal.returns-in_err-kind-clause-any_moment
 returns-in_err-kind-clause-any_moment g c = looked c.args.path.now _ _ c.kind.ensures.reads
