@@ -2,3 +2,4 @@ pub mod ByDirectory
 pub mod Answered
 pub mod Settled
 pub mod TakingTurns
+pub mod Parted

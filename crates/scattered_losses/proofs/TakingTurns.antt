@@ -8,7 +8,7 @@ use Rattle.host_core.specs.World.{World, SameOn}
 use Rattle.host_core.specs.Events.{Event, follow_all, changes_of}
 use Rattle.host_core.specs.Unsynced.{unsynced, is_temporary, IsSettled}
 use Rattle.host_core.specs.Host.{State, AllFailed, AtEachMoment}
-use Rattle.host_core.specs.Loss.{HasNoBarrier, IsBlurred, IsLater, IsLikeAStop, IsMoment, IsOnDisk, ScriptsAvoid, writes}
+use Rattle.host_core.specs.Loss.{HasNoBarrier, IsBlurred, IsLater, IsLike, IsLikeAStop, IsMoment, IsOnDisk, ScriptsAvoid, writes}
 use Rattle.host_core.proofs.Losses.{avoids_moment, blurred_same, front_of_moment, since_stop}
 use Rattle.host_core.proofs.Moments.{follow_all-append, unmoved}
 use Rattle.scattered_losses.specs.Scattered.{is_in, parent_of, IsScattered, LosesScattered}
@@ -27,7 +27,7 @@ module _ (kept : Path → Bool) (begun old new : State) (left : World) (settled 
   abbrev upto : Path → List Event
   upto d = loss.durable ++ loss.front d
 
-  moment_of : (d : Path) → IsMoment loses.added (upto d)
+  pub moment_of : (d : Path) → IsMoment loses.added (upto d)
   moment_of d =
       front_of_moment loses.added loses.moment (upto d) (loss.rest d) loses.is (loss.split ∙ ap (λ l. loss.durable ++ l) (loss.fronts d) ∙ sym (append_assoc loss.durable (loss.front d) (loss.rest d)))
 
@@ -36,6 +36,13 @@ module _ (kept : Path → Bool) (begun old new : State) (left : World) (settled 
 
   synced : (q : Path) → is_temporary q ≡ false → unsynced (old.events ++ upto (parent_of q)) q ≡ true → ⊥
   synced q proper u = true≢false (sym (settled_moment old.events loses.added (upto (parent_of q)) (subst IsSettled loses.events settled) (moment_of (parent_of q)) q u) ∙ proper)
+
+  -- what is left at a path that was settled, by the front of its directory
+  pub left_whole : (q : Path) → kept q ≡ true → is_temporary q ≡ false → left q ≡ follow_all (upto (parent_of q)) old.world q
+  left_whole q here proper = elim (bool_cases (unsynced (old.events ++ upto (parent_of q)) q)) [
+    | inl u ↦ absurd (synced q proper u)
+    | inr s ↦ loss.whole q (free q here) s
+  ]
 
   -- where since the barrier one directory alone changed, its front is one for all
   module _ (d : Path) (alone : ChangesIn kept d (follow_all loss.durable old.world) loss.late) where
@@ -48,32 +55,37 @@ module _ (kept : Path → Bool) (begun old new : State) (left : World) (settled 
       | inr out ↦ outside (parent_of q) q here out ∙ sym (outside d q here out)
     ]
 
-    like_one : IsLikeAStop kept old new left
-    like_one = record {
-      added = loses.added;
-      events = loses.events;
-      stop = upto d;
-      is = moment_of d;
-      avoids = avoids_moment kept loses.added (upto d) (moment_of d) (session_avoids kept begun old new loses.earlier loses.added loses.session loses.events scripts).1;
-      like = record {
-        whole = λ q here proper. elim (bool_cases (unsynced (old.events ++ upto (parent_of q)) q)) [
-          | inl u ↦ absurd (synced q proper u)
-          | inr s ↦ loss.whole q (free q here) s ∙ same q here
-        ];
-        bytes = λ q here t. elim (bool_cases (unsynced (old.events ++ upto (parent_of q)) q)) [
-          | inl u ↦ subst (λ n. IsBlurred n (left q)) (same q here) (loss.bytes q (free q here) u)
-          | inr s ↦ blurred_same (follow_all (upto d) old.world q) (left q) (loss.whole q (free q here) s ∙ same q here)
-        ];
-      };
+    like_front : IsLike kept (follow_all (upto d) old.world) left
+    like_front = record {
+      whole = λ q here proper. left_whole q here proper ∙ same q here;
+      bytes = λ q here t. elim (bool_cases (unsynced (old.events ++ upto (parent_of q)) q)) [
+        | inl u ↦ subst (λ n. IsBlurred n (left q)) (same q here) (loss.bytes q (free q here) u)
+        | inr s ↦ blurred_same (follow_all (upto d) old.world q) (left q) (loss.whole q (free q here) s ∙ same q here)
+      ];
     }
 
-  like_in_turns : TakeTurns kept old new → IsLikeAStop kept old new left
-  like_in_turns turns = let now = turns loses.added loses.moment loss.durable loss.late loses.events loses.is loss.split loss.unflushed in like_one now.0 now.1
+  -- what is left of all kept names, by the front of one directory
+  pub like_in_turns : TakeTurns kept old new → (d : Path) × IsLike kept (follow_all (upto d) old.world) left
+  like_in_turns turns =
+      let now = turns loses.added loses.moment loss.durable loss.late loses.events loses.is loss.split loss.unflushed in
+      (now.0, like_front now.0 now.1)
+
+  like_one : (d : Path) → IsLike kept (follow_all (upto d) old.world) left → IsLikeAStop kept old new left
+  like_one d like = record {
+    added = loses.added;
+    events = loses.events;
+    stop = upto d;
+    is = moment_of d;
+    avoids = avoids_moment kept loses.added (upto d) (moment_of d) (session_avoids kept begun old new loses.earlier loses.added loses.session loses.events scripts).1;
+    like = like;
+  }
 
 -- THE LAW: where directories take turns, all kept names are left as at one stop
 pub turns_like_a_stop : (kept : Path → Bool) (begun old new : State) (left : World) → IsSettled new.events → ScriptsAvoid kept begun new → TakeTurns kept old new → LosesScattered begun old new left
     → IsLikeAStop kept old new left
-turns_like_a_stop kept begun old new left settled scripts turns loses = like_in_turns kept begun old new left settled scripts loses turns
+turns_like_a_stop kept begun old new left settled scripts turns loses =
+    let one = like_in_turns kept begun old new left settled scripts loses turns in
+    like_one kept begun old new left settled scripts loses one.0 one.1
 
 -- how it is shown that they do
 

@@ -1,2 +1,3 @@
 pub mod Scattered
 pub mod Turns
+pub mod Apart

@@ -8,11 +8,11 @@ use Rattle.host_core.proofs.Barriers.{barrier_world, on_disk, since_to_disk}
 use Rattle.host_core.proofs.Moments.{since_then, since_weaker_if}
 use Rattle.host_core.specs.declared.fault.HostFault.{HostFault}
 
-always : {T E Q : Type 0} (result : Result T E) → Q → OnOk result Q
+pub always : {T E Q : Type 0} (result : Result T E) → Q → OnOk result Q
 always (Ok x) is = is
 always (Err e) is = tt
 
-so_too : {T E Q R : Type 0} (result : Result T E) → (Q → R) → OnOk result Q → OnOk result R
+pub so_too : {T E Q R : Type 0} (result : Result T E) → (Q → R) → OnOk result Q → OnOk result R
 so_too (Ok x) so is = so is
 so_too (Err e) so is = tt
 

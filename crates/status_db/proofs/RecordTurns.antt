@@ -1,5 +1,5 @@
 -- The directory of the status file and that of the notes take turns.
-use Rattle.std.specs.Prelude.{◌≡◌, ◌≢◌, ◌+◌, ◌/◌, ◌%◌, ◌||◌, ℕ, Bool, true, false, List, [], ◌∷◌, ◌++◌, IsTrue, Result, Ok, nat_eq, codes}
+use Rattle.std.specs.Prelude.{◌≡◌, ◌≢◌, ◌+◌, ◌/◌, ◌%◌, ◌||◌, ℕ, Bool, true, false, List, [], ◌∷◌, ◌++◌, IsTrue, OnOk, Result, Ok, nat_eq, codes}
 use Rattle.std.proofs.Common.{refl, sym, ◌∙◌, ap, arith}
 use Rattle.std.proofs.lemmas.Bool.{true≢false}
 use Rattle.std.proofs.lemmas.Bool.Decides.{nat_tests}
@@ -17,10 +17,14 @@ use Rattle.administration.specs.Places.{home_path, status_path, temporary, updat
 use Rattle.status_db.specs.Held.{is_record_place}
 use Rattle.status_db.specs.Notes.{digits, note_path}
 use Rattle.status_db.specs.Taking.{IsTakingNotes}
-use Rattle.status_db.proofs.Barriered.{moments_before}
+use Rattle.status_db.specs.Noting.{IsNoting}
+use Rattle.status_db.proofs.Barriered.{always, moments_before, so_too}
+use Rattle.status_records.specs.declared.record.Record.{Record}
 use Rattle.scattered_losses.specs.Scattered.{has_slash, is_in, parent_of}
-use Rattle.scattered_losses.specs.Turns.{GoByTurns, KeepsOutside, TakeTurns}
+use Rattle.scattered_losses.specs.Apart.{GoBehindBarrier, IsApart, WaitsForBarrier, WorksApart}
+use Rattle.scattered_losses.specs.Turns.{GoByTurns, IsQuiet, KeepsOutside, TakeTurns}
 use Rattle.scattered_losses.proofs.ByDirectory.{in_parent, parent_beside}
+use Rattle.scattered_losses.proofs.Parted.{alone_apart, apart_here, barrier_apart, waits_behind, waits_then}
 use Rattle.scattered_losses.proofs.TakingTurns.{quiet_on_disk, turns_by_moments, turns_on, turns_then}
 
 -- which directories the places of records lie in
@@ -83,3 +87,37 @@ turns_through_barrier d begun a b c e result later turns does since last falls h
     let same = barrier_same {T = Unit {0}} (Ok tt) a b does in
     turns_to_barrier result begun c e (since_then _ begun b c (since_then _ begun a b later (later_by (SameOn is_record_place) a b same)) (later_by (KeepsOutside is_record_place d) b c since))
     (turns_from_barrier d begun a b c later turns does since (falls h)) last h
+
+-- the records' places wait for a barrier
+
+pub waits_here : (s : State) → GoBehindBarrier is_record_place s s
+waits_here s h = (apart_here is_record_place s h).0.waits
+
+pub waits_at : {T : Type 0} (result : Result T HostFault) (a b : State) → Does Barrier a b result → GoBehindBarrier is_record_place a b
+waits_at result a b does h = (barrier_apart is_record_place result a b h does).0.waits
+
+-- behind a barrier there is what was done, and maybe another barrier
+pub waits_before_barrier : {T : Type 0} (P : World → World → Type 0) (result : Result T HostFault) (a b c d : State) → Happens (Did Barrier ∷ []) a b → AtEachMoment P b c → Does Barrier c d result → GoBehindBarrier is_record_place a d
+waits_before_barrier P result a b c d does since last h =
+    waits_behind is_record_place a b d h does (since_then _ b c d (later_by P b c since) (later_by (SameOn is_record_place) c d (barrier_same result c d last)))
+
+pub waits_on : (P : World → World → Type 0) (a b c : State) → Happens (Did Barrier ∷ []) a b → AtEachMoment P b c → GoBehindBarrier is_record_place a c
+waits_on P a b c does since h = waits_behind is_record_place a b c h does (later_by P b c since)
+
+pub waits_too : (P Q : World → World → Type 0) (a b c : State) → AtEachMoment P a b → AtEachMoment Q b c → GoBehindBarrier is_record_place a b → GoBehindBarrier is_record_place b c → GoBehindBarrier is_record_place a c
+waits_too P Q a b c first second early late h = waits_then is_record_place a b c (later_by P a b first) (later_by Q b c second) (early (second.honest h)) (late h)
+
+-- a barrier, and turns behind it
+pub turns_since_barrier : (P : World → World → Type 0) (a b c : State) → Happens (Did Barrier ∷ []) a b → AtEachMoment P b c → GoByTurns is_record_place b c → GoByTurns is_record_place a c
+turns_since_barrier P a b c does since again h =
+    let first = barrier_apart {T = Unit {0}} is_record_place (Ok tt) a b (since.honest h) does in
+    turns_then is_record_place a b c (later_by (SameOn is_record_place) a b (barrier_same {T = Unit {0}} (Ok tt) a b does)) (later_by P b c since) first.0.turns first.1 (again h)
+
+-- records alone are noted
+pub noted_apart : {T E : Type 0} (result : Result T E) (before after : List Record) (a b : State) → AtEachMoment (IsNoting before after) a b → GoByTurns is_record_place a b → GoBehindBarrier is_record_place a b → OnOk result (IsOnDisk b.events)
+    → WorksApart result is_record_place a b
+noted_apart result before after a b since turns waits disk h =
+    (alone_apart is_record_place a b h (since_weaker _ _ a b (λ so_far w is. is.rest) since) (turns h) (waits h), so_too result (λ last. quiet_on_disk is_record_place a b last) disk)
+
+pub works_here : {T E : Type 0} (result : Result T E) (s : State) → WorksApart result is_record_place s s
+works_here result s h = let here = apart_here is_record_place s h in (here.0, always result here.1)

@@ -14,7 +14,9 @@
 //! At each moment of all three the records are those of before or with the one change, and the next
 //! opening can read them (`any_moment`); after a fault it is closed (`err`, `closed`, `shut`).
 //! A note that was written is on the disk (`on_disk`). What was done before it is on the disk before
-//! it is written, and the new status file before the first note goes: there the code has barriers.
+//! anything changes at the places of records, which change apart from all others, and a barrier is
+//! behind them (`apart`). The new status file is on the disk before the first note goes: there the
+//! code has a barrier.
 //! `records_stand_at_their_places`: the records are those of their files, whatever else changes.
 #![tactic(auto)]
 
@@ -27,6 +29,7 @@ mod noted_database;
 mod noting;
 mod open_records;
 mod record_fault;
+mod room;
 mod status_reading;
 mod table;
 mod updates;

@@ -12,6 +12,7 @@ ghost use Rattle.status_db.specs.Notes.{limit, note_path};
 ghost use Rattle.status_db.specs.Noting.{AreMerged, IsMerging, IsNoted, IsNoting, IsPlaced, entered_in, note_number, writes_note};
 ghost use Rattle.status_db.specs.Order.{AreInOrder};
 ghost use Rattle.status_records.specs.Records.{record_in, drop_record, standing};
+ghost use Rattle.scattered_losses.specs.Apart.{WorksApart};
 ghost use Rattle.scattered_losses.specs.Turns.{GoByTurns};
 ghost use Rattle.status_db.specs.Held.{HasRecords, IsFree, IsKept, is_record_place};
 ghost use Rattle.status_db.specs.declared.record_fault.RecordFault.TheVariants.{Closed};
@@ -144,6 +145,7 @@ impl NotedDatabase {
         ensures on_disk { writes_note entry self.old.records ≡ true
             → OnOk result (IsOnDisk (H.state host.new).events) }
         ensures turns { GoByTurns is_record_place (H.state host.old) (H.state host.new) }
+        ensures apart { WorksApart result is_record_place (H.state host.old) (H.state host.new) }
         ensures silent { Silent (H.state host.old) (H.state host.new) }
         ensures counts { CountsRecord (H.state host.old) (H.state host.new) result }
     {
@@ -186,6 +188,7 @@ impl NotedDatabase {
         ensures on_disk { is_some (record_in self.old.records name.now) ≡ true
             → OnOk result (IsOnDisk (H.state host.new).events) }
         ensures turns { GoByTurns is_record_place (H.state host.old) (H.state host.new) }
+        ensures apart { WorksApart result is_record_place (H.state host.old) (H.state host.new) }
         ensures silent { Silent (H.state host.old) (H.state host.new) }
         ensures counts { CountsRecord (H.state host.old) (H.state host.new) result }
     {

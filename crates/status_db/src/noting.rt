@@ -8,24 +8,22 @@ ghost use Rattle.texts.specs.PackageNames.{is_package_name};
 ghost use Rattle.status_records.specs.declared.record.Record.{Record as ARecord};
 ghost use Rattle.status_db.specs.Notes as place;
 ghost use Rattle.status_db.specs.Notes.{Note};
-ghost use Rattle.status_db.specs.Noting.{AreNoted, HasRoom, IsEntered, IsMerging, IsNoteFile, IsNoting, IsPlaced, entered_in, note_number, writes_note};
+ghost use Rattle.status_db.specs.Noting.{AreNoted, IsEntered, IsNoteFile, IsNoting, IsPlaced, entered_in, note_number, writes_note};
 ghost use Rattle.status_records.specs.Records.{record_in, put_record, drop_record};
 ghost use Rattle.status_db.specs.Held.{AreKept, IsUnblocked, is_record_place};
 ghost use Rattle.status_records.specs.Words.{is_not_installed};
+ghost use Rattle.scattered_losses.specs.Apart.{GoBehindBarrier, WorksApart};
 ghost use Rattle.scattered_losses.specs.Turns.{GoByTurns, TakeTurns};
 
-use crate::merging::merge;
 use crate::note_paths::note_path;
 use crate::note_text::{gone_node, note_node};
+use crate::room::make_room;
 use crate::table::Table;
 use administration::replace;
 use host_core::{Host, HostFault, Node};
 use status_records::Record;
 use std::alloc::Global;
 use texts::Text;
-
-// So many notes stand at most; then they are merged before the next.
-const MOST_NOTES: u16 = 250;
 
 // Writes the note of a number.
 fn replace_note<H: Host>(
@@ -69,38 +67,13 @@ fn write_note<H: Host>(
     ensures turns { (begun : State) → IsLater begun (H.state host.old)
         → TakeTurns is_record_place begun (H.state host.old)
         → GoByTurns is_record_place begun (H.state host.new) }
+    ensures waits { GoBehindBarrier is_record_place (H.state host.old) (H.state host.new) }
     ensures silent { Silent (H.state host.old) (H.state host.new) }
     ensures counts { Counts (H.state host.old) (H.state host.new) result }
 {
     host.barrier()?;
     replace_note(alloc, host, number, node)?;
     host.barrier()
-}
-
-// Merges the notes where as many as may be stand.
-fn make_room<H: Host>(
-    alloc: Global,
-    host: &mut H,
-    table: &Table,
-    notes: &mut u16,
-) -> Result<(), HostFault>
-    requires count { notes.old ≤ 10000 }
-    requires kept { Needs (H.state host.old) (AreKept table.now notes.old) }
-    ensures number { OnOk result (notes.new ≡ note_number notes.old) }
-    ensures within { notes.new ≤ 10000 }
-    ensures room { Leaves result (HasRoom table.now notes.old notes.new) (H.state host.old)
-        (H.state host.new) }
-    ensures any_moment { AtEachMoment (IsMerging table.now) (H.state host.old) (H.state host.new) }
-    ensures turns { GoByTurns is_record_place (H.state host.old) (H.state host.new) }
-    ensures silent { Silent (H.state host.old) (H.state host.new) }
-    ensures counts { Counts (H.state host.old) (H.state host.new) result }
-{
-    if *notes < MOST_NOTES {
-        return Ok(());
-    }
-    merge(alloc, host, table, *notes)?;
-    *notes = 0;
-    Ok(())
 }
 
 // Writes the next note.
@@ -126,6 +99,7 @@ fn write_next<H: Host>(
         (H.state host.old) (H.state host.new) }
     ensures on_disk { OnOk result (IsOnDisk (H.state host.new).events) }
     ensures turns { GoByTurns is_record_place (H.state host.old) (H.state host.new) }
+    ensures waits { GoBehindBarrier is_record_place (H.state host.old) (H.state host.new) }
     ensures silent { Silent (H.state host.old) (H.state host.new) }
     ensures counts { Counts (H.state host.old) (H.state host.new) result }
 {
@@ -156,6 +130,7 @@ fn write_record<H: Host>(
         (H.state host.old) (H.state host.new) }
     ensures on_disk { OnOk result (IsOnDisk (H.state host.new).events) }
     ensures turns { GoByTurns is_record_place (H.state host.old) (H.state host.new) }
+    ensures apart { WorksApart result is_record_place (H.state host.old) (H.state host.new) }
     ensures silent { Silent (H.state host.old) (H.state host.new) }
     ensures counts { Counts (H.state host.old) (H.state host.new) result }
 {
@@ -185,6 +160,7 @@ fn write_gone<H: Host>(
         (H.state host.old) (H.state host.new) }
     ensures on_disk { OnOk result (IsOnDisk (H.state host.new).events) }
     ensures turns { GoByTurns is_record_place (H.state host.old) (H.state host.new) }
+    ensures apart { WorksApart result is_record_place (H.state host.old) (H.state host.new) }
     ensures silent { Silent (H.state host.old) (H.state host.new) }
     ensures counts { Counts (H.state host.old) (H.state host.new) result }
 {
@@ -216,6 +192,7 @@ fn note_record<H: Host>(
         (H.state host.old) (H.state host.new) }
     ensures on_disk { OnOk result (IsOnDisk (H.state host.new).events) }
     ensures turns { GoByTurns is_record_place (H.state host.old) (H.state host.new) }
+    ensures apart { WorksApart result is_record_place (H.state host.old) (H.state host.new) }
     ensures silent { Silent (H.state host.old) (H.state host.new) }
     ensures counts { Counts (H.state host.old) (H.state host.new) result }
 {
@@ -249,6 +226,7 @@ pub(crate) fn forget_record<H: Host>(
     ensures on_disk { is_some (record_in table.old name.now) ≡ true
         → OnOk result (IsOnDisk (H.state host.new).events) }
     ensures turns { GoByTurns is_record_place (H.state host.old) (H.state host.new) }
+    ensures apart { WorksApart result is_record_place (H.state host.old) (H.state host.new) }
     ensures silent { Silent (H.state host.old) (H.state host.new) }
     ensures counts { Counts (H.state host.old) (H.state host.new) result }
 {
@@ -285,6 +263,7 @@ pub(crate) fn enter_record<H: Host>(
     ensures on_disk { writes_note entry table.old ≡ true
         → OnOk result (IsOnDisk (H.state host.new).events) }
     ensures turns { GoByTurns is_record_place (H.state host.old) (H.state host.new) }
+    ensures apart { WorksApart result is_record_place (H.state host.old) (H.state host.new) }
     ensures silent { Silent (H.state host.old) (H.state host.new) }
     ensures counts { Counts (H.state host.old) (H.state host.new) result }
 {

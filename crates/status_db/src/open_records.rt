@@ -3,8 +3,9 @@ ghost use Rattle.std.specs.Prelude.{◌≡◌, OnOk, OnErr, true, false, is_some
 ghost use Rattle.host_core.specs.Host.{AtEachMoment, Counts, Leaves, Needs, Silent};
 ghost use Rattle.host_core.specs.Loss.{IsOnDisk};
 ghost use Rattle.status_db.specs.Noting.{IsNoted, IsNoting};
+ghost use Rattle.scattered_losses.specs.Apart.{WorksApart};
 ghost use Rattle.status_records.specs.Records.{drop_record, put_record, record_in};
-ghost use Rattle.status_db.specs.Held.{IsKept};
+ghost use Rattle.status_db.specs.Held.{IsKept, is_record_place};
 ghost use Rattle.status_records.specs.Words.{is_not_installed};
 
 use crate::noted_database::NotedDatabase;
@@ -32,6 +33,7 @@ pub fn note_record<H: Host>(
     ensures any_moment { AtEachMoment (IsNoting database.old.records
         (put_record entry database.old.records)) (H.state host.old) (H.state host.new) }
     ensures on_disk { OnOk result (IsOnDisk (H.state host.new).events) }
+    ensures apart { WorksApart result is_record_place (H.state host.old) (H.state host.new) }
     ensures silent { Silent (H.state host.old) (H.state host.new) }
     ensures counts { Counts (H.state host.old) (H.state host.new) result }
 {
@@ -63,6 +65,7 @@ pub fn note_no_record<H: Host>(
         (drop_record name.now database.old.records)) (H.state host.old) (H.state host.new) }
     ensures on_disk { is_some (record_in database.old.records name.now) ≡ true
         → OnOk result (IsOnDisk (H.state host.new).events) }
+    ensures apart { WorksApart result is_record_place (H.state host.old) (H.state host.new) }
     ensures silent { Silent (H.state host.old) (H.state host.new) }
     ensures counts { Counts (H.state host.old) (H.state host.new) result }
 {

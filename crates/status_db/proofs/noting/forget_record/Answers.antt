@@ -1,6 +1,8 @@
 use Rattle.std.proofs.Common.{◌∙◌, sym}
 use Rattle.status_records.specs.Records.{drop_record}
 use Rattle.status_db.proofs.NotedWorlds.{found_named, none_there, nothing_dropped, noting_not}
+use Rattle.scattered_losses.proofs.Parted.{apart_here}
+use Rattle.status_db.specs.Held.{is_record_place}
 use Rattle.status_db.proofs.RecordTurns.{goes_here}
 use Rattle.status_db.proofs.noting.forget_record.Goals as goal
 
@@ -15,3 +17,6 @@ write_gone-requires-clause-named g c = found_named c.args.name.now c.args.table.
 
 pub returns-then-not-has-clause-turns : goal.returns-then-not-has-clause-turns
 returns-then-not-has-clause-turns g c = goes_here _
+
+pub returns-then-not-has-clause-apart : goal.returns-then-not-has-clause-apart
+returns-then-not-has-clause-apart g c = λ h. apart_here is_record_place (g.H.Host.state c.args.host.now) h

@@ -1,7 +1,7 @@
 use Rattle.status_db.specs.Notes.{said_gone}
 use Rattle.status_records.specs.Records.{drop_record}
 use Rattle.status_db.proofs.NotedWorlds.{drop_entered}
-use Rattle.status_db.proofs.RecordTurns.{goes_here}
+use Rattle.status_db.proofs.RecordTurns.{goes_here, noted_apart, works_here}
 use Rattle.status_db.proofs.noting.write_gone.Goals as goal
 
 pub returns-clause-noted : goal.returns-clause-noted
@@ -12,3 +12,12 @@ returns-clause-any_moment g c = c.write_next.ensures.any_moment (said_gone c.arg
 
 pub returns-in_err-node-clause-turns : goal.returns-in_err-node-clause-turns
 returns-in_err-node-clause-turns g c = goes_here _
+
+pub returns-in_err-node-clause-apart : goal.returns-in_err-node-clause-apart
+returns-in_err-node-clause-apart g c = works_here _ _
+
+pub returns-clause-apart : goal.returns-clause-apart
+returns-clause-apart g c =
+    noted_apart _ c.args.table.now (drop_record c.args.name.now c.args.table.now) _ _
+    (c.write_next.ensures.any_moment (said_gone c.args.name.now) (drop_record c.args.name.now c.args.table.now) c.in_ok-node.ensures (drop_entered c.args.name.now c.args.table.now c.law.ensures.order))
+    c.write_next.ensures.turns c.write_next.ensures.waits c.write_next.ensures.on_disk

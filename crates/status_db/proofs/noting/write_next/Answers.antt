@@ -1,6 +1,8 @@
 use Rattle.status_db.proofs.NotedWorlds.{free_loose, merging_first, note_then, noted_then, number_few}
+use Rattle.administration.specs.Files.{IsReplacing}
+use Rattle.status_db.specs.Notes.{note_path}
 use Rattle.status_db.specs.Noting.{IsMerging}
-use Rattle.status_db.proofs.RecordTurns.{later_by}
+use Rattle.status_db.proofs.RecordTurns.{later_by, waits_too}
 use Rattle.status_db.proofs.noting.write_next.Goals as goal
 
 pub returns-in_err-make_room-clause-any_moment : goal.returns-in_err-make_room-clause-any_moment
@@ -29,3 +31,11 @@ returns-in_err-write_note-clause-turns g c = λ h. c.write_note.ensures.turns _ 
 
 pub returns-clause-turns : goal.returns-clause-turns
 returns-clause-turns g c = λ h. c.write_note.ensures.turns _ (later_by (IsMerging c.args.table.now) _ _ c.make_room.ensures.any_moment) (c.make_room.ensures.turns (c.write_note.ensures.silent.honest h)) h
+
+pub returns-in_err-write_note-clause-waits : goal.returns-in_err-write_note-clause-waits
+returns-in_err-write_note-clause-waits g c =
+    waits_too (IsMerging c.args.table.now) (IsReplacing (note_path c.make_room.new.notes) c.args.node.now) _ _ _ c.make_room.ensures.any_moment c.write_note.ensures.any_moment c.make_room.ensures.waits c.write_note.ensures.waits
+
+pub returns-clause-waits : goal.returns-clause-waits
+returns-clause-waits g c =
+    waits_too (IsMerging c.args.table.now) (IsReplacing (note_path c.make_room.new.notes) c.args.node.now) _ _ _ c.make_room.ensures.any_moment c.write_note.ensures.any_moment c.make_room.ensures.waits c.write_note.ensures.waits

@@ -5,7 +5,7 @@ use Rattle.status_db.proofs.Barriered.{disk_behind, left_between, moments_before
 use Rattle.status_db.proofs.NotedWorlds.{replacing_not}
 use Rattle.host_core.proofs.Moments.{since_then, since_weaker}
 use Rattle.administration.specs.Places.{updates_path}
-use Rattle.status_db.proofs.RecordTurns.{later_by, note_alone, turns_from_barrier, turns_through_barrier, turns_to_barrier}
+use Rattle.status_db.proofs.RecordTurns.{later_by, note_alone, turns_from_barrier, turns_through_barrier, turns_to_barrier, waits_at, waits_before_barrier, waits_on}
 use Rattle.status_db.proofs.noting.write_note.Goals as goal
 
 pub returns-in_err-barrier-clause-any_moment : goal.returns-in_err-barrier-clause-any_moment
@@ -49,3 +49,13 @@ pub returns-clause-turns : goal.returns-clause-turns
 returns-clause-turns g c = λ begun later turns.
     turns_through_barrier updates_path begun _ _ _ _ _ later turns c.in_ok-barrier.ensures.does
     (since_weaker _ _ _ _ (λ so_far w is. note_alone c.args.number c.args.node.now _ w is) c.replace_note.ensures.any_moment) c.barrier-2.ensures.does c.barrier-2.ensures.silent.honest
+
+pub returns-in_err-barrier-clause-waits : goal.returns-in_err-barrier-clause-waits
+returns-in_err-barrier-clause-waits g c = waits_at _ _ _ c.barrier.ensures.does
+
+pub returns-in_err-replace_note-clause-waits : goal.returns-in_err-replace_note-clause-waits
+returns-in_err-replace_note-clause-waits g c = waits_on (IsReplacing (note_path c.args.number) c.args.node.now) _ _ _ c.in_ok-barrier.ensures.does c.replace_note.ensures.any_moment
+
+pub returns-clause-waits : goal.returns-clause-waits
+returns-clause-waits g c =
+    waits_before_barrier (IsReplacing (note_path c.args.number) c.args.node.now) _ _ _ _ _ c.in_ok-barrier.ensures.does c.replace_note.ensures.any_moment c.barrier-2.ensures.does
