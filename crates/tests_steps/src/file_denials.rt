@@ -270,6 +270,8 @@ fn a_declined_step_leaves_nothing_written(rt: HostRuntime) -> Result<(), Fail> {
     Ok(())
 }
 
+const OVER_AND_BACK: Act = Act::PutBack(&OVER);
+
 // Writes files and puts them back, while a step of either is declined. Nothing is left of them, unless a step that puts one back
 // was declined. The answer is whether a step was.
 fn put_back(
@@ -295,7 +297,7 @@ fn a_copy_is_put_back(rt: HostRuntime) -> Result<(), Fail> {
     let alloc = rt.alloc();
     for before in 0..LIMIT {
         let mut text = String::new(alloc);
-        let declined = put_back(alloc, &OVER_CASE, &Act::PutBack(&OVER), before, &mut text)?;
+        let declined = put_back(alloc, &OVER_CASE, &OVER_AND_BACK, before, &mut text)?;
         assert!(rt; text.is_empty(), "{before}: {text}");
         if !declined {
             return Ok(());
