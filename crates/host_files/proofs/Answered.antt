@@ -1,5 +1,5 @@
 -- What the calls of the system that were made so far say of a step's answer.
-use Rattle.std.proofs.Common.{◌≡◌, ◌≢◌, ℕ, Bool, inl, inr, Option, Some, None, List, [], ◌∷◌, ◌++◌, Result, Ok, Err, IfErr, refl, sym, ap, subst, ◌∙◌, append_assoc}
+use Rattle.std.proofs.Common.{◌≡◌, ◌≢◌, ◌⊎◌, ℕ, Bool, inl, inr, Option, Some, None, List, [], ◌∷◌, ◌++◌, Result, Ok, Err, IfErr, refl, sym, ap, subst, ◌∙◌, append_assoc}
 use Rattle.std.proofs.lemmas.Bool.{false≢true}
 use Rattle.std.proofs.lemmas.List.{append-nil}
 use Rattle.std.specs.Fs.{metadata_mode}
@@ -10,14 +10,14 @@ use Rattle.host_core.specs.declared.fault.HostFault.{HostFault}
 use Rattle.host_core.specs.declared.fault.HostFault.TheVariants.{Device, NoMemory, Declined}
 use Rattle.host_files.specs.Faults.{IsOfStep, IsUndeclined}
 use Rattle.host_files.specs.SystemCalls.{changes_in, look_call}
-use Rattle.host_files.specs.Shown.{Adds, AddsFirst, IsAnsweredBy, IsAsked, IsBegun, IsMakingBy, IsStepBy, IsTakenAway, HasRenamed, IsRenamedBy, IsRenaming, write_calls}
+use Rattle.host_files.specs.Shown.{Adds, AddsFirst, IsAnsweredBy, IsAsked, IsBegun, IsMakingBy, IsStepBy, IsTakenAway, HasRenamed, IsRenamedBy, IsRenaming, directory_calls, first_call, write_calls, IsTakenFrom, IsTaking}
 use Rattle.host_files.specs.declared.trace.SystemCall.{SystemCall}
-use Rattle.host_files.specs.declared.trace.SystemCall.TheVariants.{Create, Gone, Unlink}
+use Rattle.host_files.specs.declared.trace.SystemCall.TheVariants.{Create, Gone, RemoveDirectory, Unlink}
 use Rattle.host_core.specs.Paths.{Path}
 use Rattle.host_core.specs.declared.content.Modified.{Modified}
 use Rattle.host_core.specs.declared.node.Access.{Access}
 use Rattle.host_core.specs.declared.node.Node.TheVariants.{File}
-use Rattle.host_files.specs.Places.{place_of}
+use Rattle.host_files.specs.Places.{IsEntry, place_of}
 use Rattle.host_files.specs.declared.record.Asked.TheVariants as asked
 
 -- nothing was changed, so that all the changes are to come
@@ -46,6 +46,30 @@ all_asked done changing made (Ok x) step is changes = is
 all_asked done changing made (Err Device) step is changes = ([], changes)
 all_asked done changing made (Err NoMemory) step is changes = absurd step
 all_asked done changing made (Err Declined) step is changes = changes
+
+-- what takes something away failed or was declined before it was asked for
+pub not_taken : {T : Type 0} (done taking : List SystemCall → Type 0) (made : List SystemCall) (result : Result T HostFault) → IsErr result → changes_in made ≡ []
+    → IsAnsweredBy done (λ m. (changes_in m ≡ []) ⊎ taking m) (λ m. (changes_in m ≡ []) ⊎ taking m) made result
+not_taken done taking made (Ok x) failed none = absurd (false≢true failed)
+not_taken done taking made (Err Device) failed none = inl none
+not_taken done taking made (Err NoMemory) failed none = none
+not_taken done taking made (Err Declined) failed none = inl none
+
+-- it was asked for, and ended so
+pub taken : {T : Type 0} (taking : List SystemCall → Type 0) (made : List SystemCall) (result : Result T HostFault) → IfErr result IsOfStep → taking made
+    → IsAnsweredBy taking (λ m. (changes_in m ≡ []) ⊎ taking m) (λ m. (changes_in m ≡ []) ⊎ taking m) made result
+taken taking made (Ok x) step is = is
+taken taking made (Err Device) step is = inr is
+taken taking made (Err NoMemory) step is = absurd step
+taken taking made (Err Declined) step is = inr is
+
+-- from the directory that holds it, which was open
+pub taken_from : {T : Type 0} (taking : List ℕ → List ℕ → SystemCall) → ((directory name : List ℕ) (calls : List SystemCall) → changes_in (taking directory name ∷ calls) ≡ taking directory name ∷ changes_in calls)
+    → (place there directory name : List ℕ) (old made : List SystemCall) (result : Result T HostFault) → IfErr result IsOfStep → there ≡ place → IsEntry there directory name → old ≡ [] → made ≡ taking directory name ∷ old
+    → IsAnsweredBy (λ m. IsTakenFrom taking place (changes_in m)) (λ m. IsTaking taking place (changes_in m)) (λ m. IsTaking taking place (changes_in m)) made result
+taken_from taking change place there directory name old made result step same entry begun is =
+    taken (λ m. IsTakenFrom taking place (changes_in m)) made result step
+    (directory, name, subst (λ p. IsEntry p directory name) same entry, ap changes_in is ∙ change directory name old ∙ ap (λ (l : List SystemCall). taking directory name ∷ changes_in l) begun)
 
 -- what makes it was asked for, and ended so
 pub first_asked : {T : Type 0} (first undo : SystemCall) (rest made : List SystemCall) (result : Result T HostFault) → IsErr result → IfErr result IsOfStep → changes_in made ≡ first ∷ []
@@ -124,6 +148,14 @@ written_by front owners p bytes access modified made (Ok x) is = (modified, is)
 written_by front owners p bytes access modified made (Err Device) is = (modified, is)
 written_by front owners p bytes access modified made (Err NoMemory) is = is
 written_by front owners p bytes access modified made (Err Declined) is = (modified, is)
+
+-- a directory that was made so, whichever access it was seen with
+pub directory_by : {T : Type 0} (front : List ℕ) (owners : Bool) (p : Path) (access seen : Access) (made : List SystemCall) (result : Result T HostFault)
+    → IsMakingBy (first_call owners (place_of front p) access) (RemoveDirectory (place_of front p)) (directory_calls owners (place_of front p) access seen) made result → IsStepBy front owners (asked.MakeDir p access) made result
+directory_by front owners p access seen made (Ok x) is = (seen, is)
+directory_by front owners p access seen made (Err Device) is = (seen, is)
+directory_by front owners p access seen made (Err NoMemory) is = is
+directory_by front owners p access seen made (Err Declined) is = (seen, is)
 
 -- the former of two names of one file was removed
 pub former_removed : {T : Type 0} (from to : List ℕ) (over : Option Metadata) (before made : List SystemCall) (result : Result T HostFault) → from ≢ to → IsSome over → changes_in before ≡ []

@@ -1,6 +1,7 @@
 -- The directory of a path, and sets of directories.
-use Rattle.std.proofs.Common.{◌≡◌, inl, inr, ℕ, Bool, true, false, cond, None, List, [], ◌∷◌, ◌++◌, take, drop, map, reverse, String, string_bytes, refl, sym, ap, ◌∙◌, Contains, arith}
+use Rattle.std.proofs.Common.{◌≡◌, inl, inr, ℕ, Bool, true, false, cond, None, List, [], ◌∷◌, ◌++◌, take, drop, map, reverse, String, string_bytes, refl, sym, ap, ◌∙◌, subst, Contains, Option, Some, IfSome, arith}
 use Rattle.std.specs.Prelude.{◌==◌}
+use Rattle.std.specs.Option.{MatchOption}
 use Rattle.std.specs.Str.{NoCharPasses}
 use Rattle.std.specs.Str.Pattern.{SplitsAroundMatch, RFindsChar}
 use Rattle.std.specs.declared.alloc.Global.{Global}
@@ -8,7 +9,7 @@ use Rattle.std.proofs.lemmas.List.{take-append-drop, get_or_default, reverse-app
 use Rattle.std.proofs.lemmas.Str.Pattern.{NoCharPasses-char}
 use Rattle.host_core.specs.Tree.{IsBelow}
 use Rattle.host_files.specs.Directories.{IsDirectoryOf}
-use Rattle.host_files.specs.Places.{place_of}
+use Rattle.host_files.specs.Places.{IsEntry, place_of}
 use Rattle.host_files.specs.Shown.{sync_calls}
 use Rattle.host_files.specs.SystemCalls.{changes_in}
 use Rattle.host_files.specs.declared.trace.SystemCall.TheVariants.{SyncDirectory}
@@ -32,6 +33,17 @@ directory_found path front back h = inl (
   around path front back h,
   no_byte (drop h.1 path) h.2.0,
 )
+
+-- the directory of a place and the name there
+entry_found : (place front back : List ℕ) → SplitsAroundMatch (RFindsChar 47) place front back → IsEntry place front back
+unfolding lib.Utf8.encode
+entry_found place front back h =
+    (subst (λ (b : List ℕ). place ≡ front ++ 47 ∷ b) (sym h.4) (around place front back h), subst (λ (b : List ℕ). Contains b 47 → ⊥) (sym h.4) (no_byte (drop h.1 place) h.2.0))
+
+pub entry_split : {T : Type 0} (front back : T → List ℕ) (place : List ℕ) (none : Type 0) (found : Option T) → MatchOption found none (λ x. SplitsAroundMatch (RFindsChar 47) place (front x) (back x))
+    → IfSome found (λ x. IsEntry place (front x) (back x))
+entry_split front back place none None is = tt
+entry_split front back place none (Some x) is = entry_found place (front x) (back x) is
 
 pub directory_of_root : (path : List ℕ) → RFindsChar 47 path None → IsDirectoryOf path []
 directory_of_root path none = inr (no_byte path none, refl)

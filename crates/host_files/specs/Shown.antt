@@ -1,8 +1,8 @@
 -- Which calls of the system stand behind a call of the host and its answer, the newest first.
-use Rattle.std.specs.Prelude.{◌≡◌, ◌≢◌, ◌⊎◌, ℕ, ℤ, Bool, true, false, List, [], ◌∷◌, ◌++◌, Option, Some, None, Result, Ok, Err, String, string_bytes, map, reverse, codes, Contains}
+use Rattle.std.specs.Prelude.{◌≡◌, ◌≢◌, ◌⊎◌, ℕ, ℤ, Bool, true, false, ◌&&◌, bit_and, cond, List, [], ◌∷◌, ◌++◌, Option, Some, None, Result, Ok, Err, String, string_bytes, map, reverse, codes, Contains}
 use Rattle.std.specs.BTreeSet.{BTreeSet}
 use Rattle.std.specs.List.{All}
-use Rattle.std.specs.Fs.{file_type, IsFile, IsSymlink}
+use Rattle.std.specs.Fs.{file_type, IsFile}
 use Rattle.std.specs.declared.alloc.Global.{Global}
 use Rattle.std.specs.declared.fs.Metadata.{Metadata}
 use Rattle.std.specs.declared.process.Command.{Command}
@@ -19,8 +19,8 @@ use Rattle.host_core.specs.declared.node.Node.{Node}
 use Rattle.host_core.specs.declared.node.Node.TheVariants.{File, Dir, Link}
 use Rattle.host_files.specs.Commands.{outcome_of}
 use Rattle.host_files.specs.Directories.{HasDirectoryOf}
-use Rattle.host_files.specs.Entries.{IsNodeOf, IsKindOf}
-use Rattle.host_files.specs.Places.{place_of, place_in}
+use Rattle.host_files.specs.Entries.{HasNoBytes, IsNodeOf, IsKindOf, is_access, is_plain}
+use Rattle.host_files.specs.Places.{place_of, place_in, IsEntry}
 use Rattle.host_files.specs.Remembered.{IsNew}
 use Rattle.host_files.specs.SystemCalls.{changes_in, Looks, start_call}
 use Rattle.host_files.specs.Unsynced.{IsListed, is_readable}
@@ -51,13 +51,26 @@ fill_calls owners bytes access modified = time_calls modified ++ (access_calls o
 abbrev pub write_calls : Bool → List ℕ → List ℕ → Access → Option Modified → List SystemCall
 write_calls owners place bytes access modified = fill_calls owners bytes access modified ++ ask.Create place ∷ []
 
--- what gives a new directory its access
-abbrev pub opened_calls : Bool → List ℕ → Access → List SystemCall
-opened_calls owners place access = access_calls owners access ++ ask.OpenMade place ∷ []
+-- The mode with which a directory is made: its own where it is root's, lends no rights of an owner and can be opened; otherwise only
+-- its owner may use it, so that nobody gets in before it has its access.
+abbrev pub first_mode : Bool → Access → ℕ
+first_mode owners access = cond (is_plain access && is_readable owners access) (bit_and access.mode 0o1777) 0o700
+
+-- what gives a directory its access that was seen with this one: nothing where that is it
+abbrev pub amending_calls : Bool → Access → (seen : Access) → List SystemCall
+amending_calls owners access seen = cond (is_access seen access) [] (access_calls owners access)
+
+-- what opens a new directory and gives it its access
+abbrev pub opened_calls : Bool → List ℕ → Access → (seen : Access) → List SystemCall
+opened_calls owners place access seen = amending_calls owners access seen ++ ask.SeenMade seen ∷ ask.OpenMade place ∷ []
+
+-- what makes it
+abbrev pub first_call : Bool → List ℕ → Access → SystemCall
+first_call owners place access = ask.MakeDirectory place (first_mode owners access)
 
 -- what makes a directory where nothing stands
-abbrev pub directory_calls : Bool → List ℕ → Access → List SystemCall
-directory_calls owners place access = opened_calls owners place access ++ ask.MakeDirectory place ∷ []
+abbrev pub directory_calls : Bool → List ℕ → Access → (seen : Access) → List SystemCall
+directory_calls owners place access seen = opened_calls owners place access seen ++ first_call owners place access ∷ []
 
 -- of some changes more the first were made
 abbrev pub AddsFirst : List SystemCall → List SystemCall → List SystemCall → Type 0
@@ -83,10 +96,10 @@ abbrev pub HasRenamed : List ℕ → List ℕ → List SystemCall → Type 0
 HasRenamed from to made = (changes_in made ≡ ask.Rename from to ∷ [])
     ⊎ ((from ≢ to) × ((mode : ℕ) × ((before : List SystemCall) × (changes_in before ≡ []) × (made ≡ ask.Unlink from ∷ ask.Look to (Some mode) ∷ before))))
 
--- a sync that was done: of a file, of the file that was made last, or of a link, of which nothing is to be brought to the disk
+-- a sync that was done: of a file, of the file that was made last, or of what has no bytes that are to be brought to the disk
 abbrev pub HasSynced : List ℕ → List SystemCall → Type 0
 HasSynced place made =
-    LooksAt (λ found. IsSymlink (file_type found)) place [] made
+    LooksAt HasNoBytes place [] made
     ⊎ ((looked : List SystemCall) × LooksAt (λ found. IsFile (file_type found)) place [] looked × (made ≡ ask.SyncFile place ∷ looked))
     ⊎ (made ≡ ask.SyncMade ∷ [])
 
@@ -195,6 +208,14 @@ IsSure front earlier asked.Barrier made = Unit {0}
 IsSure front earlier asked.SyncAll made = Unit {0}
 IsSure front earlier asked.SyncRoot made = Unit {0}
 
+-- what stands at a place was taken away from the directory that holds it, which was open
+abbrev pub IsTakenFrom : (taking : List ℕ → List ℕ → SystemCall) → (place : List ℕ) → List SystemCall → Type 0
+IsTakenFrom taking place made = (directory name : List ℕ) × IsEntry place directory name × (made ≡ taking directory name ∷ [])
+
+-- at most that was asked for
+abbrev pub IsTaking : (taking : List ℕ → List ℕ → SystemCall) → (place : List ℕ) → List SystemCall → Type 0
+IsTaking taking place made = (made ≡ []) ⊎ IsTakenFrom taking place made
+
 module _ (front : List ℕ) (owners : Bool) where
   -- the changes of a step
   abbrev pub IsChanging : Asked → List SystemCall → Type 0
@@ -202,9 +223,9 @@ module _ (front : List ℕ) (owners : Bool) where
   IsChanging (asked.Write p (Dir access)) made = ⊥
   IsChanging (asked.Write p (Link target)) made = ⊥
   IsChanging (asked.Move a b) made = IsRenaming (place_of front a) (place_of front b) made
-  IsChanging (asked.Take p) made = made ≡ ask.Unlink (place_of front p) ∷ []
-  IsChanging (asked.MakeDir p access) made = made ≡ directory_calls owners (place_of front p) access
-  IsChanging (asked.RemoveDir p) made = made ≡ ask.RemoveDirectory (place_of front p) ∷ []
+  IsChanging (asked.Take p) made = IsTakenFrom ask.UnlinkAt (place_of front p) made
+  IsChanging (asked.MakeDir p access) made = (seen : Access) × (made ≡ directory_calls owners (place_of front p) access seen)
+  IsChanging (asked.RemoveDir p) made = IsTakenFrom ask.RemoveDirectoryAt (place_of front p) made
   IsChanging (asked.HardLink a b) made = made ≡ ask.Link (place_of front a) (place_of front b) ∷ []
   IsChanging (asked.MakeLink p target) made = made ≡ ask.MakeLink target (place_of front p) ∷ []
   IsChanging (asked.Sync p) made = made ≡ []
@@ -249,10 +270,11 @@ module _ (front : List ℕ) (owners : Bool) where
   IsBegunBy (asked.Write p (Dir access)) made = ⊥
   IsBegunBy (asked.Write p (Link target)) made = ⊥
   IsBegunBy (asked.Move a b) made = IsBegun (IsChanging (asked.Move a b)) made
-  IsBegunBy (asked.Take p) made = IsBegun (IsChanging (asked.Take p)) made
+  IsBegunBy (asked.Take p) made = IsTaking ask.UnlinkAt (place_of front p) (changes_in made)
   IsBegunBy (asked.MakeDir p access) made =
-      IsUnmade (ask.MakeDirectory (place_of front p)) (ask.RemoveDirectory (place_of front p)) (directory_calls owners (place_of front p) access) made
-  IsBegunBy (asked.RemoveDir p) made = IsBegun (IsChanging (asked.RemoveDir p)) made
+      (seen : Access)
+      × IsUnmade (first_call owners (place_of front p) access) (ask.RemoveDirectory (place_of front p)) (directory_calls owners (place_of front p) access seen) made
+  IsBegunBy (asked.RemoveDir p) made = IsTaking ask.RemoveDirectoryAt (place_of front p) (changes_in made)
   IsBegunBy (asked.HardLink a b) made = IsBegun (IsChanging (asked.HardLink a b)) made
   IsBegunBy (asked.MakeLink p target) made = IsBegun (IsChanging (asked.MakeLink p target)) made
   IsBegunBy (asked.Sync p) made = IsBegun (IsChanging (asked.Sync p)) made
@@ -268,10 +290,11 @@ module _ (front : List ℕ) (owners : Bool) where
   IsDeclinedBy (asked.Write p (Dir access)) made = ⊥
   IsDeclinedBy (asked.Write p (Link target)) made = ⊥
   IsDeclinedBy (asked.Move a b) made = IsAsked (IsChanging (asked.Move a b)) made
-  IsDeclinedBy (asked.Take p) made = IsAsked (IsChanging (asked.Take p)) made
+  IsDeclinedBy (asked.Take p) made = IsTaking ask.UnlinkAt (place_of front p) (changes_in made)
   IsDeclinedBy (asked.MakeDir p access) made =
-      IsNotMade (ask.MakeDirectory (place_of front p)) (ask.RemoveDirectory (place_of front p)) (directory_calls owners (place_of front p) access) made
-  IsDeclinedBy (asked.RemoveDir p) made = IsAsked (IsChanging (asked.RemoveDir p)) made
+      (seen : Access)
+      × IsNotMade (first_call owners (place_of front p) access) (ask.RemoveDirectory (place_of front p)) (directory_calls owners (place_of front p) access seen) made
+  IsDeclinedBy (asked.RemoveDir p) made = IsTaking ask.RemoveDirectoryAt (place_of front p) (changes_in made)
   IsDeclinedBy (asked.HardLink a b) made = IsAsked (IsChanging (asked.HardLink a b)) made
   IsDeclinedBy (asked.MakeLink p target) made = IsAsked (IsChanging (asked.MakeLink p target)) made
   IsDeclinedBy (asked.Sync p) made = IsAsked (IsChanging (asked.Sync p)) made

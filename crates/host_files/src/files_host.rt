@@ -24,6 +24,7 @@ use host_core::{
     Access, Call, Host, HostFault, Keep, Kind, Listing, Node, Outcome, Places, RootPath,
 };
 use std::fs;
+use std::fs::File;
 use std::marker::PhantomData;
 use texts::Text;
 
@@ -126,6 +127,21 @@ impl<D: Disk> FilesHost<D> {
         ensures { self.new.told ≡ self.old.told }
     {
         self.system.streams = streams;
+    }
+
+    /// That it is a package's tree: what is none of a file, a directory and a link is a fault of the device there. In
+    /// any other root it counts as a file without bytes.
+    pub fn set_tree(&mut self)
+        ensures { self.new.told ≡ self.old.told }
+    {
+        self.root.tree = true;
+    }
+
+    /// What scripts read in place of `/dev/null` from now on. They have it open as long as they run.
+    pub fn set_script_input(&mut self, input: File)
+        ensures { self.new.told ≡ self.old.told }
+    {
+        self.system.input = Some(input);
     }
 
     /// The architecture that scripts are told from now on, if it is known.
@@ -277,7 +293,7 @@ impl<D: Disk> Host for FilesHost<D> {
 
     fn node(&mut self, path: &RootPath) -> Result<Option<Node>, HostFault> {
         self.told.guard()?;
-        self.system.begin();
+        self.system.begin_open();
         match node_at(&mut self.system, &self.root, path) {
             Ok(node) => {
                 self.note(&Note::Looked(path, &node));
@@ -289,7 +305,7 @@ impl<D: Disk> Host for FilesHost<D> {
 
     fn kind(&mut self, path: &RootPath) -> Result<Option<Kind>, HostFault> {
         self.told.guard()?;
-        self.system.begin();
+        self.system.begin_open();
         match kind_at(&mut self.system, &self.root, path) {
             Ok(kind) => {
                 self.note(&Note::Seen(path, kind));
@@ -301,7 +317,7 @@ impl<D: Disk> Host for FilesHost<D> {
 
     fn list(&mut self, path: &RootPath) -> Result<Listing, HostFault> {
         self.told.guard()?;
-        self.system.begin();
+        self.system.begin_open();
         match listing_at(&self.system.rt, &self.root, path) {
             Ok(listing) => {
                 self.note(&Note::Listed(path, &listing));
@@ -402,7 +418,7 @@ impl<D: Disk> Host for FilesHost<D> {
 
     fn remove(&mut self, path: &RootPath) -> Result<(), HostFault> {
         self.told.guard()?;
-        self.system.begin();
+        self.system.begin_open();
         self.changed.add(path)?;
         let removed = unlink(&mut self.system, &self.root, path);
         let settled = self.settle(Asks::Take(path), removed);
@@ -412,7 +428,7 @@ impl<D: Disk> Host for FilesHost<D> {
 
     fn remove_dir(&mut self, path: &RootPath) -> Result<(), HostFault> {
         self.told.guard()?;
-        self.system.begin();
+        self.system.begin_open();
         self.changed.add(path)?;
         let removed = unlink_directory(&mut self.system, &self.root, path);
         self.settle(Asks::RemoveDir(path), removed)

@@ -11,9 +11,9 @@
 //! (`command_of`), that a fault is counted and what a person is told of it is kept (`failure`),
 //! that what is missing is never told as a fault, that names are sorted, that a file has at most 1
 //! GiB, that a barrier syncs the directories in which names changed, and that what was made gets its
-//! owner, mode and time through what is open of it. A file that was written is listed until it is on
-//! the disk, and a sync of all files syncs each that is listed, or all of its file system
-//! (`AreOnDisk`).
+//! owner, mode and time through what is open of it, and what goes is taken from its directory, which
+//! is open (`IsTakenFrom`). A file that was written is listed until it is on the disk, and a sync of
+//! all files syncs each that is listed, or all of its file system (`AreOnDisk`).
 //!
 //! What it doesn't look at again is tied to the record of its calls: the directory that it
 //! remembers is known by them (`IsKnown`: seen, or above what was seen or made, and no script,
@@ -31,6 +31,7 @@ mod errors;
 mod failure;
 mod files_host;
 mod looking;
+mod opened;
 mod record;
 mod remembered;
 mod root;
@@ -40,6 +41,7 @@ mod syncing;
 mod system;
 mod told;
 mod trace;
+mod way;
 mod written;
 
 pub use disk_model::{Disk, Unknown};

@@ -9,6 +9,7 @@ use crate::disk::stat;
 use crate::root::Root;
 use crate::system::{ScriptStreams, System};
 use host_core::{Call, HostFault, Outcome, RootPath};
+use std::fs::File;
 use std::io::{Error, ErrorKind};
 use std::os::fd::AsFd;
 use std::process::{Command, ExitStatus, Stdio};
@@ -57,10 +58,18 @@ fn empty_input(rt: &HostRuntime) -> io::Result<Stdio> {
     Ok(Stdio::from(reader))
 }
 
-// A copy of one of the program's streams, so that the script has it open also where the program itself had to open it,
+// A copy of a file or of one of the program's streams, so that the script has it open also where the program itself had to open it,
 // which a start would close.
 fn copy_of<S: AsFd>(stream: &S) -> io::Result<Stdio> {
     Ok(Stdio::from(stream.as_fd().try_clone_to_owned()?))
+}
+
+// What the script reads.
+fn input_of(rt: &HostRuntime, input: &Option<File>) -> io::Result<Stdio> {
+    match input {
+        Some(file) => copy_of(file),
+        None => empty_input(rt),
+    }
 }
 
 // Where the script's standard output goes.
@@ -71,15 +80,16 @@ fn output_of(rt: &HostRuntime, streams: ScriptStreams) -> io::Result<Stdio> {
     }
 }
 
-// The script reads nothing, and writes where the program does. All are opened here: that one is missing would read as a
-// missing script.
-fn set_streams(rt: &HostRuntime, streams: ScriptStreams, command: &mut Command) -> io::Result<()>
+// The script reads nothing, or what is given, and writes where the program does. All are opened here: that one is missing
+// would read as a missing script.
+fn set_streams(system: &System, command: &mut Command) -> io::Result<()>
     ensures call { SameProgramAndArgs command.old command.new }
     ensures env { SameEnv command.old command.new }
     ensures dir { SameDir command.old command.new }
 {
-    command.stdin(empty_input(rt)?);
-    command.stdout(output_of(rt, streams)?);
+    let rt = &system.rt;
+    command.stdin(input_of(rt, &system.input)?);
+    command.stdout(output_of(rt, system.streams)?);
     command.stderr(copy_of(&rt.stderr())?);
     Ok(())
 }
@@ -93,7 +103,7 @@ fn prepare(system: &System, root: &Root, at: &RootPath, command: &mut Command) -
     if !can_start(&system.rt, root, at)? {
         return Ok(false);
     }
-    set_streams(&system.rt, system.streams, command)?;
+    set_streams(system, command)?;
     Ok(true)
 }
 

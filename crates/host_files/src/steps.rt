@@ -3,18 +3,21 @@
 ghost use Rattle.std.specs.Prelude.{◌≡◌, ◌⊎◌, ◌∷◌, ◌++◌, [], true, IfErr, IfOk, IsSome, IsTrue, OnErr, OnOk, Some, string_bytes};
 ghost use Rattle.host_core.specs.World.{IsFile};
 ghost use Rattle.host_core.specs.declared.fault.HostFault.TheVariants.{Device};
-ghost use Rattle.host_files.specs.Entries.{IsAccessOf, IsSettable};
+ghost use Rattle.host_core.specs.declared.node.Access.{Access as AnAccess};
+ghost use Rattle.host_files.specs.Entries.{IsAccessOf, IsSettable, is_access, is_plain};
 ghost use Rattle.host_files.specs.Faults.{IsOfStep, IsUndeclined};
-ghost use Rattle.host_files.specs.Places.{place_of};
-ghost use Rattle.host_files.specs.Shown.{Adds, IsLookedAt, IsMakingBy, IsRenamedBy, IsStepBy, IsSyncedUnread, IsSyncedWhole, access_calls, directory_calls, fill_calls, opened_calls, time_calls, write_calls};
+ghost use Rattle.host_files.specs.Places.{place_of, IsEntry};
+ghost use Rattle.host_files.specs.Shown.{Adds, IsLookedAt, IsMakingBy, IsRenamedBy, IsStepBy, IsSyncedUnread, IsSyncedWhole, access_calls, amending_calls, directory_calls, fill_calls, first_call, first_mode, opened_calls, time_calls, write_calls};
 ghost use Rattle.host_files.specs.SystemCalls.{changes_in, Looks};
 ghost use Rattle.host_files.specs.declared.record.Asked.TheVariants.{HardLink, MakeDir, MakeLink, Move, RemoveDir, Take, Write};
-ghost use Rattle.host_files.specs.declared.trace.SystemCall.TheVariants.{Append, Create, MakeDirectory, RemoveDirectory, Unlink};
+ghost use Rattle.host_files.specs.declared.trace.SystemCall.TheVariants.{Append, Create, RemoveDirectory, Unlink};
 
 use crate::disk::access_of;
+use crate::opened::Opened;
 use crate::root::Root;
 use crate::syncing::NO_FILE;
 use crate::system::System;
+use crate::way::split_place;
 use crate::written::is_readable;
 use host_core::{Access, HostFault, Modified, Node, RootPath};
 use std::fs::{File, Metadata};
@@ -37,12 +40,25 @@ pub(crate) fn place_of_step(
     }
 }
 
+// Whether it is root's, and lends no rights of an owner or group.
+fn is_plain(access: Access) -> bool
+    ensures { result ≡ is_plain access }
+{
+    access.user == 0 && access.group == 0 && access.mode & 0o6000 == 0
+}
+
+fn is_access(seen: Access, wanted: Access) -> bool
+    ensures { result ≡ is_access seen wanted }
+{
+    seen.mode == wanted.mode && seen.user == wanted.user && seen.group == wanted.group
+}
+
 // Where owners can't be set none but 0 is, and no bit that lends an owner's rights.
 fn check_settable(owners: bool, access: Access) -> Result<(), HostFault>
     ensures ok { OnOk result (IsSettable owners access) }
     ensures err { IfErr result (λ fault. fault ≡ Device) }
 {
-    if owners || (access.user == 0 && access.group == 0 && access.mode & 0o6000 == 0) {
+    if owners || is_plain(access) {
         Ok(())
     } else {
         Err(HostFault::Device)
@@ -178,20 +194,49 @@ fn write_bytes(
     }
 }
 
-// Gives the directory that was made last its access.
+// The mode with which a directory is made.
+fn first_mode(owners: bool, access: Access) -> u16
+    ensures { result ≡ first_mode owners access }
+{
+    if is_plain(access) && is_readable(owners, access) {
+        access.mode & 0o1777
+    } else {
+        0o700
+    }
+}
+
+// Gives the directory that was made last its access, where it was seen with another.
+fn amend_access(
+    system: &mut System,
+    owners: bool,
+    made: &File,
+    seen: Access,
+    access: Access,
+) -> Result<(), HostFault>
+    ensures made { Adds (amending_calls owners access seen) system.old.trace.calls
+        system.new.trace.calls result }
+    ensures err { IfErr result IsOfStep }
+{
+    if is_access(seen, access) {
+        return Ok(());
+    }
+    set_access(system, owners, made, access)?;
+    Ok(())
+}
+
+// Opens the directory that was made last, and gives it its access.
 fn open_directory(
     system: &mut System,
     owners: bool,
     place: &str,
     access: Access,
 ) -> Result<(), HostFault>
-    ensures made { Adds (opened_calls owners place.now access) system.old.trace.calls
-        system.new.trace.calls result }
+    ensures made { (seen : AnAccess) × Adds (opened_calls owners place.now access seen)
+        system.old.trace.calls system.new.trace.calls result }
     ensures err { IfErr result IsOfStep }
 {
-    let made = system.open_made(place)?;
-    set_access(system, owners, &made, access)?;
-    Ok(())
+    let (made, seen) = system.open_made(owners, place)?;
+    amend_access(system, owners, &made, seen, access)
 }
 
 fn create_directory(
@@ -201,11 +246,12 @@ fn create_directory(
     access: Access,
 ) -> Result<(), HostFault>
     requires begun { system.old.trace.calls ≡ [] }
-    ensures { IsMakingBy (MakeDirectory place.now) (RemoveDirectory place.now) (directory_calls
-        owners place.now access) system.new.trace.calls result }
+    ensures { (seen : AnAccess) × IsMakingBy (first_call owners place.now access)
+        (RemoveDirectory place.now) (directory_calls owners place.now access seen)
+        system.new.trace.calls result }
 {
     check_settable(owners, access)?;
-    system.make_directory(place)?;
+    system.make_directory(place, first_mode(owners, access))?;
     match open_directory(system, owners, place, access) {
         Ok(()) => Ok(()),
         Err(HostFault::Declined) => Err(system.take_away_directory(place)),
@@ -357,6 +403,22 @@ pub(crate) fn hard_link(
     system.link(from.as_str(), to.as_str())
 }
 
+// The directory in which the name of a place stands, and that name.
+fn entry_of<'a>(
+    system: &mut System,
+    root: &Root,
+    place: &'a str,
+) -> Result<(Opened, &'a str), HostFault>
+    ensures entry { IfOk result (λ entry. IsEntry place.now (string_bytes entry.0.place)
+        entry.1.now) }
+    ensures same { system.new.trace ≡ system.old.trace }
+{
+    let Some((above, name)) = split_place(place) else {
+        return Err(system.refuse("it isn't below the root"));
+    };
+    Ok((system.open_directory(root, above)?, name))
+}
+
 /// Removes a file or link.
 pub(crate) fn unlink(system: &mut System, root: &Root, path: &RootPath) -> Result<(), HostFault>
     requires begun { system.old.trace.calls ≡ [] }
@@ -364,7 +426,8 @@ pub(crate) fn unlink(system: &mut System, root: &Root, path: &RootPath) -> Resul
         system.new.trace.calls result }
 {
     let place = place_of_step(system, root, path)?;
-    system.unlink(place.as_str())
+    let (opened, name) = entry_of(system, root, place.as_str())?;
+    system.unlink_at(opened, name)
 }
 
 /// Removes a directory that has no entries.
@@ -378,5 +441,6 @@ pub(crate) fn unlink_directory(
         system.new.trace.calls result }
 {
     let place = place_of_step(system, root, path)?;
-    system.remove_directory(place.as_str())
+    let (opened, name) = entry_of(system, root, place.as_str())?;
+    system.remove_directory_at(opened, name)
 }

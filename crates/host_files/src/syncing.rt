@@ -1,5 +1,6 @@
 // What is brought to the disk: one file, all that were written, the names that changed, or all of the root.
 ghost use Rattle.std.specs.Prelude.{◌≡◌, ◌⊎◌, ◌++◌, [], true, IfErr, IfOk, OnErr, OnOk, Some, string_bytes};
+ghost use Rattle.host_files.specs.Entries.{HasNoBytes};
 ghost use Rattle.host_files.specs.Faults.{IsUndeclined};
 ghost use Rattle.host_files.specs.Places.{place_of};
 ghost use Rattle.host_files.specs.Shown.{AreOnDisk, administration_calls, IsLookedAt, IsRootBrought, IsStepBy, IsSyncedBy, sync_calls};
@@ -12,12 +13,19 @@ use crate::steps::place_of_step;
 use crate::system::System;
 use crate::written::{Unsynced, Written};
 use host_core::{HostFault, RootPath};
+use std::fs::Metadata;
 
 // what a person is told where a step needs a file or a link
 pub(crate) const NO_FILE: &str = "no file or link stands there";
 
 // from so many files on all of their file systems are brought to the disk
 const MANY: usize = 64;
+
+fn has_no_bytes(found: &Metadata) -> bool
+    ensures { result ≡ true → HasNoBytes found.now }
+{
+    !found.is_dir() && !found.is_file()
+}
 
 // Looks what stands at a place, and brings it to the disk.
 fn flush_at(system: &mut System, place: &str) -> Result<(), HostFault>
@@ -26,13 +34,13 @@ fn flush_at(system: &mut System, place: &str) -> Result<(), HostFault>
     ensures sure { OnOk result (IsLookedAt place.now system.new.trace.calls) }
 {
     match system.look(place)? {
-        Some(found) if found.is_symlink() => Ok(()),
+        Some(found) if has_no_bytes(&found) => Ok(()),
         Some(found) if found.is_file() => system.sync_file(place),
         _ => Err(system.refuse(NO_FILE)),
     }
 }
 
-/// Brings the bytes of a file to the disk; of a link nothing has to be brought there.
+/// Brings the bytes of a file to the disk; of what has none nothing has to be brought there.
 pub(crate) fn flush(system: &mut System, root: &Root, path: &RootPath) -> Result<(), HostFault>
     requires begun { system.old.trace.calls ≡ [] }
     ensures step { IsStepBy (string_bytes root.now.front) root.now.owners (Sync path.now)

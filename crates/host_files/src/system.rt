@@ -1,22 +1,24 @@
 // The calls of the operating system that change something, start a program or look at a path. Each function makes one
 // and keeps it in the trace; an error of one that a step makes is one by which it was declined, or a fault of the device.
-ghost use Rattle.std.specs.Prelude.{◌≡◌, ◌∷◌, [], ℕ, List, Err, None, true, false, is_some, IfErr, IfOk, OnOk, OnErr, string_bytes};
+ghost use Rattle.std.specs.Prelude.{◌≡◌, ◌∷◌, [], ℕ, List, Err, None, true, false, is_some, IfErr, IfOk, IfSome, OnOk, OnErr, string_bytes};
 ghost use Rattle.std.specs.IoError.{raw_os_error};
 ghost use Rattle.std.specs.Process.{exit_code};
 ghost use Rattle.host_core.specs.declared.fault.HostFault.TheVariants.{Declined, Device, NoMemory};
 ghost use Rattle.host_files.specs.Faults.{IsFaultOf, IsOfStep, IsUndeclined, step_fault_of};
-ghost use Rattle.host_files.specs.declared.trace.SystemCall.TheVariants.{Create, Append, MakeDirectory, OpenMade, SetOwnerMade, SetModeMade, SetTimeMade, Rename, Link, MakeLink, Unlink, RemoveDirectory, Gone, SyncFile, SyncMade, SyncDirectory, SyncDevice, SyncSystem, End};
+ghost use Rattle.host_files.specs.declared.trace.SystemCall.TheVariants.{Create, Append, MakeDirectory, OpenMade, SeenMade, SetOwnerMade, SetModeMade, SetTimeMade, Rename, Link, MakeLink, Unlink, RemoveDirectory, Gone, SyncFile, SyncMade, SyncDirectory, SyncDevice, SyncSystem, End, UnlinkAt, RemoveDirectoryAt};
 ghost use Rattle.host_files.specs.Shown.{IsNotBegun};
 ghost use Rattle.host_files.specs.SystemCalls.{changes_in, Looks, start_call};
 ghost use Rattle.host_files.specs.Places.{place_of};
 
 use crate::changed::directory_of;
-use crate::disk::{fault_of, stat};
+use crate::disk::{access_of, fault_of, stat};
 use crate::errors::{is_declined, is_start_error};
+use crate::opened::Opened;
 use crate::root::Root;
 use crate::trace::{Request, Trace};
+use crate::way::open_by_way;
 use crate::written::{Identity, Unsynced};
-use host_core::{HostFault, Modified};
+use host_core::{Access, HostFault, Modified};
 use libc::types::timespec;
 use std::fs::{DirBuilder, File, Metadata, OpenOptions, Permissions};
 use std::io::{Error, Write};
@@ -42,12 +44,16 @@ pub(crate) struct System {
     pub(crate) rt: HostRuntime,
     pub(crate) trace: Trace,
     pub(crate) streams: ScriptStreams,
+    /// what scripts read, if it is given
+    pub(crate) input: Option<File>,
     /// of the package of the next script, where it is known
     pub(crate) architecture: Option<String>,
     // the file that was made last, while it is open
     made: Option<File>,
     // of the file that was made last
     identity: Identity,
+    // the directory from which something was taken away last, until another step is made
+    opened: Option<Opened>,
     // what a person is told of the failure of the call that was begun
     error: Option<Error>,
     // the place of that failure, where it isn't the one that was asked for
@@ -76,14 +82,17 @@ fn create_new(rt: &HostRuntime, place: &str) -> io::Result<File> {
 
 // Opens the directory that stands at a place, if it is the one that a look just told: a link that took its place in
 // between is followed, so that what is opened is compared.
-fn open_seen(rt: &HostRuntime, place: &str) -> io::Result<Option<File>> {
+fn open_seen(rt: &HostRuntime, place: &str) -> io::Result<Option<(File, Metadata)>> {
     let seen = fs::symlink_metadata(rt, place)?;
     if !seen.is_dir() {
         return Ok(None);
     }
     let opened = fs::open(rt, place)?;
     let found = opened.metadata()?;
-    Ok((identity_of(&seen) == identity_of(&found)).then_some(opened))
+    if identity_of(&seen) != identity_of(&found) {
+        return Ok(None);
+    }
+    Ok(Some((opened, found)))
 }
 
 fn identity_of(found: &Metadata) -> Identity {
@@ -157,12 +166,14 @@ impl System {
             rt,
             trace: Trace::new(),
             streams: ScriptStreams::Own,
+            input: None,
             architecture: None,
             made: None,
             identity: Identity {
                 device: 0,
                 inode: 0,
             },
+            opened: None,
             error: None,
             error_place: None,
         }
@@ -170,6 +181,14 @@ impl System {
 
     /// Begins the trace of a call.
     pub(crate) fn begin(&mut self)
+        ensures { self.new.trace.calls ≡ [] }
+    {
+        self.opened = None;
+        self.begin_open();
+    }
+
+    /// The same of a call that looks at something, or takes something away: the directory that is open stays open.
+    pub(crate) fn begin_open(&mut self)
         ensures { self.new.trace.calls ≡ [] }
     {
         self.trace = Trace::new();
@@ -327,23 +346,36 @@ impl System {
         self.identity
     }
 
-    pub(crate) fn make_directory(&mut self, place: &str) -> Result<(), HostFault>
-        ensures made { self.new.trace.calls ≡ MakeDirectory place.now ∷ self.old.trace.calls }
+    pub(crate) fn make_directory(&mut self, place: &str, mode: u16) -> Result<(), HostFault>
+        ensures made { self.new.trace.calls ≡ MakeDirectory place.now mode ∷ self.old.trace.calls }
         ensures err { IfErr result IsOfStep }
     {
-        self.trace = self.trace.with(&Request::MakeDirectory(place));
-        let answer = DirBuilder::new().mode(0o700).create(&self.rt, place);
+        self.trace = self.trace.with(&Request::MakeDirectory(place, mode));
+        let answer = DirBuilder::new()
+            .mode(u32::from(mode))
+            .create(&self.rt, place);
         self.ended(answer)
     }
 
-    /// The directory that was made last, which is open; another that stands there is a fault.
-    pub(crate) fn open_made(&mut self, place: &str) -> Result<File, HostFault>
-        ensures made { self.new.trace.calls ≡ OpenMade place.now ∷ self.old.trace.calls }
+    /// The directory that was made last, which is open, with the access that it has; another that stands there is a fault.
+    pub(crate) fn open_made(
+        &mut self,
+        owners: bool,
+        place: &str,
+    ) -> Result<(File, Access), HostFault>
+        ensures made { IfOk result (λ opened. self.new.trace.calls ≡ SeenMade opened.1
+            ∷ OpenMade place.now ∷ self.old.trace.calls) }
+        ensures not { OnErr result (self.new.trace.calls ≡ OpenMade place.now
+            ∷ self.old.trace.calls) }
         ensures err { IfErr result IsOfStep }
     {
         self.trace = self.trace.with(&Request::OpenMade(place));
         match open_seen(&self.rt, place) {
-            Ok(Some(directory)) => Ok(directory),
+            Ok(Some((directory, found))) => {
+                let access = access_of(owners, &found);
+                self.trace = self.trace.with(&Request::SeenMade(access));
+                Ok((directory, access))
+            }
             Ok(None) => Err(self.refuse("what was made there is no longer there")),
             Err(error) => Err(self.step_fault(error)),
         }
@@ -392,6 +424,66 @@ impl System {
     {
         self.trace = self.trace.with(&Request::RemoveDirectory(place));
         let answer = fs::remove_dir(&self.rt, place);
+        self.ended(answer)
+    }
+
+    // The directory that is open, if it is that at a place.
+    fn take_opened(&mut self, place: &str) -> Option<Opened>
+        ensures place { IfSome result (λ o. string_bytes o.place ≡ place.now) }
+        ensures trace { self.new.trace ≡ self.old.trace }
+    {
+        let opened = self.opened.take()?;
+        (opened.place.as_str() == place).then_some(opened)
+    }
+
+    /// The directory at a place below the root, which is opened unless it is open.
+    pub(crate) fn open_directory(&mut self, root: &Root, place: &str) -> Result<Opened, HostFault>
+        ensures place { IfOk result (λ o. string_bytes o.place ≡ place.now) }
+        ensures trace { self.new.trace ≡ self.old.trace }
+    {
+        if let Some(opened) = self.take_opened(place) {
+            return Ok(opened);
+        }
+        match open_by_way(root, place) {
+            Ok(opened) => Ok(opened),
+            Err(error) => Err(self.opening_fault(error)),
+        }
+    }
+
+    // Why a directory can't be opened; want of this process's own memory is told.
+    fn opening_fault(&mut self, error: Error) -> HostFault
+        ensures trace { self.new.trace ≡ self.old.trace }
+    {
+        match fault_of(&error) {
+            HostFault::NoMemory => HostFault::NoMemory,
+            _ => self.step_fault(error),
+        }
+    }
+
+    /// What stands by that name in the directory that is open.
+    pub(crate) fn unlink_at(&mut self, opened: Opened, name: &str) -> Result<(), HostFault>
+        ensures made { self.new.trace.calls ≡ UnlinkAt (string_bytes opened.place) name.now ∷ self.old.trace.calls }
+        ensures err { IfErr result IsOfStep }
+    {
+        self.trace = self.trace.with(&Request::UnlinkAt(&opened, name));
+        let answer = opened.unlink(name);
+        self.opened = Some(opened);
+        self.ended(answer)
+    }
+
+    /// The same of a directory.
+    pub(crate) fn remove_directory_at(
+        &mut self,
+        opened: Opened,
+        name: &str,
+    ) -> Result<(), HostFault>
+        ensures made { self.new.trace.calls ≡ RemoveDirectoryAt (string_bytes opened.place) name.now
+            ∷ self.old.trace.calls }
+        ensures err { IfErr result IsOfStep }
+    {
+        self.trace = self.trace.with(&Request::RemoveDirectoryAt(&opened, name));
+        let answer = opened.remove_directory(name);
+        self.opened = Some(opened);
         self.ended(answer)
     }
 

@@ -3,7 +3,8 @@ ghost use Rattle.std.specs.Prelude.{◌≡◌, List, [], ◌∷◌};
 ghost use Rattle.std.specs.Borrow.{ftrue};
 ghost use Rattle.host_files.specs.declared.trace.SystemCall.{SystemCall};
 
-use host_core::Modified;
+use crate::opened::Opened;
+use host_core::{Access, Modified};
 use std::fs::Metadata;
 use std::marker::Model;
 use std::process::{Command, ExitStatus};
@@ -18,10 +19,12 @@ pub enum SystemCall {
     Create(Text),
     /// bytes at the end of the file that was made last
     Append(Bytes),
-    /// a directory where nothing stands, which only its owner may use
-    MakeDirectory(Text),
+    /// a directory where nothing stands, with this mode, of which the mask of this program takes bits
+    MakeDirectory(Text, u16),
     /// the directory that was made last is opened, which was just seen at that path
     OpenMade(Text),
+    /// what is open of it told that it has this access
+    SeenMade(Access),
     /// of the file or directory that was made last, by what is open of it
     SetOwnerMade(u32, u32),
     SetModeMade(u16),
@@ -33,6 +36,10 @@ pub enum SystemCall {
     MakeLink(Text, Text),
     Unlink(Text),
     RemoveDirectory(Text),
+    /// the entry of the latter name goes from the directory at the former place, which is open: the root's was opened,
+    /// and then each name from the directory above it, where no link is followed
+    UnlinkAt(Text, Text),
+    RemoveDirectoryAt(Text, Text),
     /// the call before this one was answered by no error
     Gone,
     SyncFile(Text),
@@ -56,8 +63,9 @@ pub(crate) enum Request<'a> {
     Look(&'a str, &'a Option<Metadata>),
     Create(&'a str),
     Append(&'a [u8]),
-    MakeDirectory(&'a str),
+    MakeDirectory(&'a str, u16),
     OpenMade(&'a str),
+    SeenMade(Access),
     SetOwnerMade(u32, u32),
     SetModeMade(u16),
     SetTimeMade(Modified),
@@ -66,6 +74,8 @@ pub(crate) enum Request<'a> {
     MakeLink(&'a str, &'a str),
     Unlink(&'a str),
     RemoveDirectory(&'a str),
+    UnlinkAt(&'a Opened, &'a str),
+    RemoveDirectoryAt(&'a Opened, &'a str),
     Gone,
     SyncFile(&'a str),
     SyncMade,

@@ -95,6 +95,7 @@ fn check(rt: &HostRuntime, lines: &str, row: &str) -> Result<(), Fail> {
     shell(rt, lines, directory)?;
     let tree = format!(in rt.alloc(); "{directory}/t")?;
     let mut host = FilesHost::open(*rt, tree.as_str())?;
+    host.set_tree();
     let answer = read(rt.alloc(), &mut host)?;
     let failed = host.faults() > 0;
     shell(rt, "chmod -R u+rwx .", directory)?;
