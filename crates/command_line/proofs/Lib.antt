@@ -5,3 +5,4 @@ mod Held
 mod Named
 mod Changed
 mod Helped
+mod Inquired

@@ -1,5 +1,5 @@
 -- Who owns the diversions that words ask for: the administrator, or a package by its name.
-use Rattle.std.proofs.Common.{◌≡◌, Bool, true, false, List, [], ◌∷◌, Option, Some, None, length, nat_le, if◌then◌else◌, codes, refl, subst}
+use Rattle.std.proofs.Common.{◌≡◌, ℕ, Bool, true, false, List, [], ◌∷◌, Option, Some, None, length, nat_le, if◌then◌else◌, codes, refl, subst}
 use Rattle.std.specs.Prelude.{option_map}
 use Rattle.std.specs.Option.{option_or}
 use Rattle.std.specs.Str.{bytes_eq}
@@ -13,6 +13,7 @@ use Rattle.command_words.specs.Unpacks.{unpacking_of}
 use Rattle.command_words.specs.Diversions.{owner_from, owner_of, undiverting_from, undiverting_of, with_target}
 use Rattle.command_words.specs.Given.{is_absolute, is_set}
 use Rattle.command_words.specs.Queries.{query_of}
+use Rattle.command_words.specs.Waits.{wait_of}
 use Rattle.command_words.specs.Topics.{has_help_flag, is_help_flag, topic_in, topic_of}
 use Rattle.command_words.specs.declared.diverting.Diverting.{Diverting}
 use Rattle.command_words.specs.declared.diverting.Undiverting.{Undiverting}
@@ -67,11 +68,14 @@ undivert_if : (b : Bool) (u : Undiverting) → is_owner (owner_in u.owner) ≡ t
 undivert_if true u named = named
 undivert_if false u named = tt
 
-undivert_named : (root : Option Text) (owner : Option (Option Text)) (rename : Bool) (path : Option Text) → OwnerNamed owner → UndivertNamed (undiverting_from root owner rename path)
-undivert_named None owner rename path named = tt
-undivert_named (Some root) None rename path named = tt
-undivert_named (Some root) (Some owner) rename None named = tt
-undivert_named (Some root) (Some owner) rename (Some path) named = undivert_if (is_absolute root) (record { root = root; owner = owner; rename = rename; path = path }) named
+undivert_named : (root : Option Text) (owner : Option (Option Text)) (rename : Bool) (path : Option Text) (wait : Option ℕ) → OwnerNamed owner
+    → UndivertNamed (undiverting_from root owner rename path wait)
+undivert_named None owner rename path wait named = tt
+undivert_named (Some root) None rename path wait named = tt
+undivert_named (Some root) (Some owner) rename None wait named = tt
+undivert_named (Some root) (Some owner) rename (Some path) None named = tt
+undivert_named (Some root) (Some owner) rename (Some path) (Some wait) named =
+    undivert_if (is_absolute root) (record { root = root; owner = owner; rename = rename; path = path; wait = wait }) named
 
 undivert_asked : (o : Option Undiverting) → UndivertNamed o → Named (option_map Undivert o)
 undivert_asked None named = tt
@@ -89,7 +93,7 @@ map_named f (Some x) named = named x
 
 by_named : (name : Text) (rows : List Row) → Named (asked_by name rows)
 by_named name rows =
-    let undivert = undivert_named (first_of (codes "root") rows) (owner_of rows) (is_set (first_of (codes "rename") rows)) (first_of (codes "PATH") rows) (owner_named (first_of (codes "package") rows) (is_set (first_of (codes "local") rows))) in
+    let undivert = undivert_named (first_of (codes "root") rows) (owner_of rows) (is_set (first_of (codes "rename") rows)) (first_of (codes "PATH") rows) (wait_of rows) (owner_named (first_of (codes "package") rows) (is_set (first_of (codes "local") rows))) in
     if_named (bytes_eq name (codes "compare-versions")) _ _ (map_named CompareVersions (comparison_of rows) (λ c. tt))
     (if_named (bytes_eq name (codes "configure")) _ _ (map_named Configure (configuring_of rows) (λ c. tt))
     (if_named (bytes_eq name (codes "divert")) _ _ (divert_asked (first_of (codes "divert") rows) (undiverting_of rows) undivert)

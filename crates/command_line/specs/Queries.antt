@@ -1,20 +1,20 @@
 -- What a question about an administration is answered with.
-use Rattle.std.specs.Prelude.{◌≡◌, ◌⊎◌, ℕ, List, [], ◌∷◌, ◌++◌, Option, Some, None, Result, Ok, Err, codes, if◌then◌else◌}
-use Rattle.host_core.specs.Host.{State}
+use Rattle.std.specs.Prelude.{◌≡◌, ◌⊎◌, ℕ, IsTrue, List, [], ◌∷◌, ◌++◌, Option, Some, None, Result, Ok, Err, codes, if◌then◌else◌}
+use Rattle.host_core.specs.Host.{NoFault, Reads, Silent, State}
 use Rattle.host_core.specs.Paths.{Path, is_path_text, path_of}
-use Rattle.command_line.specs.declared.fault.NotOpened.{NotOpened}
-use Rattle.diversions.specs.declared.entry.Diversion.{Diversion}
-use Rattle.file_lists.specs.declared.paths.PackageList.{PackageList}
-use Rattle.status_records.specs.declared.record.Record.{Record}
+use Rattle.host_core.specs.World.{World}
+use Rattle.administration.specs.declared.fault.AdministrationFault.{AdministrationFault}
+use Rattle.administration.specs.declared.fault.AdministrationFault.TheVariants as opening_faults
+use Rattle.opening.specs.Parts.{IsDamage}
+use Rattle.inquiries.specs.Read.{AreDiversions, AreFiles, IsAudit, IsFilesDamage, IsList, IsSearch, IsStatus, IsTruename, all_parts, diversions_parts, records_parts}
+use Rattle.dpkg_session.specs.Standing.{CountsRefusal}
 use Rattle.shown_lines.specs.Lines.{line}
-use Rattle.queries.specs.Files.{files_text, search_text}
-use Rattle.queries.specs.Places.{diversions_text, truename_text}
-use Rattle.queries.specs.Records.{audit_text, list_text, status_text}
 use Rattle.command_words.specs.declared.query.Query.{Query}
 use Rattle.command_words.specs.declared.query.Question.{Question}
 use Rattle.command_words.specs.declared.query.Question.TheVariants as question
-use Rattle.command_line.specs.Roots.{Around, Given, IsOpenedOn, IsRootFault, opening_answer}
+use Rattle.command_line.specs.Roots.{Around, Given, opening_answer}
 use Rattle.command_line.specs.declared.answer.Answer.{Answer}
+use Rattle.command_line.specs.declared.fault.NotOpened.TheVariants.{Opening}
 use Rattle.command_line.specs.declared.questions.Inquiry.{Inquiry}
 use Rattle.command_line.specs.declared.questions.Inquiry.TheVariants as inquiry
 
@@ -50,34 +50,60 @@ abbrev pub search_answer : List ℕ → Answer
 search_answer [] = record { output = []; error = []; status = 1 }
 search_answer (b ∷ rest) = text_answer (b ∷ rest)
 
--- the answer from the records, lists and diversions of an administration
-abbrev pub inquiry_answer : Inquiry → List Record → List PackageList → List Diversion → Answer
-inquiry_answer inquiry.Audit records lists entries = text_answer (audit_text records)
-inquiry_answer inquiry.Diversions records lists entries = text_answer (diversions_text entries)
-inquiry_answer inquiry.List records lists entries = text_answer (list_text records)
-inquiry_answer (inquiry.ListFiles name) records lists entries = package_answer name (files_text records lists name)
-inquiry_answer (inquiry.Search place) records lists entries = search_answer (search_text entries lists place)
-inquiry_answer (inquiry.Status name) records lists entries = package_answer name (status_text records name)
-inquiry_answer (inquiry.Truename user path) records lists entries = text_answer (truename_text entries user path)
+-- the answer from what stands on a host
+abbrev pub IsAnsweredFrom : State → Inquiry → Answer → Type 0
+IsAnsweredFrom s inquiry.Audit answer = (text : List ℕ) × IsAudit s text × (answer ≡ text_answer text)
+IsAnsweredFrom s inquiry.Diversions answer = (text : List ℕ) × AreDiversions s text × (answer ≡ text_answer text)
+IsAnsweredFrom s inquiry.List answer = (text : List ℕ) × IsList s text × (answer ≡ text_answer text)
+IsAnsweredFrom s (inquiry.ListFiles name) answer = (text : Option (List ℕ)) × AreFiles name s text × (answer ≡ package_answer name text)
+IsAnsweredFrom s (inquiry.Search place) answer = (text : List ℕ) × IsSearch place s text × (answer ≡ search_answer text)
+IsAnsweredFrom s (inquiry.Status name) answer = (text : Option (List ℕ)) × IsStatus name s text × (answer ≡ package_answer name text)
+IsAnsweredFrom s (inquiry.Truename user path) answer = (text : List ℕ) × IsTruename user path s text × (answer ≡ text_answer text)
 
--- the answer on a host: its administration was opened, and the host given back as the opening left it
-pub record IsInquiredOn (left : Given) (begun : State) (asked : Inquiry) (answer : Answer) : Type 0 where
-  pub table : List Record
-  pub lists : List PackageList
-  pub entries : List Diversion
-  pub end : State
-  pub opened : IsOpenedOn begun end table lists entries
+-- why a question can't be answered: by the first that can't be read of what it reads
+abbrev pub IsUnread : Inquiry → World → AdministrationFault → Type 0
+IsUnread inquiry.Audit w fault = IsDamage all_parts w fault
+IsUnread inquiry.Diversions w fault = IsDamage diversions_parts w fault
+IsUnread inquiry.List w fault = IsDamage records_parts w fault
+IsUnread (inquiry.ListFiles name) w fault = IsFilesDamage name w fault
+IsUnread (inquiry.Search place) w fault = IsDamage all_parts w fault
+IsUnread (inquiry.Status name) w fault = IsDamage records_parts w fault
+IsUnread (inquiry.Truename user path) w fault = IsDamage diversions_parts w fault
+
+-- a host was given back; before that it was only looked at, and no script was called
+pub record IsLookedAt (left : Given) (begun end : State) : Type 0 where
   pub given : left end
-  pub answered : answer ≡ inquiry_answer asked table lists entries
+  pub reads : Reads begun end
+  pub silent : Silent begun end
+
+-- the answer from what stands on a host that was only looked at
+pub record IsInquiredOn (left : Given) (begun : State) (asked : Inquiry) (answer : Answer) : Type 0 where
+  pub end : State
+  pub looked : IsLookedAt left begun end
+  pub sound : NoFault begun end
+  pub answered : IsAnsweredFrom end asked answer
+
+-- why there is no answer from one
+pub record IsUnansweredOn (left : Given) (begun : State) (asked : Inquiry) (fault : AdministrationFault) : Type 0 where
+  pub end : State
+  pub looked : IsLookedAt left begun end
+  pub counts : CountsRefusal fault begun end
+  pub damage : IsTrue end.honest → IsUnread asked begun.world fault
 
 -- the same, on a host behind the root's word
 abbrev pub HasInquired : Around → List ℕ → Inquiry → Answer → Type 0
 HasInquired a word asked answer = (begun : State) × a.root word begun × IsInquiredOn a.left begun asked answer
 
--- the answer under a root, or why this can't be opened
+-- or none was opened: the device failed, or memory was wanting
+abbrev pub IsUnanswered : Around → List ℕ → Inquiry → AdministrationFault → Type 0
+IsUnanswered a word asked fault =
+    ((begun : State) × a.root word begun × IsUnansweredOn a.left begun asked fault)
+    ⊎ (a.unopened × (((fault ≡ opening_faults.Device) × a.failed) ⊎ (fault ≡ opening_faults.NoMemory)))
+
+-- the answer under a root, or why there is none
 abbrev pub IsInquired : Around → List ℕ → Inquiry → Answer → Type 0
 IsInquired a word asked answer = HasInquired a word asked answer
-    ⊎ ((fault : NotOpened) × IsRootFault a word fault × (answer ≡ opening_answer word fault))
+    ⊎ ((fault : AdministrationFault) × IsUnanswered a word asked fault × (answer ≡ opening_answer (Opening fault)))
 
 -- the path of a question is read first, and only where it names one is the root opened
 abbrev pub IsReadAnswer : Around → List ℕ → Result Inquiry (List ℕ) → Answer → Type 0

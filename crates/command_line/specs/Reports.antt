@@ -71,23 +71,23 @@ abbrev pub HasEndedAs : Around → Option ConfPolicy → Unpacking → Result (E
 HasEndedAs a policy u (Ok ended) = HasUnpacked a policy u ended
 HasEndedAs a policy u (Err fault) = IsRootFault a u.root fault
 
-abbrev pub trees_answer : List ℕ → Result (Ended Done) NotOpened → Answer
-trees_answer word (Ok ended) = with_notes ended.left (done_answer ended.done)
-trees_answer word (Err fault) = opening_answer word fault
+abbrev pub trees_answer : Result (Ended Done) NotOpened → Answer
+trees_answer (Ok ended) = with_notes ended.left (done_answer ended.done)
+trees_answer (Err fault) = opening_answer fault
 
 -- what came of work on packages under the root of a word: its report, or why the root couldn't be opened
-abbrev pub work_answer : List ℕ → Result (Ended Report) NotOpened → Answer
-work_answer word (Ok ended) = with_notes ended.left (report_answer ended.done)
-work_answer word (Err fault) = opening_answer word fault
+abbrev pub work_answer : Result (Ended Report) NotOpened → Answer
+work_answer (Ok ended) = with_notes ended.left (report_answer ended.done)
+work_answer (Err fault) = opening_answer fault
 
 -- what came of a change of the diversions, which notes no record
-abbrev pub ended_answer : List ℕ → Result Report NotOpened → Answer
-ended_answer word (Ok done) = report_answer done
-ended_answer word (Err fault) = opening_answer word fault
+abbrev pub ended_answer : Result Report NotOpened → Answer
+ended_answer (Ok done) = report_answer done
+ended_answer (Err fault) = opening_answer fault
 
 -- a change of the diversions has ended as its answer tells
 abbrev pub IsChangeAnswer : Around → List ℕ → Change → Answer → Type 0
-IsChangeAnswer a word asked answer = (ended : Result Report NotOpened) × HasEndedChange a word asked ended × (answer ≡ ended_answer word ended)
+IsChangeAnswer a word asked answer = (ended : Result Report NotOpened) × HasEndedChange a word asked ended × (answer ≡ ended_answer ended)
 
 -- its paths are read first, and only where each names one is the root opened, for a change as it is asked for
 abbrev pub IsReadChange : Around → List ℕ → Option (List ℕ) → (Change → Type 0) → Answer → Type 0
@@ -96,11 +96,11 @@ IsReadChange a word (Some text) P answer = answer ≡ bad_path_answer text
 
 -- packages are unpacked, or installed, and this has ended as its answer tells
 abbrev pub IsTreesAnswer : Around → Option ConfPolicy → Unpacking → Answer → Type 0
-IsTreesAnswer a policy u answer = (ended : Result (Ended Done) NotOpened) × HasEndedAs a policy u ended × (answer ≡ trees_answer u.root ended)
+IsTreesAnswer a policy u answer = (ended : Result (Ended Done) NotOpened) × HasEndedAs a policy u ended × (answer ≡ trees_answer ended)
 
 -- work on packages by their names has ended as its answer tells
 abbrev pub IsWorkAnswer : Around → List ℕ → Work → Answer → Type 0
-IsWorkAnswer a word asked answer = (ended : Result (Ended Report) NotOpened) × HasEndedWork a word asked ended × (answer ≡ work_answer word ended)
+IsWorkAnswer a word asked answer = (ended : Result (Ended Report) NotOpened) × HasEndedWork a word asked ended × (answer ≡ work_answer ended)
 
 -- help is the screen of the topic, on standard output
 abbrev pub IsHelpAnswer : Topic → Answer → Type 0

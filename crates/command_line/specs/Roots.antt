@@ -3,6 +3,8 @@ use Rattle.std.specs.Prelude.{◌≡◌, ◌<◌, ◌⊎◌, ℕ, false, List, [
 use Rattle.host_core.specs.Host.{AtEachMoment, Needs, Silent, State}
 use Rattle.administration.specs.declared.fault.AdministrationFault.{AdministrationFault}
 use Rattle.command_line.specs.declared.hosts.Hosts.{Ghosts}
+use Rattle.command_line.specs.declared.fault.Lock.{Lock}
+use Rattle.command_line.specs.declared.fault.Lock.TheVariants.{Frontend, Administration}
 use Rattle.command_line.specs.declared.fault.NotOpened.{NotOpened}
 use Rattle.command_line.specs.declared.fault.NotOpened.TheVariants.{Locked, Opening}
 use Rattle.administration.specs.declared.fault.AdministrationFault.TheVariants as opening_faults
@@ -27,7 +29,7 @@ Given = State → Type 0
 
 -- What is known of the hosts of a command: the states behind words for the root and for trees before it, the states in
 -- which they were given back by its end, whether the device failed on opening one and no root was opened, and whether another
--- program held the root behind a word before it.
+-- program held a lock of the root behind a word before it.
 pub record Around : Type 1 where
   pub root : Behind
   pub tree : Behind
@@ -35,7 +37,7 @@ pub record Around : Type 1 where
   pub seen : Given
   pub failed : Type 0
   pub unopened : Type 0
-  pub locked : List ℕ → Type 0
+  pub locked : List ℕ → Lock → Type 0
 
 -- the same of hosts between two moments
 abbrev pub around : {Hosts Opened : Type 0} → Ghosts Hosts Opened → Hosts → Hosts → Around
@@ -79,22 +81,27 @@ pub record IsStoppedOn (left : Given) (begun : State) : Type 0 where
 abbrev pub IsGivenUpOn : Given → State → AdministrationFault → Type 0
 IsGivenUpOn left begun fault = IsRefusedOn left begun fault ⊎ ((fault ≡ opening_faults.NoMemory) × IsStoppedOn left begun)
 
--- so it went on a host behind the root's word, unless none was opened: another program held the root, the device failed, or
+-- so it went on a host behind the root's word, unless none was opened: another program held a lock of it, the device failed, or
 -- memory was wanting
 abbrev pub IsRootFault : Around → List ℕ → NotOpened → Type 0
-IsRootFault a word Locked = a.unopened × a.locked word
+IsRootFault a word (Locked lock) = a.unopened × a.locked word lock
 IsRootFault a word (Opening fault) =
     ((begun : State) × a.root word begun × IsGivenUpOn a.left begun fault)
     ⊎ (a.unopened × (((fault ≡ opening_faults.Device) × a.failed) ⊎ (fault ≡ opening_faults.NoMemory)))
 
--- the line that tells that another program holds the root
-abbrev pub locked_line : List ℕ → List ℕ
-locked_line word = line (codes "locked " ++ word)
+-- the file of a lock, under the root
+abbrev pub lock_path : Lock → List ℕ
+lock_path Frontend = codes "/var/lib/dpkg/lock-frontend"
+lock_path Administration = codes "/var/lib/dpkg/lock"
 
--- why the root of a word can't be opened is told on standard error
-abbrev pub opening_answer : List ℕ → NotOpened → Answer
-opening_answer word Locked = record { output = []; error = locked_line word; status = 2 }
-opening_answer word (Opening fault) = record { output = []; error = opening_line fault; status = 2 }
+-- the line that tells that another program holds a lock
+abbrev pub locked_line : Lock → List ℕ
+locked_line lock = line (codes "locked " ++ lock_path lock)
+
+-- why a root can't be opened is told on standard error
+abbrev pub opening_answer : NotOpened → Answer
+opening_answer (Locked lock) = record { output = []; error = locked_line lock; status = 2 }
+opening_answer (Opening fault) = record { output = []; error = opening_line fault; status = 2 }
 
 -- what is held of an administration that was just opened, where no note stands
 abbrev pub held_anew : List Record → List PackageList → List Diversion → Held

@@ -22,7 +22,7 @@ ghost use Rattle.command_line.specs.declared.unpacking.Done.{Done as ADone};
 
 use crate::changing::{Change, change_under, diverting_in, undiverting_in};
 use crate::ending::Ended;
-use crate::fault::NotOpened;
+use crate::fault::{Lock, NotOpened};
 use crate::hosts::Hosts;
 use crate::packages::{Work, policy_of, work_under};
 use crate::printing::{Flow, Printer};
@@ -212,21 +212,21 @@ fn whole(answer: Result<Answer, AllocError>) -> Result<Left, AllocError>
     }
 }
 
-// The line that tells that another program holds the root.
-fn locked_line(alloc: Global, root: &Text) -> Result<String, AllocError>
-    ensures { IfOk result (λ printed. string_bytes printed ≡ locked_line root.now) }
+// The line that tells that another program holds a lock.
+fn locked_line(alloc: Global, lock: Lock) -> Result<String, AllocError>
+    ensures { IfOk result (λ printed. string_bytes printed ≡ locked_line lock) }
 {
-    let root = root.as_str();
-    let content = format!(in alloc; "locked {root}")?;
+    let path = lock.path();
+    let content = format!(in alloc; "locked {path}")?;
     line(alloc, content.as_str())
 }
 
-fn not_opened(alloc: Global, root: &Text, fault: &NotOpened) -> Result<Answer, AllocError>
-    ensures { IfOk result (λ answer. answer ≡ opening_answer root.now fault.now) }
+fn not_opened(alloc: Global, fault: &NotOpened) -> Result<Answer, AllocError>
+    ensures { IfOk result (λ answer. answer ≡ opening_answer fault.now) }
 {
     match fault {
-        NotOpened::Locked => {
-            let line = locked_line(alloc, root)?;
+        NotOpened::Locked(lock) => {
+            let line = locked_line(alloc, *lock)?;
             Ok(complained(alloc, line))
         }
         NotOpened::Opening(fault) => {
@@ -266,7 +266,7 @@ fn unpacked<S: Hosts, O: Write>(
 ) -> Result<Left, AllocError>
     ensures ended { (ended : Result (AnEnded ADone) ANotOpened)
         × HasEndedAs (around S.Hosts hosts.old hosts.new) policy unpacking.now ended
-        × IsLeft (trees_answer unpacking.now.root ended) (O.contents out.old) (O.contents out.new)
+        × IsLeft (trees_answer ended) (O.contents out.old) (O.contents out.new)
         result }
     ensures bound { IfOk result (λ left. status_left left ≤ 2) }
 {
@@ -285,7 +285,7 @@ fn unpacked<S: Hosts, O: Write>(
             done_status(&came.done),
             came.left,
         ),
-        Err(fault) => whole(not_opened(alloc, &unpacking.root, &fault)),
+        Err(fault) => whole(not_opened(alloc, &fault)),
     }
 }
 
@@ -293,16 +293,17 @@ fn changed<S: Hosts>(
     alloc: Global,
     hosts: &mut S,
     root: &Text,
+    wait: u32,
     asked: &Change,
 ) -> Result<Answer, AllocError>
     ensures ended { (ended : Result AReport ANotOpened)
         × HasEndedChange (around S.Hosts hosts.old hosts.new) root.now asked.now ended
-        × IfOk result (λ answer. answer ≡ ended_answer root.now ended) }
+        × IfOk result (λ answer. answer ≡ ended_answer ended) }
     ensures bound { IfOk result (λ answer. answer.status ≤ 2) }
 {
-    match change_under(alloc, hosts, root, asked) {
+    match change_under(alloc, hosts, root, wait, asked) {
         Ok(done) => reported(alloc, &done),
-        Err(fault) => not_opened(alloc, root, &fault),
+        Err(fault) => not_opened(alloc, &fault),
     }
 }
 
@@ -312,6 +313,7 @@ fn work_telling<S: Hosts, O: Write>(
     hosts: &mut S,
     root: &Text,
     streams: ScriptStreams,
+    wait: u32,
     asked: &Work,
     printer: &mut Printer<'_, O>,
 ) -> Result<Ended<Report>, NotOpened>
@@ -324,7 +326,7 @@ fn work_telling<S: Hosts, O: Write>(
         (O.contents printer.old.out.now) (O.contents printer.new.out.now)) }
     ensures untold { OnErr result (printer.new ≡ printer.old) }
 {
-    work_under(alloc, hosts, root, streams, asked, printer)
+    work_under(alloc, hosts, root, streams, wait, asked, printer)
 }
 
 fn worked<S: Hosts, O: Write>(
@@ -332,12 +334,13 @@ fn worked<S: Hosts, O: Write>(
     hosts: &mut S,
     root: &Text,
     streams: ScriptStreams,
+    wait: u32,
     asked: &Work,
     out: &mut O,
 ) -> Result<Left, AllocError>
     ensures ended { (ended : Result (AnEnded AReport) ANotOpened)
         × HasEndedWork (around S.Hosts hosts.old hosts.new) root.now asked.now ended
-        × IsLeft (work_answer root.now ended) (O.contents out.old) (O.contents out.new) result }
+        × IsLeft (work_answer ended) (O.contents out.old) (O.contents out.new) result }
     ensures bound { IfOk result (λ left. status_left left ≤ 2) }
 {
     let mut printer = Printer {
@@ -345,7 +348,7 @@ fn worked<S: Hosts, O: Write>(
         out,
         flow: Flow::Whole,
     };
-    let ended = work_telling(alloc, hosts, root, streams, asked, &mut printer);
+    let ended = work_telling(alloc, hosts, root, streams, wait, asked, &mut printer);
     let flow = printer.flow;
     match ended {
         Ok(came) => units_left(
@@ -355,7 +358,7 @@ fn worked<S: Hosts, O: Write>(
             report_status(&came.done),
             came.left,
         ),
-        Err(fault) => whole(not_opened(alloc, root, &fault)),
+        Err(fault) => whole(not_opened(alloc, &fault)),
     }
 }
 
@@ -367,7 +370,7 @@ fn configured<S: Hosts, O: Write>(
 ) -> Result<Left, AllocError>
     ensures ended { (ended : Result (AnEnded AReport) ANotOpened)
         × HasEndedWork (around S.Hosts hosts.old hosts.new) asked.root (work_of asked) ended
-        × IsLeft (work_answer asked.root ended) (O.contents out.old) (O.contents out.new) result }
+        × IsLeft (work_answer ended) (O.contents out.old) (O.contents out.new) result }
     ensures bound { IfOk result (λ left. status_left left ≤ 2) }
 {
     let Configuring {
@@ -375,9 +378,10 @@ fn configured<S: Hosts, O: Write>(
         names,
         streams,
         forced,
+        wait,
     } = asked;
     let work = Work::Configure(names, policy_of(forced));
-    worked(alloc, hosts, &root, streams, &work, out)
+    worked(alloc, hosts, &root, streams, wait, &work, out)
 }
 
 fn removed<S: Hosts, O: Write>(
@@ -388,7 +392,7 @@ fn removed<S: Hosts, O: Write>(
 ) -> Result<Left, AllocError>
     ensures ended { (ended : Result (AnEnded AReport) ANotOpened)
         × HasEndedWork (around S.Hosts hosts.old hosts.new) asked.root (Work.Remove asked.names)
-        ended × IsLeft (work_answer asked.root ended) (O.contents out.old) (O.contents out.new)
+        ended × IsLeft (work_answer ended) (O.contents out.old) (O.contents out.new)
         result }
     ensures bound { IfOk result (λ left. status_left left ≤ 2) }
 {
@@ -396,9 +400,10 @@ fn removed<S: Hosts, O: Write>(
         root,
         names,
         streams,
+        wait,
     } = asked;
     let work = Work::Remove(names);
-    worked(alloc, hosts, &root, streams, &work, out)
+    worked(alloc, hosts, &root, streams, wait, &work, out)
 }
 
 fn purged<S: Hosts, O: Write>(
@@ -409,7 +414,7 @@ fn purged<S: Hosts, O: Write>(
 ) -> Result<Left, AllocError>
     ensures ended { (ended : Result (AnEnded AReport) ANotOpened)
         × HasEndedWork (around S.Hosts hosts.old hosts.new) asked.root (Work.Purge asked.names)
-        ended × IsLeft (work_answer asked.root ended) (O.contents out.old) (O.contents out.new)
+        ended × IsLeft (work_answer ended) (O.contents out.old) (O.contents out.new)
         result }
     ensures bound { IfOk result (λ left. status_left left ≤ 2) }
 {
@@ -417,9 +422,10 @@ fn purged<S: Hosts, O: Write>(
         root,
         names,
         streams,
+        wait,
     } = asked;
     let work = Work::Purge(names);
-    worked(alloc, hosts, &root, streams, &work, out)
+    worked(alloc, hosts, &root, streams, wait, &work, out)
 }
 
 fn diverted<S: Hosts>(alloc: Global, hosts: &mut S, asked: &Diverting) -> Result<Answer, AllocError>
@@ -435,7 +441,7 @@ fn diverted<S: Hosts>(alloc: Global, hosts: &mut S, asked: &Diverting) -> Result
     ensures unopened { (hosts.new ≡ hosts.old) ⊎ (is_good (bad_of_divert asked.now) ≡ true) }
 {
     match diverting_in(alloc, asked) {
-        Ok(Ok(change)) => changed(alloc, hosts, &asked.root, &change),
+        Ok(Ok(change)) => changed(alloc, hosts, &asked.root, asked.wait, &change),
         Ok(Err(bad)) => bad_path(alloc, &bad),
         Err(_) => Err(AllocError),
     }
@@ -457,7 +463,7 @@ fn undiverted<S: Hosts>(
     ensures unopened { (hosts.new ≡ hosts.old) ⊎ (is_good (bad_of_undivert asked.now) ≡ true) }
 {
     match undiverting_in(alloc, asked) {
-        Ok(Ok(change)) => changed(alloc, hosts, &asked.root, &change),
+        Ok(Ok(change)) => changed(alloc, hosts, &asked.root, asked.wait, &change),
         Ok(Err(bad)) => bad_path(alloc, &bad),
         Err(_) => Err(AllocError),
     }
@@ -476,7 +482,7 @@ fn inquired<S: Hosts>(
 {
     match inquire_under(alloc, hosts, root, asked) {
         Ok(answer) => Ok(answer),
-        Err(fault) => not_opened(alloc, root, &fault),
+        Err(fault) => not_opened(alloc, &NotOpened::Opening(fault)),
     }
 }
 

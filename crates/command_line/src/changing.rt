@@ -126,18 +126,19 @@ pub(crate) fn change_under<S: Hosts>(
     alloc: Global,
     hosts: &mut S,
     root: &Text,
+    wait: u32,
     asked: &Change,
 ) -> Result<Report, NotOpened>
     ensures done { IfOk result (HasChangedUnder (around S.Hosts hosts.old hosts.new) root.now
         asked.now) }
     ensures refused { IfErr result (IsRootFault (around S.Hosts hosts.old hosts.new) root.now) }
 {
-    match hosts.open_root(root.as_str(), ScriptStreams::Own) {
+    match hosts.open_root(root.as_str(), ScriptStreams::Own, wait) {
         Ok(host) => match change_on(alloc, hosts, host, asked) {
             Ok(done) => Ok(done),
             Err(fault) => Err(NotOpened::Opening(fault)),
         },
-        Err(RootFault::Locked) => Err(NotOpened::Locked),
+        Err(RootFault::Locked(lock)) => Err(NotOpened::Locked(lock)),
         Err(RootFault::Host(fault)) => Err(NotOpened::Opening(AdministrationFault::from(fault))),
     }
 }

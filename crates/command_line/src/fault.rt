@@ -1,14 +1,36 @@
 // Why a root isn't opened.
 ghost use Rattle.std.specs.Prelude.{◌≡◌};
+ghost use Rattle.command_line.specs.Roots.{lock_path};
 ghost use Rattle.command_line.specs.declared.fault.RootFault.TheVariants.{Host as OfHost};
 
 use administration::AdministrationFault;
 use host_core::HostFault;
 
-/// Why there is no host for a root: another program holds the root, or the host's fault.
+/// A lock that a program holds while it changes packages. Both are dpkg's.
+#[derive(Clone, Copy)]
+pub enum Lock {
+    /// That of the program that a person gave the command to, as apt, which may start others.
+    Frontend,
+    /// That of the program that changes the administration.
+    Administration,
+}
+
+impl Lock {
+    /// The path of its file under the root.
+    pub fn path(self) -> &'static str
+        ensures { result.now ≡ lock_path self }
+    {
+        match self {
+            Lock::Frontend => "/var/lib/dpkg/lock-frontend",
+            Lock::Administration => "/var/lib/dpkg/lock",
+        }
+    }
+}
+
+/// Why there is no host for a root: another program holds a lock of it, or the host's fault.
 #[derive(Clone, Copy)]
 pub enum RootFault {
-    Locked,
+    Locked(Lock),
     Host(HostFault),
 }
 
@@ -20,10 +42,10 @@ impl From<HostFault> for RootFault {
     }
 }
 
-/// Why nothing was asked of the administration under a root: another program holds the root, or the administration can't be
+/// Why nothing was asked of the administration under a root: another program holds a lock of it, or the administration can't be
 /// opened.
 #[derive(Drop)]
 pub(crate) enum NotOpened {
-    Locked,
+    Locked(Lock),
     Opening(AdministrationFault),
 }

@@ -2,6 +2,7 @@
 ghost use Rattle.std.specs.Prelude.{◌≡◌, ◌≤◌, ◌<◌, ℕ, List, IfOk, IsErrOf, OnErr};
 ghost use Rattle.host_core.specs.Host.{State};
 ghost use Rattle.host_core.specs.declared.fault.HostFault.TheVariants.{Declined, Device};
+ghost use Rattle.command_line.specs.declared.fault.Lock.{Lock};
 ghost use Rattle.command_line.specs.declared.fault.RootFault.TheVariants.{Host as OfHost, Locked};
 
 use crate::fault::RootFault;
@@ -30,15 +31,16 @@ pub trait Hosts {
     /// Whether no root was opened from one moment to another.
     ghost unopened: { Self → Self → Type 0 };
 
-    /// Whether another program holds the root behind a word.
-    ghost locked: { Self → List ℕ → Type 0 };
+    /// Whether another program holds a lock of the root behind a word.
+    ghost locked: { Self → List ℕ → Lock → Type 0 };
 
-    /// The host for the directory of `--root`, which is held until it is given back, so that no other program opens it. What
-    /// its scripts write goes to these streams.
+    /// The host for the directory of `--root`, whose locks are held from now on, so that no other program opens it; where another
+    /// holds one, it is waited for as many seconds. What its scripts write goes to these streams.
     fn open_root(
         &mut self,
         directory: &str,
         streams: ScriptStreams,
+        wait: u32,
     ) -> Result<Self::Opened, RootFault>
         ensures opened { IfOk result (λ host. root self.old directory.now
             (Self.Opened.state host)) }
@@ -48,7 +50,19 @@ pub trait Hosts {
         ensures faults { faults self.old ≤ faults self.new }
         ensures cause { IsErrOf result (OfHost Device) → faults self.old < faults self.new }
         ensures undeclined { IsErrOf result (OfHost Declined) → ⊥ }
-        ensures locked { IsErrOf result Locked → locked self.old directory.now };
+        ensures locked { (lock : Lock) → IsErrOf result (Locked lock) → locked self.old directory.now
+            lock };
+
+    /// The same host, for a question, which only looks: it isn't held, and another program may hold it.
+    fn look_at_root(&mut self, directory: &str) -> Result<Self::Opened, HostFault>
+        ensures opened { IfOk result (λ host. root self.old directory.now
+            (Self.Opened.state host)) }
+        ensures unopened { OnErr result (unopened self.old self.new) }
+        ensures trees { (word : List ℕ) (s : State) → tree self.new word s → tree self.old word s }
+        ensures seen { (s : State) → seen self.old s → seen self.new s }
+        ensures faults { faults self.old ≤ faults self.new }
+        ensures cause { IsErrOf result Device → faults self.old < faults self.new }
+        ensures undeclined { IsErrOf result Declined → ⊥ };
 
     /// The host for a TREE as it was given. It shows the tree's own owners, whatever they become.
     fn open_tree(&mut self, directory: &str, owners: TreeOwners) -> Result<Self::Opened, HostFault>

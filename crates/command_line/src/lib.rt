@@ -21,9 +21,10 @@
 //! administration that was opened; a path or target that no package may ship is told on standard
 //! error before the root is opened.
 //!
-//! For a question the answer is its text over the records, lists and diversions of the
-//! administration that was opened. Where another program holds the root, that is told with the
-//! root's word, and no root was opened. For help it is a screen on the topic, on standard output;
+//! For a question the answer is its text over what it reads of the records, lists and diversions
+//! that stand on the host behind the root's word, which was only looked at (`IsInquiredOn`), or the
+//! first damage of what it reads (`IsUnansweredOn`). Where another program holds the root, that is
+//! told of a command with the root's word, and no root was opened. For help it is a screen on the topic, on standard output;
 //! where the words ask for nothing a text on standard error ends with the screen of the subcommand
 //! that they name. A fault of the device is told only where one was counted.
 //!
@@ -57,5 +58,5 @@ mod writing;
 pub use answer::FAILED;
 pub use command::run_words;
 pub use command_words::{ScriptStreams, TreeOwners};
-pub use fault::RootFault;
+pub use fault::{Lock, RootFault};
 pub use hosts::Hosts;

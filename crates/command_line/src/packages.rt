@@ -155,6 +155,7 @@ pub(crate) fn work_under<S: Hosts, W: Watcher>(
     hosts: &mut S,
     root: &Text,
     streams: ScriptStreams,
+    wait: u32,
     asked: &Work,
     watcher: &mut W,
 ) -> Result<Ended<Report>, NotOpened>
@@ -165,12 +166,12 @@ pub(crate) fn work_under<S: Hosts, W: Watcher>(
         watcher.new) }
     ensures unwatched { OnErr result (watcher.new ≡ watcher.old) }
 {
-    match hosts.open_root(root.as_str(), streams) {
+    match hosts.open_root(root.as_str(), streams, wait) {
         Ok(host) => match work_on(alloc, hosts, host, asked, watcher) {
             Ok(ended) => Ok(ended),
             Err(fault) => Err(NotOpened::Opening(fault)),
         },
-        Err(RootFault::Locked) => Err(NotOpened::Locked),
+        Err(RootFault::Locked(lock)) => Err(NotOpened::Locked(lock)),
         Err(RootFault::Host(fault)) => Err(NotOpened::Opening(AdministrationFault::from(fault))),
     }
 }

@@ -1,18 +1,18 @@
-// Questions about an administration: their paths are read, and the root is opened to answer them.
-ghost use Rattle.std.specs.Prelude.{◌≡◌, ◌≤◌, false, ℕ, List, IfOk, IfErr, Option, Result};
+// Questions about an administration: their paths are read, and the root is looked at to answer them.
+ghost use Rattle.std.specs.Prelude.{◌≡◌, ◌≤◌, IfErr, IfOk, IsTrue, Result};
+ghost use Rattle.host_core.specs.Host.{Reads, Silent};
 ghost use Rattle.host_core.specs.Paths.{Path as APath};
-ghost use Rattle.dpkg_session.specs.Queries.{IsAnswer, IsAnswerAbout};
-ghost use Rattle.command_line.specs.Queries.{HasInquired, IsInquiredOn, bad_path_answer, inquiry_answer, inquiry_of, on_path, package_answer, search_answer, text_answer};
-ghost use Rattle.command_line.specs.Roots.{IsGivenUpOn, IsRootFault, around};
+ghost use Rattle.administration.specs.Fault.{CountsAdministration};
+ghost use Rattle.command_line.specs.Queries.{HasInquired, IsAnsweredFrom, IsInquiredOn, IsUnanswered, IsUnansweredOn, IsUnread, bad_path_answer, inquiry_of, on_path, package_answer, search_answer, text_answer};
+ghost use Rattle.command_line.specs.Roots.{around};
 ghost use Rattle.command_line.specs.declared.questions.Inquiry.TheVariants.{Search, Truename};
 
 use crate::answer::{Answer, complained, printed, told};
-use crate::fault::{NotOpened, RootFault};
 use crate::hosts::Hosts;
 use administration::AdministrationFault;
-use command_words::{Question, ScriptStreams};
-use dpkg_session::{QueryFault, Session};
+use command_words::Question;
 use host_core::{Host, RootPath};
+use inquiries::{audit, list, list_diversions, list_files, search, status, truename};
 use shown_lines::line;
 use std::alloc::{AllocError, Global};
 use texts::{Bytes, Text};
@@ -81,114 +81,101 @@ pub(crate) fn bad_path(alloc: Global, text: &Text) -> Result<Answer, AllocError>
     Ok(complained(alloc, line(alloc, content.as_str())?))
 }
 
-fn text_answer(alloc: Global, text: Result<Bytes, QueryFault>) -> Result<Answer, AllocError>
-    ensures { (wanted : List ℕ) → IsAnswer false wanted text → IfOk
-        result (λ answer. answer ≡ text_answer wanted) }
+fn text_answer(alloc: Global, text: Bytes) -> Answer
+    ensures { result ≡ text_answer text }
 {
-    match text {
-        Ok(text) => Ok(told(alloc, text, 0)),
-        Err(_) => Err(AllocError),
-    }
+    told(alloc, text, 0)
 }
 
-fn package_answer(
-    alloc: Global,
-    name: &Text,
-    text: Result<Bytes, QueryFault>,
-) -> Result<Answer, AllocError>
-    ensures { (wanted : Option (List ℕ)) → IsAnswerAbout false wanted text → IfOk
-        result (λ answer. answer ≡ package_answer name.now wanted) }
+fn package_answer(alloc: Global, name: &Text, text: Option<Bytes>) -> Result<Answer, AllocError>
+    ensures answer { IfOk result (λ answer. answer ≡ package_answer name.now text) }
+    ensures bound { IfOk result (λ answer. answer.status ≤ 2) }
 {
     match text {
-        Ok(text) => Ok(told(alloc, text, 0)),
-        Err(QueryFault::Unknown) => {
+        Some(text) => Ok(told(alloc, text, 0)),
+        None => {
             let name = name.as_str();
             let content = format!(in alloc; "refused {name} Unknown")?;
             Ok(printed(alloc, line(alloc, content.as_str())?, 1))
         }
-        Err(_) => Err(AllocError),
     }
 }
 
-fn search_answer(alloc: Global, text: Result<Bytes, QueryFault>) -> Result<Answer, AllocError>
-    ensures { (wanted : List ℕ) → IsAnswer false wanted text → IfOk
-        result (λ answer. answer ≡ search_answer wanted) }
+fn search_answer(alloc: Global, text: Bytes) -> Answer
+    ensures answer { result ≡ search_answer text }
+    ensures bound { result.status ≤ 2 }
 {
-    match text {
-        Ok(text) => {
-            let status = if text.as_slice().is_empty() { 1 } else { 0 };
-            Ok(told(alloc, text, status))
-        }
-        Err(_) => Err(AllocError),
-    }
+    let status = if text.as_slice().is_empty() { 1 } else { 0 };
+    told(alloc, text, status)
 }
 
-// The answer from what an open session holds of its administration.
+// The answer from what stands on a host.
 fn inquire<H: Host>(
     alloc: Global,
-    session: &Session<H>,
+    host: &mut H,
     asked: &Inquiry,
-) -> Result<Answer, AllocError>
-    requires { session.now.closed ≡ false }
-    ensures { IfOk result (λ answer. answer ≡ inquiry_answer asked.now
-        session.now.administration.database.records session.now.administration.lists.lists
-        session.now.diversions.entries) }
+) -> Result<Answer, AdministrationFault>
+    ensures answer { IfOk result (IsAnsweredFrom (H.state host.new) asked.now) }
+    ensures bound { IfOk result (λ answer. answer.status ≤ 2) }
+    ensures damage { IsTrue (H.state host.new).honest
+        → IfErr result (IsUnread asked.now (H.state host.old).world) }
+    ensures reads { Reads (H.state host.old) (H.state host.new) }
+    ensures silent { Silent (H.state host.old) (H.state host.new) }
+    ensures counts { CountsAdministration (H.state host.old) (H.state host.new) result }
 {
     match asked {
-        Inquiry::Audit => text_answer(alloc, session.audit()),
-        Inquiry::Diversions => text_answer(alloc, session.diversions()),
-        Inquiry::List => text_answer(alloc, session.list()),
-        Inquiry::ListFiles(name) => package_answer(alloc, name, session.files(name)),
-        Inquiry::Search(place) => search_answer(alloc, session.search(place)),
-        Inquiry::Status(name) => package_answer(alloc, name, session.status(name)),
+        Inquiry::Audit => Ok(text_answer(alloc, audit(alloc, host)?)),
+        Inquiry::Diversions => Ok(text_answer(alloc, list_diversions(alloc, host)?)),
+        Inquiry::List => Ok(text_answer(alloc, list(alloc, host)?)),
+        Inquiry::ListFiles(name) => {
+            let listing = list_files(alloc, host, name)?;
+            Ok(package_answer(alloc, name, listing)?)
+        }
+        Inquiry::Search(place) => Ok(search_answer(alloc, search(alloc, host, place)?)),
+        Inquiry::Status(name) => {
+            let entry = status(alloc, host, name)?;
+            Ok(package_answer(alloc, name, entry)?)
+        }
         Inquiry::Truename { package, path } => {
-            text_answer(alloc, session.truename(package.as_ref(), path))
+            let place = truename(alloc, host, package.as_ref(), path)?;
+            Ok(text_answer(alloc, place))
         }
     }
 }
 
-// The answer on the host of the root, which is given back.
+// The answer from the host of the root, which is given back.
 fn inquire_on<S: Hosts>(
     alloc: Global,
     hosts: &mut S,
-    host: S::Opened,
+    mut host: S::Opened,
     asked: &Inquiry,
 ) -> Result<Answer, AdministrationFault>
     ensures answer { IfOk result (IsInquiredOn (S.left hosts.new) (S.Opened.state host) asked.now) }
-    ensures refused { IfErr result (IsGivenUpOn (S.left hosts.new) (S.Opened.state host)) }
+    ensures bound { IfOk result (λ answer. answer.status ≤ 2) }
+    ensures refused { IfErr result (IsUnansweredOn (S.left hosts.new) (S.Opened.state host)
+        asked.now) }
     ensures faults { S.faults hosts.old ≤ S.faults hosts.new }
 {
-    match Session::open(alloc, host) {
-        Ok(session) => {
-            let answer = inquire(alloc, &session, asked);
-            hosts.close_root(session.into_host());
-            Ok(answer?)
-        }
-        Err((host, fault)) => {
-            hosts.close_root(host);
-            Err(fault)
-        }
-    }
+    let answer = inquire(alloc, &mut host, asked);
+    hosts.close_root(host);
+    answer
 }
 
-/// The answer under the root, or why the root can't be opened. Want of memory for the answer is
-/// told likewise.
+/// The answer under the root, or why there is none. Want of memory for the answer is told likewise.
 pub(crate) fn inquire_under<S: Hosts>(
     alloc: Global,
     hosts: &mut S,
     root: &Text,
     asked: &Inquiry,
-) -> Result<Answer, NotOpened>
+) -> Result<Answer, AdministrationFault>
     ensures answer { IfOk result (HasInquired (around S.Hosts hosts.old hosts.new) root.now
         asked.now) }
-    ensures refused { IfErr result (IsRootFault (around S.Hosts hosts.old hosts.new) root.now) }
+    ensures bound { IfOk result (λ answer. answer.status ≤ 2) }
+    ensures refused { IfErr result (IsUnanswered (around S.Hosts hosts.old hosts.new) root.now
+        asked.now) }
 {
-    match hosts.open_root(root.as_str(), ScriptStreams::Own) {
-        Ok(host) => match inquire_on(alloc, hosts, host, asked) {
-            Ok(done) => Ok(done),
-            Err(fault) => Err(NotOpened::Opening(fault)),
-        },
-        Err(RootFault::Locked) => Err(NotOpened::Locked),
-        Err(RootFault::Host(fault)) => Err(NotOpened::Opening(AdministrationFault::from(fault))),
+    match hosts.look_at_root(root.as_str()) {
+        Ok(host) => inquire_on(alloc, hosts, host, asked),
+        Err(fault) => Err(AdministrationFault::from(fault)),
     }
 }

@@ -174,12 +174,12 @@ pub(crate) fn unpack<S: Hosts, W: Watcher>(
         watcher.new) }
     ensures unwatched { OnErr result (watcher.new ≡ watcher.old) }
 {
-    match hosts.open_root(unpacking.root.as_str(), unpacking.streams) {
+    match hosts.open_root(unpacking.root.as_str(), unpacking.streams, unpacking.wait) {
         Ok(host) => match unpack_on(alloc, hosts, host, unpacking, policy, watcher) {
             Ok(ended) => Ok(ended),
             Err(fault) => Err(NotOpened::Opening(fault)),
         },
-        Err(RootFault::Locked) => Err(NotOpened::Locked),
+        Err(RootFault::Locked(lock)) => Err(NotOpened::Locked(lock)),
         Err(RootFault::Host(fault)) => Err(NotOpened::Opening(AdministrationFault::from(fault))),
     }
 }

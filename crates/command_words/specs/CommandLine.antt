@@ -42,7 +42,11 @@ help_app = with_rule (new_app (codes "help")) (maybe_word_rule (codes "COMMAND")
 abbrev pub rooted_app : Text → App
 rooted_app name = with_rule (new_app name) root_rule
 
--- and one word besides
+-- a subcommand that changes what is under a root: `--wait SECONDS`
+abbrev pub changing_app : Text → App
+changing_app name = with_rule (rooted_app name) (option_rule (codes "wait"))
+
+-- a subcommand that asks for one word under a root
 abbrev pub asking_app : Text → Text → App
 asking_app name id = with_rule (rooted_app name) (word_rule id)
 
@@ -58,34 +62,34 @@ with_owner a = with_rule (with_rule a (option_rule (codes "package"))) (flag_rul
 abbrev pub with_diverted : App → App
 with_diverted a = with_rule (with_rule a (flag_rule (codes "rename"))) (word_rule (codes "PATH"))
 
--- `divert [--root DIR] (--package P | --local) [--divert TARGET] [--rename] PATH`
+-- `divert [--root DIR] [--wait SECONDS] (--package P | --local) [--divert TARGET] [--rename] PATH`
 abbrev pub divert_app : App
-divert_app = with_diverted (with_rule (with_owner (rooted_app (codes "divert"))) (option_rule (codes "divert")))
+divert_app = with_diverted (with_rule (with_owner (changing_app (codes "divert"))) (option_rule (codes "divert")))
 
--- `undivert [--root DIR] (--package P | --local) [--rename] PATH`
+-- `undivert [--root DIR] [--wait SECONDS] (--package P | --local) [--rename] PATH`
 abbrev pub undivert_app : App
-undivert_app = with_diverted (with_owner (rooted_app (codes "undivert")))
+undivert_app = with_diverted (with_owner (changing_app (codes "undivert")))
 
 -- `--force-confold`, `--force-confnew` and `--force-confmiss`
 abbrev pub with_forced : App → App
 with_forced a = with_rule (with_rule (with_rule a (flag_rule (codes "force-confold"))) (flag_rule (codes "force-confnew"))) (flag_rule (codes "force-confmiss"))
 
--- a subcommand that has a root and calls scripts: `--scripts-stderr`
+-- one that calls scripts: `--scripts-stderr`
 abbrev pub calling_app : Text → App
-calling_app name = with_rule (rooted_app name) (flag_rule (codes "scripts-stderr"))
+calling_app name = with_rule (changing_app name) (flag_rule (codes "scripts-stderr"))
 
--- `install [--root DIR] [--scripts-stderr] [--owner-root] [--auto-deconfigure] [--force-confold | --force-confnew]
--- [--force-confmiss] TREE..`; `unpack` likewise
+-- `install [--root DIR] [--wait SECONDS] [--scripts-stderr] [--owner-root] [--auto-deconfigure]
+-- [--force-confold | --force-confnew] [--force-confmiss] TREE..`; `unpack` likewise
 abbrev pub trees_app : Text → App
 trees_app name =
     with_rule (with_forced (with_rule (with_rule (calling_app name) (flag_rule (codes "owner-root"))) (flag_rule (codes "auto-deconfigure"))))
     (words_rule (codes "TREE") true)
 
--- `configure [--root DIR] [--scripts-stderr] [--force-confold | --force-confnew] [--force-confmiss] [PKG..]`
+-- `configure [--root DIR] [--wait SECONDS] [--scripts-stderr] [--force-confold | --force-confnew] [--force-confmiss] [PKG..]`
 abbrev pub configure_app : App
 configure_app = with_rule (with_forced (calling_app (codes "configure"))) (words_rule (codes "PKG") false)
 
--- `remove [--root DIR] [--scripts-stderr] PKG..`; `purge` likewise
+-- `remove [--root DIR] [--wait SECONDS] [--scripts-stderr] PKG..`; `purge` likewise
 abbrev pub removing_app : Text → App
 removing_app name = with_rule (calling_app name) (words_rule (codes "PKG") true)
 

@@ -3,6 +3,7 @@ pub mod Comparisons
 pub mod Given
 pub mod Owners
 pub mod Streams
+pub mod Waits
 pub mod Topics
 pub mod Queries
 pub mod Forced

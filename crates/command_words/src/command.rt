@@ -2,7 +2,7 @@
 ghost use Rattle.std.specs.Prelude.{◌≡◌, IfOk, codes, false, string_bytes, true};
 ghost use Rattle.clap.specs.Words.{app_of, new_app, rule_of, with_rule, with_subcommand};
 ghost use Rattle.clap.specs.declared.builder.command.Command.TheViews.{out-Command as fields_of};
-ghost use Rattle.command_words.specs.CommandLine.{are_ascending, asking_app, calling_app, compare_versions_app, configure_app, divert_app, first_apps, flag_rule, fourth_apps, help_app, last_apps, lines, maybe_word_rule, option_rule, removing_app, root_rule, rooted_app, second_apps, subcommand_names, third_apps, trees_app, truename_app, undivert_app, whole_app, with_all, with_diverted, with_forced, with_owner, without_help, word_rule, words_rule};
+ghost use Rattle.command_words.specs.CommandLine.{are_ascending, asking_app, calling_app, changing_app, compare_versions_app, configure_app, divert_app, first_apps, flag_rule, fourth_apps, help_app, last_apps, lines, maybe_word_rule, option_rule, removing_app, root_rule, rooted_app, second_apps, subcommand_names, third_apps, trees_app, truename_app, undivert_app, whole_app, with_all, with_diverted, with_forced, with_owner, without_help, word_rule, words_rule};
 
 use clap::{Arg, ArgAction, Command};
 use std::alloc::{AllocError, Global};
@@ -100,6 +100,14 @@ fn rooted<'a>(alloc: Global, name: &'a str) -> Result<Command<'a>, AllocError>
     with_arg(Command::new(alloc, name), root(alloc))
 }
 
+// A subcommand that changes what is under a root.
+fn changing<'a>(alloc: Global, name: &'a str) -> Result<Command<'a>, AllocError>
+    ensures app { IfOk result (λ c. app_of c ≡ changing_app name.entry.now) }
+    ensures local { IfOk result (λ c. (fields_of c).has_globals ≡ false) }
+{
+    with_arg(rooted(alloc, name)?, option(alloc, "wait"))
+}
+
 // A subcommand under a root that asks for one word.
 fn asking<'a>(alloc: Global, name: &'a str, id: &'a str) -> Result<Command<'a>, AllocError>
     ensures app { IfOk result (λ c. app_of c ≡ asking_app name.entry.now id.entry.now) }
@@ -144,7 +152,7 @@ fn divert_command<'a>(alloc: Global) -> Result<Command<'a>, AllocError>
     ensures app { IfOk result (λ c. app_of c ≡ divert_app) }
     ensures local { IfOk result (λ c. (fields_of c).has_globals ≡ false) }
 {
-    let command = with_owner(alloc, rooted(alloc, "divert")?)?;
+    let command = with_owner(alloc, changing(alloc, "divert")?)?;
     let command = with_arg(command, option(alloc, "divert"))?;
     with_diverted(alloc, command)
 }
@@ -153,7 +161,7 @@ fn undivert_command<'a>(alloc: Global) -> Result<Command<'a>, AllocError>
     ensures app { IfOk result (λ c. app_of c ≡ undivert_app) }
     ensures local { IfOk result (λ c. (fields_of c).has_globals ≡ false) }
 {
-    let command = with_owner(alloc, rooted(alloc, "undivert")?)?;
+    let command = with_owner(alloc, changing(alloc, "undivert")?)?;
     with_diverted(alloc, command)
 }
 
@@ -168,12 +176,12 @@ fn with_forced<'a>(alloc: Global, command: Command<'a>) -> Result<Command<'a>, A
     with_arg(command, flag(alloc, "force-confmiss"))
 }
 
-// A subcommand under a root that calls scripts.
+// One that calls scripts.
 fn calling<'a>(alloc: Global, name: &'a str) -> Result<Command<'a>, AllocError>
     ensures app { IfOk result (λ c. app_of c ≡ calling_app name.entry.now) }
     ensures local { IfOk result (λ c. (fields_of c).has_globals ≡ false) }
 {
-    with_arg(rooted(alloc, name)?, flag(alloc, "scripts-stderr"))
+    with_arg(changing(alloc, name)?, flag(alloc, "scripts-stderr"))
 }
 
 // A subcommand that takes trees.

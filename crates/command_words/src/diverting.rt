@@ -4,6 +4,7 @@ ghost use Rattle.clap.specs.Words.{found_of, rows_of};
 ghost use Rattle.command_words.specs.Diversions.{diverting_of, owner_from, owner_of, undiverting_from, undiverting_of};
 
 use crate::found::{flag_of, given, is_absolute, text_of};
+use crate::waits::wait_of;
 use clap::ArgMatches;
 use std::alloc::{AllocError, Global};
 use texts::{Text, package_name};
@@ -17,6 +18,8 @@ pub struct Diverting {
     pub target: Option<Text>,
     pub rename: bool,
     pub path: Text,
+    /// For how many seconds another program's lock is waited for.
+    pub wait: u32,
 }
 
 /// A diversion to be taken away likewise; renaming brings back what stands at its target.
@@ -26,6 +29,8 @@ pub struct Undiverting {
     pub owner: Option<Text>,
     pub rename: bool,
     pub path: Text,
+    /// As above.
+    pub wait: u32,
 }
 
 // Whose diversion is asked for, if that is said: a package's or a local one.
@@ -59,11 +64,12 @@ fn undiverting_from(
     owner: Option<Option<Text>>,
     rename: bool,
     path: Option<&str>,
+    wait: Option<u32>,
 ) -> Result<Option<Undiverting>, AllocError>
     ensures { IfOk result (λ asked. asked ≡ undiverting_from (option_map (λ s. s.now) root.entry)
-        owner rename (option_map (λ s. s.now) path.entry)) }
+        owner rename (option_map (λ s. s.now) path.entry) wait) }
 {
-    let (Some(root), Some(owner), Some(path)) = (root, owner, path) else {
+    let (Some(root), Some(owner), Some(path), Some(wait)) = (root, owner, path, wait) else {
         return Ok(None);
     };
     if !is_absolute(root) {
@@ -76,6 +82,7 @@ fn undiverting_from(
         owner,
         rename,
         path,
+        wait,
     }))
 }
 
@@ -93,6 +100,7 @@ pub(crate) fn undiverting_of(
         owner,
         flag_of(found, "rename"),
         text_of(found, "PATH"),
+        wait_of(found),
     )
 }
 
@@ -113,5 +121,6 @@ pub(crate) fn diverting_of(
         target,
         rename: asked.rename,
         path: asked.path,
+        wait: asked.wait,
     }))
 }

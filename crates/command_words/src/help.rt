@@ -68,6 +68,7 @@ const CONFIGURE: &str =
 of all that wait for it where none is named.
 
   --root DIR        the root, an absolute directory; / if it isn't given
+  --wait SECONDS    how long the lock of another program is waited for; 0 if it isn't given
   --scripts-stderr  what scripts write goes to standard error
   --force-confold   an edited conffile stays, as without a flag
   --force-confnew   the package's takes the place of an edited conffile
@@ -87,6 +88,7 @@ Example: coizkerra diversions --root /srv/root
 const DIVERT: &str = "Files at PATH of all packages but P go to TARGET from now on.
 
   --root DIR       the root, an absolute directory; / if it isn't given
+  --wait SECONDS   how long the lock of another program is waited for; 0 if it isn't given
   --package P      whose own file stays at PATH
   --local          the administrator's: no package's file stays there
   --divert TARGET  PATH.distrib if it isn't given
@@ -104,6 +106,7 @@ const INSTALL: &str =
     "Unpacks the packages of trees, which dpkg-deb -R makes, and then configures them.
 
   --root DIR          the root, an absolute directory; / if it isn't given
+  --wait SECONDS      how long the lock of another program is waited for; 0 if it isn't given
   --scripts-stderr    what scripts write goes to standard error
   --owner-root        files get user and group 0, whoever made the tree
   --auto-deconfigure  installed packages may be deconfigured in their favour
@@ -131,6 +134,7 @@ Example: coizkerra listfiles --root /srv/root hello
 const PURGE: &str = "Removes packages with their conffiles, in the order that relations ask for.
 
   --root DIR        the root, an absolute directory; / if it isn't given
+  --wait SECONDS    how long the lock of another program is waited for; 0 if it isn't given
   --scripts-stderr  what scripts write goes to standard error
 
 Example: coizkerra purge --root /srv/root hello
@@ -139,6 +143,7 @@ Example: coizkerra purge --root /srv/root hello
 const REMOVE: &str = "Removes packages but their conffiles, in the order that relations ask for.
 
   --root DIR        the root, an absolute directory; / if it isn't given
+  --wait SECONDS    how long the lock of another program is waited for; 0 if it isn't given
   --scripts-stderr  what scripts write goes to standard error
 
 Example: coizkerra remove --root /srv/root hello
@@ -169,10 +174,11 @@ Example: coizkerra truename --root /srv/root /usr/bin/vi
 
 const UNDIVERT: &str = "Takes the diversion of PATH away.
 
-  --root DIR   the root, an absolute directory; / if it isn't given
-  --package P  the package whose diversion it is
-  --local      it is the administrator's
-  --rename     the file at its target is moved back
+  --root DIR      the root, an absolute directory; / if it isn't given
+  --wait SECONDS  how long the lock of another program is waited for; 0 if it isn't given
+  --package P     the package whose diversion it is
+  --local         it is the administrator's
+  --rename        the file at its target is moved back
 
 Example: coizkerra undivert --root /srv/root --local --rename /usr/bin/vi
 ";
@@ -181,6 +187,7 @@ const UNPACK: &str =
     "Puts the files of trees, which dpkg-deb -R makes, in place; configure makes the packages ready.
 
   --root DIR          the root, an absolute directory; / if it isn't given
+  --wait SECONDS      how long the lock of another program is waited for; 0 if it isn't given
   --scripts-stderr    what scripts write goes to standard error
   --owner-root        files get user and group 0, whoever made the tree
   --auto-deconfigure  installed packages may be deconfigured in their favour
@@ -225,23 +232,24 @@ impl Topic {
             Topic::Audit => "audit [--root DIR]",
             Topic::CompareVersions => "compare-versions A OP B",
             Topic::Configure =>
-                "configure [--root DIR] [--scripts-stderr] [--force-confold | --force-confnew] [--force-confmiss] [PKG..]",
+                "configure [--root DIR] [--wait SECONDS] [--scripts-stderr] [--force-confold | --force-confnew] [--force-confmiss] [PKG..]",
             Topic::Diversions => "diversions [--root DIR]",
             Topic::Divert =>
-                "divert [--root DIR] (--package P | --local) [--divert TARGET] [--rename] PATH",
+                "divert [--root DIR] [--wait SECONDS] (--package P | --local) [--divert TARGET] [--rename] PATH",
             Topic::Help => "help [COMMAND]",
             Topic::Install =>
-                "install [--root DIR] [--scripts-stderr] [--owner-root] [--auto-deconfigure] [--force-confold | --force-confnew] [--force-confmiss] TREE..",
+                "install [--root DIR] [--wait SECONDS] [--scripts-stderr] [--owner-root] [--auto-deconfigure] [--force-confold | --force-confnew] [--force-confmiss] TREE..",
             Topic::List => "list [--root DIR]",
             Topic::ListFiles => "listfiles [--root DIR] PKG",
-            Topic::Purge => "purge [--root DIR] [--scripts-stderr] PKG..",
-            Topic::Remove => "remove [--root DIR] [--scripts-stderr] PKG..",
+            Topic::Purge => "purge [--root DIR] [--wait SECONDS] [--scripts-stderr] PKG..",
+            Topic::Remove => "remove [--root DIR] [--wait SECONDS] [--scripts-stderr] PKG..",
             Topic::Search => "search [--root DIR] PATH",
             Topic::Status => "status [--root DIR] PKG",
             Topic::Truename => "truename [--root DIR] [--package P] PATH",
-            Topic::Undivert => "undivert [--root DIR] (--package P | --local) [--rename] PATH",
+            Topic::Undivert =>
+                "undivert [--root DIR] [--wait SECONDS] (--package P | --local) [--rename] PATH",
             Topic::Unpack =>
-                "unpack [--root DIR] [--scripts-stderr] [--owner-root] [--auto-deconfigure] [--force-confold | --force-confnew] [--force-confmiss] TREE..",
+                "unpack [--root DIR] [--wait SECONDS] [--scripts-stderr] [--owner-root] [--auto-deconfigure] [--force-confold | --force-confnew] [--force-confmiss] TREE..",
         }
     }
 

@@ -22,6 +22,7 @@ mod packages;
 mod query;
 mod streams;
 mod unpacking;
+mod waits;
 mod words;
 
 pub use command::subcommand_names;

@@ -1,5 +1,6 @@
 // What is wrong with the words of a subcommand in which clap finds no fault: one thing, with its word.
 use crate::found::{flag_of, is_absolute, is_package, text_of};
+use crate::waits::wait_of;
 use clap::ArgMatches;
 use shown_lines::shown;
 use std::alloc::{AllocError, Global};
@@ -33,6 +34,14 @@ fn of_root(alloc: Global, found: &ArgMatches<'_>) -> Result<Option<String>, Allo
     }
 }
 
+fn of_wait(alloc: Global, found: &ArgMatches<'_>) -> Result<Option<String>, AllocError> {
+    if wait_of(found).is_some() {
+        return Ok(None);
+    }
+    let why = "is no number of seconds below 4294967296";
+    Ok(Some(wrong_word(alloc, "--wait", text_of(found, "wait"), why)?))
+}
+
 fn of_package(alloc: Global, found: &ArgMatches<'_>) -> Result<String, AllocError> {
     let name = text_of(found, "package");
     wrong_word(alloc, "--package", name, "isn't the name of a package")
@@ -47,13 +56,16 @@ fn of_owner(alloc: Global, found: &ArgMatches<'_>) -> Result<String, AllocError>
     }
 }
 
-/// What is wrong: first with the root, then with what else the subcommand takes.
+/// What is wrong: first with the root, then with the wait, then with what else the subcommand takes.
 pub(crate) fn mistake_text(
     alloc: Global,
     name: &str,
     found: &ArgMatches<'_>,
 ) -> Result<String, AllocError> {
     if let Some(text) = of_root(alloc, found)? {
+        return Ok(text);
+    }
+    if let Some(text) = of_wait(alloc, found)? {
         return Ok(text);
     }
     match name {

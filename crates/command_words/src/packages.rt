@@ -6,6 +6,7 @@ ghost use Rattle.command_words.specs.Packages.{configuring_from, configuring_of,
 use crate::forced::{Forced, forced_of};
 use crate::found::{all_texts_of, copies, is_absolute, text_of};
 use crate::streams::{ScriptStreams, streams_of};
+use crate::waits::wait_of;
 use clap::ArgMatches;
 use std::alloc::{AllocError, Global};
 use texts::{Text, Texts};
@@ -18,6 +19,8 @@ pub struct Configuring {
     pub names: Option<Texts>,
     pub streams: ScriptStreams,
     pub forced: Forced,
+    /// For how many seconds another program's lock is waited for.
+    pub wait: u32,
 }
 
 /// Packages that are to be removed or purged under a root.
@@ -26,6 +29,8 @@ pub struct Removing {
     pub root: Text,
     pub names: Texts,
     pub streams: ScriptStreams,
+    /// As above.
+    pub wait: u32,
 }
 
 fn names_of(alloc: Global, found: &ArgMatches<'_>) -> Result<Option<Texts>, AllocError>
@@ -43,11 +48,12 @@ fn configuring_from(
     names: Option<Texts>,
     streams: ScriptStreams,
     forced: Option<Forced>,
+    wait: Option<u32>,
 ) -> Result<Option<Configuring>, AllocError>
     ensures { IfOk result (λ asked. asked
-        ≡ configuring_from (option_map (λ s. s.now) root.entry) names streams forced) }
+        ≡ configuring_from (option_map (λ s. s.now) root.entry) names streams forced wait) }
 {
-    let (Some(root), Some(forced)) = (root, forced) else {
+    let (Some(root), Some(forced), Some(wait)) = (root, forced, wait) else {
         return Ok(None);
     };
     if !is_absolute(root) {
@@ -59,6 +65,7 @@ fn configuring_from(
         names,
         streams,
         forced,
+        wait,
     }))
 }
 
@@ -76,6 +83,7 @@ pub(crate) fn configuring_of(
         names,
         streams_of(found),
         forced_of(found),
+        wait_of(found),
     )
 }
 
@@ -84,11 +92,12 @@ fn removing_from(
     root: Option<&str>,
     names: Option<Texts>,
     streams: ScriptStreams,
+    wait: Option<u32>,
 ) -> Result<Option<Removing>, AllocError>
     ensures { IfOk result (λ asked. asked ≡ removing_from (option_map (λ s. s.now) root.entry) names
-        streams) }
+        streams wait) }
 {
-    let (Some(root), Some(names)) = (root, names) else {
+    let (Some(root), Some(names), Some(wait)) = (root, names, wait) else {
         return Ok(None);
     };
     if !is_absolute(root) {
@@ -99,6 +108,7 @@ fn removing_from(
         root,
         names,
         streams,
+        wait,
     }))
 }
 
@@ -110,5 +120,6 @@ pub(crate) fn removing_of(
     ensures { IfOk result (λ asked. asked ≡ removing_of (rows_of (found_of found.now))) }
 {
     let names = names_of(alloc, found)?;
-    removing_from(alloc, text_of(found, "root"), names, streams_of(found))
+    let (root, wait) = (text_of(found, "root"), wait_of(found));
+    removing_from(alloc, root, names, streams_of(found), wait)
 }

@@ -7,6 +7,7 @@ use crate::forced::{Forced, forced_of};
 use crate::found::{all_texts_of, copies, flag_of, is_absolute, text_of};
 use crate::owners::{TreeOwners, owners_of};
 use crate::streams::{ScriptStreams, streams_of};
+use crate::waits::wait_of;
 use clap::ArgMatches;
 use std::alloc::{AllocError, Global};
 use texts::{Text, Texts};
@@ -22,6 +23,8 @@ pub struct Unpacking {
     pub owners: TreeOwners,
     pub streams: ScriptStreams,
     pub forced: Forced,
+    /// For how many seconds another program's lock is waited for.
+    pub wait: u32,
 }
 
 fn unpacking_from(
@@ -32,13 +35,14 @@ fn unpacking_from(
     owners: TreeOwners,
     streams: ScriptStreams,
     forced: Option<Forced>,
+    wait: Option<u32>,
 ) -> Result<Option<Unpacking>, AllocError>
     ensures { IfOk result (λ asked. asked
         ≡ unpacking_from (option_map (λ s. s.now) root.entry)
         (option_map (λ s. map (λ t. t.now) s.now) trees.entry)
-        auto_deconfigure owners streams forced) }
+        auto_deconfigure owners streams forced wait) }
 {
-    let (Some(root), Some(trees), Some(forced)) = (root, trees, forced) else {
+    let (Some(root), Some(trees), Some(forced), Some(wait)) = (root, trees, forced, wait) else {
         return Ok(None);
     };
     if !is_absolute(root) {
@@ -53,6 +57,7 @@ fn unpacking_from(
         owners,
         streams,
         forced,
+        wait,
     }))
 }
 
@@ -71,5 +76,6 @@ pub(crate) fn unpacking_of(
         owners_of(found),
         streams_of(found),
         forced_of(found),
+        wait_of(found),
     )
 }

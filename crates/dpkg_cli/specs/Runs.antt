@@ -16,7 +16,7 @@ around_real model failed = record {
   seen = λ state. ⊤;
   failed = failed;
   unopened = ⊤;
-  locked = λ word. ⊤;
+  locked = λ word lock. ⊤;
 }
 
 -- The status that a program ends with is that of the answer to its words, or of want of memory; it is 2 where not all of that

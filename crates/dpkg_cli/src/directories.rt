@@ -4,6 +4,7 @@ ghost use Rattle.host_core.specs.declared.fault.HostFault.TheVariants.{Declined,
 ghost use Rattle.command_line.specs.declared.fault.RootFault.TheVariants.{Host as OfHost};
 
 use crate::architectures::Architectures;
+use crate::locks::{Held, locks_of};
 use crate::progress::Line;
 use crate::watched::Watched;
 use command_line::{Hosts, RootFault, ScriptStreams, TreeOwners};
@@ -11,7 +12,6 @@ use host_core::HostFault;
 use host_files::{Disk, Failure, FilesHost, is_superuser};
 use shown_lines::shown;
 use std::alloc::AllocError;
-use std::fs::{File, TryLockError};
 use std::io::ErrorKind;
 use std::marker::PhantomData;
 use std::os::unix::fs::MetadataExt;
@@ -24,8 +24,8 @@ pub(crate) struct Directories<'a, D: Disk> {
     rt: HostRuntime,
     /// How many openings failed for a fault of the device.
     faults: u64,
-    /// The root's directory, locked: one program at a time. The system frees it when this program ends, however it ends.
-    lock: Option<File>,
+    /// What is held of the root, so that one program at a time changes it.
+    lock: Option<Held>,
     line: Line<'a>,
     /// How many trees were opened.
     trees: usize,
@@ -45,25 +45,12 @@ fn tell_line(rt: &HostRuntime, text: Result<String, AllocError>) {
 }
 
 // The fault for the system's error, which a person is told beside the fixed lines, with the directory.
-fn fault_of(rt: &HostRuntime, directory: &str, error: &io::Error) -> HostFault {
+pub(crate) fn fault_of(rt: &HostRuntime, directory: &str, error: &io::Error) -> HostFault {
     if error.kind() == ErrorKind::OutOfMemory {
         return HostFault::NoMemory;
     }
     tell_line(rt, format!(in rt.alloc(); "{directory}: {error}"));
     HostFault::Device
-}
-
-// The directory, locked, if no other program has it.
-fn lock_of(rt: &HostRuntime, directory: &str) -> Result<File, RootFault> {
-    let file = match File::open(rt, directory) {
-        Ok(file) => file,
-        Err(error) => return Err(RootFault::Host(fault_of(rt, directory, &error))),
-    };
-    match file.try_lock() {
-        Ok(()) => Ok(file),
-        Err(TryLockError::WouldBlock) => Err(RootFault::Locked),
-        Err(TryLockError::Error(error)) => Err(RootFault::Host(fault_of(rt, directory, &error))),
-    }
 }
 
 fn streams_of(streams: ScriptStreams) -> host_files::ScriptStreams {
@@ -165,45 +152,63 @@ impl<'a, D: Disk> Directories<'a, D> {
         }
     }
 
-    // Locks the root's directory, and counts a fault of the device, with a full count as above.
-    fn lock(&mut self, directory: &str) -> Result<(), RootFault>
+    // Counts a fault of the device. With a full count it is one of memory.
+    fn failed(&mut self) -> HostFault
+        ensures faults { self.old.faults ≤ self.new.faults }
+        ensures cause { result ≡ Device → self.old.faults < self.new.faults }
+        ensures undeclined { result ≡ Declined → ⊥ }
+        ensures lock { self.new.lock ≡ self.old.lock }
+    {
+        if self.faults == u64::MAX {
+            return HostFault::NoMemory;
+        }
+        self.faults += 1;
+        HostFault::Device
+    }
+
+    // Takes the root's locks, and counts a fault of the device.
+    fn lock(&mut self, directory: &str, wait: u32) -> Result<(), RootFault>
         ensures locked { OnOk result (is_some self.new.lock ≡ true) }
         ensures faults { self.old.faults ≤ self.new.faults }
         ensures cause { IsErrOf result (OfHost Device) → self.old.faults < self.new.faults }
         ensures undeclined { IsErrOf result (OfHost Declined) → ⊥ }
     {
-        if self.faults == u64::MAX {
-            return Err(RootFault::Host(HostFault::NoMemory));
-        }
-        match lock_of(&self.rt, directory) {
-            Ok(lock) => {
-                self.lock = Some(lock);
+        match locks_of(&self.rt, directory, wait) {
+            Ok(held) => {
+                self.lock = Some(held);
                 Ok(())
             }
-            Err(RootFault::Host(HostFault::Device)) => {
-                self.faults += 1;
-                Err(RootFault::Host(HostFault::Device))
-            }
+            Err(RootFault::Locked(lock)) => Err(RootFault::Locked(lock)),
             Err(RootFault::Host(HostFault::NoMemory)) => {
                 Err(RootFault::Host(HostFault::NoMemory))
             }
-            Err(RootFault::Host(HostFault::Declined)) => {
-                self.faults += 1;
-                Err(RootFault::Host(HostFault::Device))
-            }
-            Err(RootFault::Locked) => Err(RootFault::Locked),
+            Err(RootFault::Host(_)) => Err(RootFault::Host(self.failed())),
         }
     }
 
-    // Opens the root's directory, which is locked before.
-    fn open_locked(&mut self, directory: &str) -> Result<FilesHost<D>, HostFault>
-        requires { is_some self.old.lock ≡ true }
+    // The root's host. Its scripts have the administration's lock open, so that it is held as long as they run.
+    fn locked(&mut self, directory: &str, host: FilesHost<D>) -> Result<FilesHost<D>, HostFault>
+        requires held { is_some self.old.lock ≡ true }
+        requires fresh { host.told.log.notes ≡ [] }
         ensures fresh { IfOk result (λ host. host.told.log.notes ≡ []) }
         ensures faults { self.old.faults ≤ self.new.faults }
         ensures cause { IsErrOf result Device → self.old.faults < self.new.faults }
         ensures undeclined { IsErrOf result Declined → ⊥ }
     {
-        self.open(directory)
+        let mut host = host;
+        let copied = match &self.lock {
+            Some(held) => held.copied(),
+            None => Ok(None),
+        };
+        match copied {
+            Ok(Some(input)) => host.set_script_input(input),
+            Ok(None) => (),
+            Err(error) => {
+                let _ = fault_of(&self.rt, directory, &error);
+                return Err(self.failed());
+            }
+        }
+        Ok(host)
     }
 }
 
@@ -227,16 +232,23 @@ impl<'a, D: Disk> Hosts for Directories<'a, D> {
     ghost unopened = { λ _ _. ⊤ };
 
     // nor of what other programs hold
-    ghost locked = { λ _ _. ⊤ };
+    ghost locked = { λ _ _ _. ⊤ };
 
     fn open_root(
         &mut self,
         directory: &str,
         streams: ScriptStreams,
+        wait: u32,
     ) -> Result<Watched<'a, D>, RootFault> {
-        self.lock(directory)?;
-        let mut host = self.open_locked(directory)?;
+        let host = self.open(directory)?;
+        self.lock(directory, wait)?;
+        let mut host = self.locked(directory, host)?;
         host.set_script_streams(streams_of(streams));
+        Ok(self.watched(host))
+    }
+
+    fn look_at_root(&mut self, directory: &str) -> Result<Watched<'a, D>, HostFault> {
+        let host = self.open(directory)?;
         Ok(self.watched(host))
     }
 
@@ -247,7 +259,8 @@ impl<'a, D: Disk> Hosts for Directories<'a, D> {
         }
         self.line.show_tree(tree, self.trees);
         self.trees = self.trees.saturating_add(1);
-        let host = self.open(tree)?;
+        let mut host = self.open(tree)?;
+        host.set_tree();
         Ok(self.watched(host))
     }
 

@@ -16,6 +16,7 @@ ghost use Rattle.dpkg_cli.specs.Runs.{IsAnswered};
 mod architectures;
 mod directories;
 mod fixed_lines;
+mod locks;
 mod mask;
 mod progress;
 mod standard_streams;

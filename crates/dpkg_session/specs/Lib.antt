@@ -8,7 +8,6 @@ pub mod Turns
 pub mod History
 pub mod PowerLoss
 pub mod Checkpoints
-pub mod Queries
 pub mod Diversions
 pub mod Asked
 pub mod Installs

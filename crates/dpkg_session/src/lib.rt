@@ -1,14 +1,13 @@
-//! A session over one root: commands as lists of units, and questions about what it holds.
+//! A session over one root: commands as lists of units.
 //!
 //! # What is proved
 //!
-//! `Session::open`, `run`, `install`, `configure`, `remove`, `purge`, `into_host` and the
-//! questions. `configure`, `remove` and `purge` have the clauses of `run`, with the units of
-//! configure_run and removal_run in the place of the unpacks; `install` is a run of unpacks and
-//! then a configure of the packages whose unpack was done, each with those that were deconfigured
-//! for it, without those that a later candidate took away, with a report of each. An open session
-//! always knows its administration, records, lists and diversions (`ready`), and keeps the places
-//! of all listed paths (`opened`).
+//! `Session::open`, `run`, `install`, `configure`, `remove`, `purge` and `into_host`. `configure`,
+//! `remove` and `purge` have the clauses of `run`, with the units of configure_run and removal_run
+//! in the place of the unpacks; `install` is a run of unpacks and then a configure of the packages
+//! whose unpack was done, each with those that were deconfigured for it, without those that a later
+//! candidate took away, with a report of each. An open session always knows its administration,
+//! records, lists and diversions (`ready`), and keeps the places of all listed paths (`opened`).
 //!
 //! Where it keeps what the recorded packages state of others, that is what the records state at
 //! each command (`indexed`).
@@ -65,9 +64,6 @@
 //! any change between them at other paths than the program's own, all parts of the administration
 //! can be read, and it stands for the records and diversions that the last of them left, and for
 //! the lists of before. A run that ended without Broken only looked or is on the disk (`answered`).
-//! `list`, `audit`, `status`, `files`, `search`, `truename` and `diversions` give the text that
-//! crate queries defines over the session's records, lists and diversions; a closed session says so
-//! and nothing else, and exactly a package without a record is unknown to `status` and `files`.
 #![tactic(auto)]
 
 mod asked;
@@ -78,7 +74,6 @@ mod diverting;
 mod done;
 mod installing;
 mod laws;
-mod questions;
 mod recorded;
 mod refusal;
 mod removing;
@@ -96,7 +91,6 @@ mod unpacks;
 pub use asked::{Diverting, Undiverting};
 pub use installing::Installed;
 pub use laws::history_stands;
-pub use questions::QueryFault;
 pub use report::Candidate;
 pub use session::Session;
 pub use trees::Trees;

@@ -1,3 +1,4 @@
+pub mod Finding
 mod Openings
 pub mod OneTable
 mod Faultless

@@ -30,6 +30,7 @@ use Rattle.diversions.specs.Lines.{HasDiversions, HasEntries, IsDiversionsDamage
 use Rattle.file_lists.specs.Filed.{Filed}
 use Rattle.file_lists.specs.Lists.{HasLists}
 use Rattle.file_lists.specs.declared.paths.PackageList.{PackageList}
+use Rattle.opening.proofs.Finding.{damage_before, finds_behind, host_damage, memory_damage}
 use Rattle.opening.proofs.KeptLists.{has_lists_kept}
 use Rattle.opening.specs.declared.open.Opened.{Opened as AnOpened}
 use Rattle.status_records.specs.declared.record.Record.{Record}
@@ -213,32 +214,6 @@ all_kept : (among : List Part) (u v : World) → AllByRecursion IsEarly among �
 all_kept [] u v early opening fine = tt
 all_kept (part ∷ among) u v early opening fine = (fine_kept part u v early.0 opening fine.0, all_kept among u v early.1 opening fine.1)
 
-all_append : (P : Part → Type 0) (a b : List Part) → AllByRecursion P a → AllByRecursion P b → AllByRecursion P (a ++ b)
-all_append P [] b first second = second
-all_append P (part ∷ a) b first second = (first.0, all_append P a b first.1 second)
-
-fault_behind : (a b : List Part) (w : World) (file : Path) (line : ℕ) → AllByRecursion (IsFine w) a → IsFirstFault b w file line → IsFirstFault (a ++ b) w file line
-fault_behind [] b w file line fine fault = fault
-fault_behind (part ∷ a) b w file line fine fault = inr (fine.0, fault_behind a b w file line fine.1 fault)
-
-fault_before : (a b : List Part) (w : World) (file : Path) (line : ℕ) → IsFirstFault a w file line → IsFirstFault (a ++ b) w file line
-fault_before [] b w file line fault = absurd fault
-fault_before (part ∷ a) b w file line (inl here) = inl here
-fault_before (part ∷ a) b w file line (inr later) = inr (later.0, fault_before a b w file line later.1)
-
-finds_behind : (a b : List Part) (w : World) (fault : Option AdministrationFault) → AllByRecursion (IsFine w) a → Finds b w fault → Finds (a ++ b) w fault
-finds_behind a b w None fine finds = all_append (IsFine w) a b fine finds
-finds_behind a b w (Some (Damaged file line)) fine finds = fault_behind a b w file line fine finds
-finds_behind a b w (Some Device) fine finds = tt
-finds_behind a b w (Some NoMemory) fine finds = tt
-finds_behind a b w (Some Declined) fine finds = tt
-
-damage_before : (a b : List Part) (w : World) (fault : AdministrationFault) → IsDamage a w fault → IsDamage (a ++ b) w fault
-damage_before a b w (Damaged file line) finds = fault_before a b w file line finds
-damage_before a b w Device finds = tt
-damage_before a b w NoMemory finds = tt
-damage_before a b w Declined finds = tt
-
 either_false : (x y : Bool) → (x || y) ≡ false → (x ≡ false) × (y ≡ false)
 either_false true y e = absurd (true≢false e)
 either_false false y e = (refl, e)
@@ -301,15 +276,6 @@ opens_read among fault u v same finds = record {
 -- the same parts, after looking alone
 pub opens_after : (among : List Part) (fault : Option AdministrationFault) (u v w : World) → v ≡ u → Opens among fault v w → Opens among fault u w
 opens_after among fault u v w same later = subst (λ x. Opens among fault x w) same later
-
--- want of memory, or a fault of the host
-memory_damage : (among : List Part) (w : World) (fault : AdministrationFault) → fault ≡ NoMemory → IsDamage among w fault
-memory_damage among w fault is = subst (IsDamage among w) (sym is) tt
-
-host_damage : (among : List Part) (w : World) (h : HostFault) (fault : AdministrationFault) → fault ≡ fault_of h → IsDamage among w fault
-host_damage among w host.Device fault is = subst (IsDamage among w) (sym is) tt
-host_damage among w host.NoMemory fault is = subst (IsDamage among w) (sym is) tt
-host_damage among w host.Declined fault is = subst (IsDamage among w) (sym is) tt
 
 host_spared : (h : HostFault) (fault : AdministrationFault) → fault ≡ fault_of h → IsDamaged (Some fault) → ⊥
 host_spared host.Device fault is damaged = subst (λ f. IsDamaged (Some f)) is damaged

@@ -18,4 +18,4 @@ mod open;
 mod stopped;
 
 pub use laws::{a_stopped_opening_can_be_opened, what_is_fine_has_no_fault};
-pub use open::{Opened, open_administration};
+pub use open::{Opened, check_root, names_of, open_administration};

@@ -78,8 +78,8 @@ fn is_directory<H: Host>(host: &mut H, path: &RootPath) -> Result<bool, HostFaul
     }
 }
 
-// The root has to be a directory.
-fn check_root<H: Host>(alloc: Global, host: &mut H) -> Result<(), AdministrationFault>
+/// The root has to be a directory.
+pub fn check_root<H: Host>(alloc: Global, host: &mut H) -> Result<(), AdministrationFault>
     ensures opens { IsTrue (H.state host.new).honest
         → Opens (Root ∷ []) (fault_in result) (H.state host.old).world (H.state host.new).world }
     ensures reads { Reads (H.state host.old) (H.state host.new) }
@@ -124,8 +124,8 @@ fn check_spare<H: Host>(alloc: Global, host: &mut H, place: &str) -> Result<(), 
     Ok(())
 }
 
-// The names of the packages that have a record.
-fn names_of(alloc: Global, records: &[Record]) -> Result<Texts, AllocError>
+/// The names of the packages that have a record.
+pub fn names_of(alloc: Global, records: &[Record]) -> Result<Texts, AllocError>
     ensures { IfOk result (λ names. names ≡ names_of records.now) }
 {
     let mut names = Texts::new(alloc);

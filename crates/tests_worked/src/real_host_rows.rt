@@ -2,6 +2,7 @@
 // for the superuser and a plain user stands in owner_rows, which scripts/owners runs as both.
 mod owner_rows;
 mod remembered_rows;
+mod removal_rows;
 
 use host_core::{Access, Content, Host, HostFault, Kind, Node, RootPath};
 use host_files::{FilesHost, Unknown};
@@ -287,6 +288,45 @@ fn directories_with_entries(rt: HostRuntime) -> Result<(), Fail> {
     Ok(())
 }
 
+// A pipe or socket is a file without bytes, which is never opened: that would wait without end.
+const PIPES: &[Row] = &[
+    (
+        "mkfifo -m 640 root/pipe
+mkdir root/bare
+echo one >root/file
+ln -s pipe root/link",
+        ("kind", "/pipe", ""),
+        "file",
+    ),
+    ("", ("sync", "/pipe", "/"), "done"),
+    ("", ("link", "/pipe", "/second"), "done"),
+    (
+        "[ root/pipe -ef root/second ]",
+        ("move", "/file", "/pipe"),
+        "done",
+    ),
+    ("", ("move", "/second", "/link"), "done"),
+    ("", ("make", "/link/below", ""), "Device"),
+    ("", ("kind", "/link/below", ""), "nothing"),
+    ("mkfifo root/gone", ("remove", "/gone", "/"), "done"),
+    ("mkfifo root/made", ("make", "/made", ""), "Device"),
+    ("", ("remove_dir", "/made", "/"), "Device"),
+    ("", ("barrier", "/", "/"), "done"),
+];
+
+#[test]
+fn pipes(rt: HostRuntime) -> Result<(), Fail> {
+    let left = run(&rt, PIPES, "find root -printf '%p %y %m\n' | LC_ALL=C sort")?;
+    let row = "root d 755
+root/bare d 755
+root/link p 640
+root/made p 644
+root/pipe f 644
+";
+    assert_eq!(&rt; left.as_str(), row);
+    Ok(())
+}
+
 // What was there when a name changed may be gone, or something else, when all is brought to the disk.
 const BARRIERS: &[Row] = &[
     (
@@ -308,7 +348,7 @@ mkfifo root/taken",
         ("barrier", "/", "/"),
         "done",
     ),
-    ("", ("kind", "/taken", ""), "Device"),
+    ("", ("kind", "/taken", ""), "file"),
     ("", ("kind", "/linked", ""), "link"),
     ("", ("kind", "/linked/below", ""), "nothing"),
     ("", ("kind", "/", ""), "directory"),

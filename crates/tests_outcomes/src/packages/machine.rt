@@ -256,16 +256,24 @@ impl Hosts for Machine {
     ghost unopened = { λ old new. option_map memory_state new.root ≡ option_map memory_state old.root };
 
     // no other program has the root
-    ghost locked = { λ _ _. ⊥ };
+    ghost locked = { λ _ _ _. ⊥ };
 
     fn open_root(
         &mut self,
         _directory: &str,
         _streams: ScriptStreams,
+        _wait: u32,
     ) -> Result<MemoryHost, RootFault> {
         match self.root.take() {
             Some(host) => Ok(host),
             None => Err(RootFault::Host(HostFault::NoMemory)),
+        }
+    }
+
+    fn look_at_root(&mut self, _directory: &str) -> Result<MemoryHost, HostFault> {
+        match self.root.take() {
+            Some(host) => Ok(host),
+            None => Err(HostFault::NoMemory),
         }
     }
 

@@ -164,7 +164,13 @@ fn add_names(names: &[Text], text: &mut String) -> Result<(), AllocError> {
 }
 
 fn add_info(alloc: Global, host: &mut MemoryHost, text: &mut String) -> Result<(), AllocError> {
-    match host.list(&RootPath::from_str(alloc, "/var/lib/dpkg/info")?) {
+    let path = RootPath::from_str(alloc, "/var/lib/dpkg/info")?;
+    match host.node(&path) {
+        Ok(None) => return Ok(()),
+        Ok(Some(_)) => {}
+        Err(_) => return Err(AllocError),
+    }
+    match host.list(&path) {
         Ok(listing) => add_names(listing.names.as_slice(), text),
         Err(_) => Err(AllocError),
     }
@@ -330,16 +336,24 @@ impl Hosts for MemoryHosts {
     ghost unopened = { λ old new. option_map memory_state new.root ≡ option_map memory_state old.root };
 
     // no other program has the root
-    ghost locked = { λ _ _. ⊥ };
+    ghost locked = { λ _ _ _. ⊥ };
 
     fn open_root(
         &mut self,
         _directory: &str,
         _streams: ScriptStreams,
+        _wait: u32,
     ) -> Result<MemoryHost, RootFault> {
         match self.root.take() {
             Some(host) => Ok(host),
             None => Err(RootFault::Host(HostFault::NoMemory)),
+        }
+    }
+
+    fn look_at_root(&mut self, _directory: &str) -> Result<MemoryHost, HostFault> {
+        match self.root.take() {
+            Some(host) => Ok(host),
+            None => Err(HostFault::NoMemory),
         }
     }
 

@@ -38,6 +38,20 @@ impl RealHosts {
             broken: 0,
         }
     }
+
+    // With a full count nothing is opened any more.
+    fn open(&mut self, directory: &str) -> Result<RealHost, HostFault> {
+        if self.opened == u64::MAX {
+            return Err(HostFault::NoMemory);
+        }
+        self.opened += 1;
+        match FilesHost::open(self.rt, directory) {
+            Ok(host) => Ok(host),
+            Err(HostFault::NoMemory) => Err(HostFault::NoMemory),
+            Err(HostFault::Device) => Err(HostFault::Device),
+            Err(HostFault::Declined) => Err(HostFault::Device),
+        }
+    }
 }
 
 impl Hosts for RealHosts {
@@ -56,28 +70,25 @@ impl Hosts for RealHosts {
     ghost unopened = { λ _ _. ⊤ };
 
     // these tests have their roots to themselves
-    ghost locked = { λ _ _. ⊥ };
+    ghost locked = { λ _ _ _. ⊥ };
 
     fn open_root(
         &mut self,
         directory: &str,
         _streams: ScriptStreams,
+        _wait: u32,
     ) -> Result<RealHost, RootFault> {
-        Ok(self.open_tree(directory, TreeOwners::Kept)?)
+        Ok(self.open(directory)?)
     }
 
-    // With a full count nothing is opened any more.
+    fn look_at_root(&mut self, directory: &str) -> Result<RealHost, HostFault> {
+        self.open(directory)
+    }
+
     fn open_tree(&mut self, tree: &str, _owners: TreeOwners) -> Result<RealHost, HostFault> {
-        if self.opened == u64::MAX {
-            return Err(HostFault::NoMemory);
-        }
-        self.opened += 1;
-        match FilesHost::open(self.rt, tree) {
-            Ok(host) => Ok(host),
-            Err(HostFault::NoMemory) => Err(HostFault::NoMemory),
-            Err(HostFault::Device) => Err(HostFault::Device),
-            Err(HostFault::Declined) => Err(HostFault::Device),
-        }
+        let mut host = self.open(tree)?;
+        host.set_tree();
+        Ok(host)
     }
 
     fn close_root(&mut self, host: RealHost) {

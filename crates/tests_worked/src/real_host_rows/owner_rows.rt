@@ -110,7 +110,92 @@ fn written_access(rt: HostRuntime) -> Result<(), Fail> {
     }
 }
 
-// Steps in a directory that only others may change are declined, and leave what was there. The superuser may change it.
+// An access that a directory is made with; one above it may hand down its group.
+const DIRECTORIES: &[(&str, u16, u32, u32)] = &[
+    ("/plain", 0o755, 0, 0),
+    ("/closed", 0o500, 0, 0),
+    ("/unread", 0o311, 0, 0),
+    ("/wide", 0o1777, 0, 0),
+    ("/grouped/plain", 0o775, 0, 0),
+    ("/grouped/handed", 0o2775, 0, 42),
+    ("/lent", 0o2755, 1, 42),
+    ("/owned", 0o755, 1, 42),
+];
+
+fn make_each(rt: &HostRuntime, root: &str) -> Result<String, Fail> {
+    let alloc = rt.alloc();
+    let mut host: RealHost = FilesHost::open(*rt, root)?;
+    let mut text = String::new(alloc);
+    for (path, mode, user, group) in DIRECTORIES {
+        let access = Access {
+            mode: *mode,
+            user: *user,
+            group: *group,
+        };
+        match host.make_dir(&RootPath::from_str(alloc, path)?, access) {
+            Ok(()) => {}
+            Err(fault) => {
+                text.push_str(format!(in alloc; "{path}: {fault:?}\n")?.as_str())?;
+            }
+        }
+    }
+    Ok(text)
+}
+
+#[test]
+fn made_access(rt: HostRuntime) -> Result<(), Fail> {
+    let directory = shell(&rt, NEW_DIRECTORY, "/")?;
+    let superuser = is_superuser(&rt)?;
+    let format = match superuser {
+        true => "%p %m %U %G\n",
+        false => "%p %m\n",
+    };
+    let lines = match superuser {
+        true => "mkdir root/grouped; chgrp 42 root/grouped; chmod 2755 root/grouped",
+        false => "mkdir root/grouped",
+    };
+    shell(&rt, lines, directory.as_str())?;
+    let root = format!(in rt.alloc(); "{directory}/root")?;
+    let mut text = make_each(&rt, root.as_str())?;
+    let look = format!(in rt.alloc();
+        "cd root
+find . -type d ! -name . -printf '{format}' 2>/dev/null | LC_ALL=C sort
+chmod -R u+rwx ."
+    )?;
+    text.push_str(shell(&rt, look.as_str(), directory.as_str())?.as_str())?;
+    fs::remove_dir_all(&rt, directory.as_str())?;
+    let row = match superuser {
+        true => MADE_BY_SUPERUSER,
+        false => MADE_BY_PLAIN_USER,
+    };
+    assert_eq!(&rt; text.as_str(), row);
+    Ok(())
+}
+
+const MADE_BY_SUPERUSER: &str = "./closed 500 0 0
+./grouped 2755 0 42
+./grouped/handed 2775 0 42
+./grouped/plain 775 0 0
+./lent 2755 1 42
+./owned 755 1 42
+./plain 755 0 0
+./unread 311 0 0
+./wide 1777 0 0
+";
+
+const MADE_BY_PLAIN_USER: &str = "/grouped/handed: Device
+/lent: Device
+/owned: Device
+./closed 500
+./grouped 755
+./grouped/plain 775
+./plain 755
+./unread 311
+./wide 1777
+";
+
+// Steps in a directory that only others may change are declined, and leave what was there; so is a removal in one that only
+// others may read. The superuser may change it.
 const CLOSED: &[Row] = &[
     (
         "mkdir root/closed root/closed/bare
@@ -131,6 +216,11 @@ chmod 555 root/closed",
     ("", ("kind", "/file", ""), "file"),
     ("", ("sync", "/closed/old", "/"), "done"),
     ("", ("barrier", "/", "/"), "done"),
+    (
+        "chmod 333 root/closed",
+        ("remove", "/closed/old", "/"),
+        "Declined",
+    ),
 ];
 
 const CLOSED_LEFT: &str = "chmod 755 root/closed

@@ -61,7 +61,7 @@ pub returns-in-Ok-Unpack-clause-answered : goal.returns-in-Ok-Unpack-clause-answ
 returns-in-Ok-Unpack-clause-answered g c =
     let asked : asked_of (map string_bytes c.args.words.now) ≡ Some (Unpack c.in-Ok-Unpack.unpacking) = search rules in
     let ended = c.unpacked.ensures.ended in
-    (trees_answer c.in-Ok-Unpack.unpacking.root ended.0, rw asked (inl (ended.0, ended.1, refl)), ended.2)
+    (trees_answer ended.0, rw asked (inl (ended.0, ended.1, refl)), ended.2)
 
 pub returns-in-Ok-Install-clause-answered : goal.returns-in-Ok-Install-clause-answered
 returns-in-Ok-Install-clause-answered g c =
@@ -72,25 +72,25 @@ returns-in-Ok-Install-clause-answered g c =
     let a : Around = around g.S.Hosts old new in
     let ended = c.unpacked-in-Ok-Install.ensures.ended in
     let as_forced = with_policy a c.policy_of-policy.result (policy_of unpacking.forced) unpacking ended.0 c.policy_of-policy.ensures ended.1 in
-    (trees_answer unpacking.root ended.0, rw asked (inl (ended.0, as_forced, refl)), ended.2)
+    (trees_answer ended.0, rw asked (inl (ended.0, as_forced, refl)), ended.2)
 
 pub returns-in-Ok-Configure-clause-answered : goal.returns-in-Ok-Configure-clause-answered
 returns-in-Ok-Configure-clause-answered g c =
     let asked : asked_of (map string_bytes c.args.words.now) ≡ Some (Configure c.in-Ok-Configure.asked) = search rules in
     let ended = c.configured.ensures.ended in
-    (work_answer c.in-Ok-Configure.asked.root ended.0, rw asked (inl (ended.0, ended.1, refl)), ended.2)
+    (work_answer ended.0, rw asked (inl (ended.0, ended.1, refl)), ended.2)
 
 pub returns-in-Ok-Remove-clause-answered : goal.returns-in-Ok-Remove-clause-answered
 returns-in-Ok-Remove-clause-answered g c =
     let asked : asked_of (map string_bytes c.args.words.now) ≡ Some (Remove c.in-Ok-Remove.asked) = search rules in
     let ended = c.removed.ensures.ended in
-    (work_answer c.in-Ok-Remove.asked.root ended.0, rw asked (inl (ended.0, ended.1, refl)), ended.2)
+    (work_answer ended.0, rw asked (inl (ended.0, ended.1, refl)), ended.2)
 
 pub returns-in-Ok-Purge-clause-answered : goal.returns-in-Ok-Purge-clause-answered
 returns-in-Ok-Purge-clause-answered g c =
     let asked : asked_of (map string_bytes c.args.words.now) ≡ Some (Purge c.in-Ok-Purge.asked) = search rules in
     let ended = c.purged.ensures.ended in
-    (work_answer c.in-Ok-Purge.asked.root ended.0, rw asked (inl (ended.0, ended.1, refl)), ended.2)
+    (work_answer ended.0, rw asked (inl (ended.0, ended.1, refl)), ended.2)
 
 pub returns-in-Err-Usage-clause-answered : goal.returns-in-Err-Usage-clause-answered
 returns-in-Err-Usage-clause-answered g c =

@@ -14,7 +14,7 @@ returns-in-Ok-Ok-clause-answered g c =
     let a : Around = around g.S.Hosts old new in
     let ended = c.changed.ensures.ended in
     let read : IsRead (bad_of_undivert asked) (IsUndivertOf asked) (Ok c.in-Ok-Ok.change) = subst (IsRead (bad_of_undivert asked) (IsUndivertOf asked)) c.in-Ok-Ok.field-0-is c.in-Ok-Ok.ensures in
-    (ended_answer asked.root ended.0, inl (read_change a asked.root (bad_of_undivert asked) (IsUndivertOf asked) c.in-Ok-Ok.change (ended_answer asked.root ended.0) read (ended.0, ended.1, refl)), ended.2)
+    (ended_answer ended.0, inl (read_change a asked.root (bad_of_undivert asked) (IsUndivertOf asked) c.in-Ok-Ok.change (ended_answer ended.0) read (ended.0, ended.1, refl)), ended.2)
 
 pub returns-in-Ok-Err-clause-answered : goal.returns-in-Ok-Err-clause-answered
 returns-in-Ok-Err-clause-answered g c =

@@ -25,6 +25,6 @@ returns-in-Ok-clause-ended g c =
 
 pub returns-in-Err-clause-ended : goal.returns-in-Err-clause-ended
 returns-in-Err-clause-ended g c =
-    let told = trees_answer c.args.unpacking.now.root (Err c.in-Err.fault) in
+    let told = trees_answer (Err c.in-Err.fault) in
     let held = g.O.Write.contents c.args.out.now in
     (Err c.in-Err.fault, c.in-Err.ensures.refused, subst (λ (h : Option (List ℕ)). IsLeft told held h c.whole.result) (search rules) (c.whole.ensures.left told held c.not_opened.ensures))

@@ -1,6 +1,7 @@
 // Questions about an administration in memory: the answers, and what is left.
-use super::check;
+use super::super::expect;
 use super::script_rows::{DAMAGING, WITH_POSTRM};
+use super::{answers, check};
 use host_core::Outcome;
 use std::test::Fail;
 
@@ -97,11 +98,11 @@ fn cut_list_is_damage(rt: HostRuntime) -> Result<(), Fail> {
     let lines = [
         "write /var/lib/dpkg/status Package: victor\nStatus: install ok installed\nVersion: 1\n",
         "write /var/lib/dpkg/info/victor.list /.\n/usr\n/usr/bi",
-        "dpkg_cli list",
+        "dpkg_cli audit",
         "write /var/lib/dpkg/info/victor.list /.\nusr\n/usr/bi",
-        "dpkg_cli list",
+        "dpkg_cli audit",
         "write /var/lib/dpkg/info/victor.list /.",
-        "dpkg_cli list",
+        "dpkg_cli audit",
         "write /var/lib/dpkg/info/victor.list ",
         "dpkg_cli listfiles victor",
     ];
@@ -127,7 +128,7 @@ Version: 1
 fn damage_is_told_in_place_of_an_answer(rt: HostRuntime) -> Result<(), Fail> {
     let lines = [
         "write /var/lib/dpkg/diversions /a\n/b\n:\nno path\n/c\n:\n",
-        "dpkg_cli list",
+        "dpkg_cli diversions",
         DAMAGING,
         "dpkg_cli status alpha",
         "dpkg_cli search a",
@@ -144,4 +145,119 @@ expected: a field of a package's record, \"Name: value\", once and with a value 
 Status
 |||||";
     check(&rt, &[], &[], &lines, row)
+}
+
+// Nothing stands under the root, and nothing stands there behind the questions.
+#[test]
+fn nothing_is_made_for_questions(rt: HostRuntime) -> Result<(), Fail> {
+    let lines = [
+        "dpkg_cli list",
+        "dpkg_cli audit",
+        "dpkg_cli status alpha",
+        "dpkg_cli listfiles alpha",
+        "dpkg_cli search /usr/bin/x",
+        "dpkg_cli truename /usr/bin/x",
+        "dpkg_cli diversions",
+        "read /",
+    ];
+    let row = "||0
+||0
+refused alpha Unknown
+||1
+refused alpha Unknown
+||1
+||1
+/usr/bin/x
+||0
+||0
+directory:
+";
+    expect(&rt, answers(rt.alloc(), &[], &[], &[], &lines), row)
+}
+
+// A note and a script that a unit left which was broken off: the noted record is told, and all of it stays.
+const NOTED: &[&str] = &[
+    "write /var/lib/dpkg/status Package: alpha\nStatus: install ok unpacked\nVersion: 1\n",
+    "write /var/lib/dpkg/updates/0001 Package: alpha\nStatus: install ok half-configured\nVersion: 1\n",
+    "write /var/lib/dpkg/tmp.ci/preinst #!/bin/sh\n",
+];
+
+#[test]
+fn notes_stay_behind_questions(rt: HostRuntime) -> Result<(), Fail> {
+    let lines = [
+        "dpkg_cli list",
+        "dpkg_cli audit",
+        "read /var/lib/dpkg/status",
+        "read /var/lib/dpkg",
+        "read /var/lib/dpkg/tmp.ci",
+    ];
+    let row = "alpha 1 half-configured
+||0
+directory: 0001
+alpha half-configured ok
+||0
+directory: 0001
+Package: alpha
+Status: install ok unpacked
+Version: 1
+
+directory: status tmp.ci updates
+directory: preinst
+";
+    expect(&rt, answers(rt.alloc(), &[], &[], NOTED, &lines), row)
+}
+
+// Bravo's list and the diversions are damaged.
+const DAMAGED: &[&str] = &[
+    "write /var/lib/dpkg/status Package: alpha\nStatus: install ok installed\nVersion: 1\n\nPackage: bravo\nStatus: install ok installed\nVersion: 2\n",
+    "write /var/lib/dpkg/info/alpha.list /.\n/usr\n",
+    "write /var/lib/dpkg/info/bravo.list usr\n",
+    "write /var/lib/dpkg/diversions /a\n",
+];
+
+#[test]
+fn what_a_question_does_not_read_is_not_damaged(rt: HostRuntime) -> Result<(), Fail> {
+    let lines = [
+        "dpkg_cli list",
+        "dpkg_cli listfiles alpha",
+        "dpkg_cli listfiles gamma",
+        "dpkg_cli listfiles bravo",
+        "dpkg_cli audit",
+        "dpkg_cli search /usr",
+        "dpkg_cli truename /usr",
+        "write /var/lib/dpkg/status no field\n",
+        "dpkg_cli truename /usr",
+        "dpkg_cli listfiles alpha",
+        "write /var/lib/dpkg/diversions ",
+        "dpkg_cli diversions",
+    ];
+    let row = "alpha 1 installed
+bravo 2 installed
+||0
+/.
+/usr
+||0
+refused gamma Unknown
+||1
+|damaged /var/lib/dpkg/info/bravo.list 1
+expected: an absolute path, or /. for the root
+|2
+|damaged /var/lib/dpkg/info/bravo.list 1
+expected: an absolute path, or /. for the root
+|2
+|damaged /var/lib/dpkg/info/bravo.list 1
+expected: an absolute path, or /. for the root
+|2
+|damaged /var/lib/dpkg/diversions 1
+expected: three lines for each diversion: a path, its target, and a package or :
+|2
+|damaged /var/lib/dpkg/diversions 1
+expected: three lines for each diversion: a path, its target, and a package or :
+|2
+|damaged /var/lib/dpkg/status 1
+expected: a field of a package's record, \"Name: value\", once and with a value that can be read
+|2
+||0
+";
+    expect(&rt, answers(rt.alloc(), &[], &[], DAMAGED, &lines), row)
 }

@@ -37,6 +37,7 @@ pub(crate) const FAULTS: &[&str] = &[
     "dpkg_cli list --version",
     "dpkg_cli help fetch",
     "dpkg_cli help install unpack",
+    "dpkg_cli list --wait 3",
 ];
 
 /// The names of the subcommands, and nothing on standard error.
@@ -155,6 +156,22 @@ const FAULTS_BY_WORD: &[(&str, &str)] = &[
     (
         "dpkg_cli undivert --local --package aa /usr/bin/v",
         "--package and --local exclude each other",
+    ),
+    (
+        "dpkg_cli remove --wait 1.5 alpha",
+        "--wait: \"1.5\" is no number of seconds below 4294967296",
+    ),
+    (
+        "dpkg_cli divert --wait +3 --local /usr/bin/v",
+        "--wait: \"+3\" is no number of seconds below 4294967296",
+    ),
+    (
+        "dpkg_cli unpack --wait 4294967296 t",
+        "--wait: \"4294967296\" is no number of seconds below 4294967296",
+    ),
+    (
+        "dpkg_cli configure --wait=",
+        "--wait: \"\" is no number of seconds below 4294967296",
     ),
     (
         "dpkg_cli compare-versions 1 is 1",

@@ -220,6 +220,107 @@ fn a_package_comes_and_goes(rt: HostRuntime) -> Result<(), Fail> {
     check(&rt, LIVED)
 }
 
+const LOOK_AT_KINDS: &str = "cat started
+>started
+cd root
+find . -path ./var -prune -o ! -name . -printf '%y %m %p\n' | LC_ALL=C sort -k 3";
+
+// A pipe at a listed path is put back, replaced and removed like a file.
+const PIPES: &[Deed] = &[
+    Deed {
+        before: "mkdir root
+>started
+tree one zulu 1
+script one postrm 755 '[ $1 != upgrade ]'
+mkdir -p one/opt/z
+echo one >one/opt/z/bin
+echo one >one/opt/z/gone",
+        words: "install",
+        tree: "one",
+        calls: "",
+        rest: "state zulu 1 install ok unpacked
+done
+state zulu 1 install ok installed
+done
+||0
+",
+        look: LOOK_AT_KINDS,
+        left: "d 755 ./opt
+d 755 ./opt/z
+f 644 ./opt/z/bin
+f 644 ./opt/z/gone
+",
+    },
+    Deed {
+        before: "tree two zulu 2
+script two postrm 755 '[ $1 != failed-upgrade ] || [ -e ../fine ]'
+mkdir -p two/opt/z
+echo two >two/opt/z/bin
+rm root/opt/z/bin
+mkfifo root/opt/z/bin",
+        words: "unpack",
+        tree: "two",
+        calls: "call old zulu postrm upgrade 2: exit 1
+call new zulu postrm failed-upgrade 1 2: exit 1
+call new zulu postrm abort-upgrade 1 2: exit 0
+",
+        rest: "state zulu 1 install ok installed
+failed zulu postrm upgrade 2
+||1
+",
+        look: LOOK_AT_KINDS,
+        left: "postrm upgrade 2
+postrm failed-upgrade 1 2
+postrm abort-upgrade 1 2
+d 755 ./opt
+d 755 ./opt/z
+p 644 ./opt/z/bin
+f 644 ./opt/z/gone
+",
+    },
+    Deed {
+        before: ">fine
+rm root/opt/z/gone
+mkfifo root/opt/z/gone",
+        words: "unpack",
+        tree: "two",
+        calls: "call old zulu postrm upgrade 2: exit 1
+call new zulu postrm failed-upgrade 1 2: exit 0
+",
+        rest: "state zulu 2 install ok unpacked
+done
+||0
+",
+        look: LOOK_AT_KINDS,
+        left: "postrm upgrade 2
+postrm failed-upgrade 1 2
+d 755 ./opt
+d 755 ./opt/z
+f 644 ./opt/z/bin
+",
+    },
+    Deed {
+        before: "rm root/opt/z/bin
+mkfifo root/opt/z/bin",
+        words: "remove zulu",
+        tree: "",
+        calls: "call old zulu postrm remove: exit 0
+",
+        rest: "state zulu 2 deinstall ok config-files
+done
+||0
+",
+        look: LOOK_AT_KINDS,
+        left: "postrm remove
+",
+    },
+];
+
+#[test]
+fn a_pipe_is_like_a_file(rt: HostRuntime) -> Result<(), Fail> {
+    check(&rt, PIPES)
+}
+
 const POSTINST_FAILS: &[Deed] = &[
     Deed {
         before: "mkdir root

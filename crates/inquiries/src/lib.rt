@@ -1,0 +1,21 @@
+//! Questions about an administration, answered from what stands on a host that is only looked at.
+//!
+//! # What is proved
+//!
+//! Each question reads what it answers from and nothing more, and changes nothing (`reads`,
+//! `silent`); its text is the one that queries defines over the records, lists and diversions that
+//! stand there (`told`). `list` and `status` read the records, with the notes; `list_files` the
+//! records, and where the package has one, its list alone; `search` and `audit` the records, all
+//! lists and the diversions; `truename` and `list_diversions` the diversions. Damage is told of the
+//! first of these that can't be read, behind a look whether the root is a directory, and of nothing
+//! else (`finds`); a directory that is missing holds nothing.
+#![tactic(auto)]
+
+mod files;
+mod places;
+mod reading;
+mod records;
+
+pub use files::{audit, list_files, search};
+pub use places::{list_diversions, truename};
+pub use records::{list, status};
