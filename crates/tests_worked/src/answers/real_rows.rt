@@ -1,6 +1,7 @@
 // Unpacks on real files, with real scripts. scripts/refused_memory refuses each allocation of the rows that stand here in
 // turn: then a want of memory may stand in place of an answer, and ends the row.
-ghost use Rattle.std.specs.Prelude.{⊤};
+ghost use Rattle.std.specs.Prelude.{◌≤◌, ◌<◌, ⊤, IsErrOf};
+ghost use Rattle.host_core.specs.declared.fault.HostFault.TheVariants.{Declined, Device};
 
 mod device_rows;
 mod install_rows;
@@ -40,7 +41,11 @@ impl RealHosts {
     }
 
     // With a full count nothing is opened any more.
-    fn open(&mut self, directory: &str) -> Result<RealHost, HostFault> {
+    fn open(&mut self, directory: &str) -> Result<RealHost, HostFault>
+        ensures faults { self.old.opened ≤ self.new.opened }
+        ensures cause { IsErrOf result Device → self.old.opened < self.new.opened }
+        ensures undeclined { IsErrOf result Declined → ⊥ }
+    {
         if self.opened == u64::MAX {
             return Err(HostFault::NoMemory);
         }

@@ -122,6 +122,19 @@ const DIRECTORIES: &[(&str, u16, u32, u32)] = &[
     ("/owned", 0o755, 1, 42),
 ];
 
+// Makes a directory with that access.
+fn make_with(
+    alloc: Global,
+    host: &mut RealHost,
+    path: &str,
+    access: Access,
+) -> Result<(), HostFault> {
+    match RootPath::parse(alloc, path)? {
+        Some(path) => host.make_dir(&path, access),
+        None => Err(HostFault::NoMemory),
+    }
+}
+
 fn make_each(rt: &HostRuntime, root: &str) -> Result<String, Fail> {
     let alloc = rt.alloc();
     let mut host: RealHost = FilesHost::open(*rt, root)?;
@@ -132,7 +145,7 @@ fn make_each(rt: &HostRuntime, root: &str) -> Result<String, Fail> {
             user: *user,
             group: *group,
         };
-        match host.make_dir(&RootPath::from_str(alloc, path)?, access) {
+        match make_with(alloc, &mut host, path, access) {
             Ok(()) => {}
             Err(fault) => {
                 text.push_str(format!(in alloc; "{path}: {fault:?}\n")?.as_str())?;
