@@ -5,7 +5,8 @@
 //! `configure`, the unit: what is decided of each conffile is decided by the digests recorded and
 //! shipped and the file that is there, the stages are those of the record (`unit`:
 //! `HasConfigured`), and the record is installed in the end, or half-configured where postinst
-//! failed, all others as before (`end`). `obstacle`: the first name at which a conffile can't be
+//! failed, all others as before (`end`). Each record is on the disk before what comes behind it is
+//! done (`apart`). `obstacle`: the first name at which a conffile can't be
 //! settled.
 #![tactic(auto)]
 

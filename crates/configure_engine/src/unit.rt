@@ -6,6 +6,8 @@ ghost use Rattle.host_core.specs.Looks.{Looks};
 ghost use Rattle.host_core.specs.declared.call.Script.TheVariants.{Postinst};
 ghost use Rattle.administration.specs.Places.{script_path as stored_path};
 ghost use Rattle.status_records.specs.ConffilePaths.{AreInOrder};
+ghost use Rattle.scattered_losses.specs.Apart.{WorksApart};
+ghost use Rattle.status_db.specs.Held.{is_record_place};
 ghost use Rattle.held_administration.specs.Open.{IsOpen};
 ghost use Rattle.held_administration.specs.Order.{IsInOrder};
 ghost use Rattle.unit_stages.specs.Holding.{holding_of};
@@ -95,6 +97,7 @@ pub fn configure<H: Host>(
         told.new.items }
     ensures any_moment { AtEachMomentOf (IsAmidUnit (given name.now policy diversions.now.entries
         (holding_of administration.old))) (H.state host.old) (H.state host.new) }
+    ensures apart { WorksApart result is_record_place (H.state host.old) (H.state host.new) }
     ensures counts { Counts (H.state host.old) (H.state host.new) result }
 {
     let alloc = administration.alloc;

@@ -4,8 +4,9 @@ use Rattle.std.specs.Prelude.{Result, Ok, Err, IfOk, OnOk}
 use Rattle.std.proofs.lemmas.List.{append-nil, append_cancel_left}
 use Rattle.host_core.proofs.Counted.{faults_of-append}
 use Rattle.host_core.specs.Events.{Event, Did, Finished, Cut, Failed, Denied, faults_of, scripts_of}
-use Rattle.host_core.specs.Host.{State, AllFailed, Reads, Silent, Since, faults}
+use Rattle.host_core.specs.Host.{State, AllFailed, Reads, Silent, Since, faults, WasDenied}
 use Rattle.host_core.specs.Loss.{IsLater}
+use Rattle.host_core.proofs.Denials.{denied_later_reads}
 use Rattle.host_core.proofs.Moments.{since_reads, since_then, since_weaker_if, silent_then}
 use Rattle.host_core.specs.World.{World}
 use Rattle.host_core.specs.declared.call.Call.{Call}
@@ -15,6 +16,7 @@ use Rattle.removal_engine.specs.Stages.{Planned, planned}
 use Rattle.status_db.specs.Recorded.{Recorded}
 use Rattle.held_administration.specs.Order.{IsInOrder}
 use Rattle.unit_stages.specs.Parts.{HaveDone}
+use Rattle.unit_stages.proofs.Denied.{parts_wider}
 use Rattle.unit_stages.specs.declared.part.Part.{Part}
 use Rattle.unit_stages.proofs.Keeping.{order_opens}
 use Rattle.unit_stages.proofs.Tellings.{begun_behind}
@@ -88,7 +90,8 @@ module _ (old mid : State) (reads : Reads old mid) (silent : Silent old mid) whe
   does_behind name parts h ready does = record {
     silent = silent_then old mid ready silent does.silent;
     later = later_behind ready does.later;
-    done = λ t. subst (λ (w : World). HaveDone name parts h.records w ready.world) reads.world (does.done t);
+    done = λ t. subst (λ (w : World). HaveDone name (WasDenied old ready) parts h.records w ready.world) reads.world
+        (parts_wider name (WasDenied mid ready) (WasDenied old ready) (λ p is. denied_later_reads old mid ready p reads is) parts h.records mid.world ready.world (does.done t));
   }
 
   run_behind : (name : List ℕ) (entries : List Diversion) (first : Stage) (stages : List Stage) (failed : Option Call) (before after : Holding) (new : State) (told now : List Called) → HaveRun name entries (first ∷ stages) failed before after mid new told now

@@ -6,7 +6,9 @@ pub mod Joining
 pub mod Fronts
 pub mod WrittenTables
 pub mod Moving
+pub mod Turning
 pub mod Owners
 pub mod Passing
 pub mod Stopping
+pub mod Losing
 pub mod Readiness

@@ -2,33 +2,24 @@
 use Rattle.std.proofs.Common.{◌≡◌, ◌≢◌, ◌⊎◌, inl, inr, ℕ, Bool, true, false, List, length, codes, Option, Some, None, Result, Ok, Err, OnOk, IsTrue, refl, sym, ap, subst, ◌∙◌, arith}
 use Rattle.std.proofs.lemmas.Bool.{true≢false}
 use Rattle.host_core.specs.Paths.{Path, is_ship_text}
-use Rattle.host_core.specs.World.{World, put, moved, IsDirectory, IsFile, HasParent, Move}
-use Rattle.host_core.specs.Host.{State, Does, Reads, Since}
+use Rattle.host_core.specs.World.{World, put, moved, IsDirectory, IsFile, HasParent}
+use Rattle.host_core.specs.Host.{State, Reads, Since}
 use Rattle.host_core.proofs.WorldLaws.{put_same, put_other}
-use Rattle.host_core.proofs.Moments.{since_does, since_reads, since_then, since_weaker_if}
-use Rattle.host_core.specs.declared.fault.HostFault.{HostFault}
+use Rattle.host_core.proofs.Moments.{since_reads, since_then, since_weaker_if}
 use Rattle.host_core.specs.Nodes.{own_access}
 use Rattle.host_core.specs.declared.node.Node.{Node}
 use Rattle.host_core.specs.declared.node.Node.TheVariants.{File}
 use Rattle.administration.specs.Files.{KeepsBesideFile, IsReplaced, IsReplacing}
 use Rattle.administration.specs.Places.{home_path, diversions_path, temporary}
 use Rattle.administration.proofs.WholeFiles.{no_slash, no_directory_at, no_directory_file, no_directory_none}
-use Rattle.diversions.specs.Changes.{CanMove, IsMovedWhole, IsTableReady, IsRecorded, IsRecording, IsUnderWay, moved_if}
+use Rattle.diversions.specs.Changes.{CanMove, IsCarrying, IsMovedWhole, IsMoving, IsSame, IsTableReady, IsRecorded, IsRecording, IsUnderWay, doubled_if, moved_if}
 use Rattle.diversions.specs.Entries.{IsTable}
 use Rattle.diversions.specs.Lines.{HasEntries}
 use Rattle.diversions.specs.Writing.{table_file, table_text}
 use Rattle.diversions.specs.declared.entry.Diversion.{Diversion}
 use Rattle.diversions.proofs.WrittenTables.{written_read}
 
--- a step without parts
-pub since_move : {T : Type 0} (P : World → Type 0) (result : Result T HostFault) (p q : Path) (a b : State) → Does (Move p q) a b result → (IsTrue b.honest → P a.world) → (IsTrue b.honest → P (moved a.world p q)) → Since (λ so_far. P) a b
-since_move P result p q a b does before behind = since_does P result (Move p q) a b does (λ h. record { before = before h; inside = λ t part. absurd part; behind = behind h })
-
 -- the node that is moved
-
-pub moved_is : (moves : Bool) (from to a b : Path) (w : World) → moves ≡ true → a ≡ from → b ≡ to → moved w a b ≡ moved_if moves from to w
-moved_is true from to a b w is e f = ap (λ p. moved w p b) e ∙ ap (moved w from) f
-moved_is false from to a b w is e f = absurd (true≢false (sym is))
 
 pub moved_none : (moves : Bool) (from to : Path) (w : World) → moves ≡ false → w ≡ moved_if moves from to w
 moved_none true from to w is = absurd (true≢false is)
@@ -43,19 +34,42 @@ moved_away false from to w q no_from no_to = refl
 pub own_other : (q p : Path) → is_ship_text p ≡ true → is_ship_text q ≡ false → q ≢ p
 own_other q p is own e = true≢false (sym is ∙ ap is_ship_text (sym e) ∙ own)
 
-home_from : (w : World) (from to : Path) → IsTableReady w → CanMove from to w → home_path ≢ from
-home_from w from to ready can e = can.there.1 (subst (λ p. IsDirectory (w p)) e ready.home)
+home_from : (w : World) (twice : Bool) (from to : Path) → IsTableReady w → CanMove twice from to w → home_path ≢ from
+home_from w twice from to ready can e = can.there.1 (subst (λ p. IsDirectory (w p)) e ready.home)
 
-home_to : (w : World) (from to : Path) → IsTableReady w → CanMove from to w → home_path ≢ to
-home_to w from to ready can e = no_directory_none (subst IsDirectory (ap w e ∙ can.free) ready.home)
+-- no directory stands at the target
+pub no_directory_to : (w : World) (twice : Bool) (from to : Path) → CanMove twice from to w → IsDirectory (w to) → ⊥
+no_directory_to w true from to can there = can.there.1 (subst IsDirectory can.target there)
+no_directory_to w false from to can there = no_directory_none (subst IsDirectory can.target there)
 
-pub ready_moved : (moves : Bool) (from to : Path) (w : World) → is_ship_text from ≡ true → is_ship_text to ≡ true → IsTableReady w → (moves ≡ true → CanMove from to w) → IsTableReady (moved_if moves from to w)
-ready_moved moves from to w ship_from ship_to ready can = record {
-  home = subst IsDirectory (sym (moved_away moves from to w home_path (λ t. home_from w from to ready (can t)) (λ t. home_to w from to ready (can t)))) ready.home;
+home_to : (w : World) (twice : Bool) (from to : Path) → IsTableReady w → CanMove twice from to w → home_path ≢ to
+home_to w twice from to ready can e = no_directory_to w twice from to can (subst (λ p. IsDirectory (w p)) e ready.home)
+
+pub ready_moved : (moves twice : Bool) (from to : Path) (w : World) → is_ship_text from ≡ true → is_ship_text to ≡ true → IsTableReady w → (moves ≡ true → CanMove twice from to w) → IsTableReady (moved_if moves from to w)
+ready_moved moves twice from to w ship_from ship_to ready can = record {
+  home = subst IsDirectory (sym (moved_away moves from to w home_path (λ t. home_from w twice from to ready (can t)) (λ t. home_to w twice from to ready (can t)))) ready.home;
   target = no_directory_at (moved_if moves from to w diversions_path) (w diversions_path)
       (moved_away moves from to w diversions_path (λ t. own_other diversions_path from ship_from refl) (λ t. own_other diversions_path to ship_to refl)) ready.target;
   spare = no_directory_at (moved_if moves from to w (temporary diversions_path)) (w (temporary diversions_path))
       (moved_away moves from to w (temporary diversions_path) (λ t. own_other (temporary diversions_path) from ship_from refl) (λ t. own_other (temporary diversions_path) to ship_to refl)) ready.spare;
+}
+
+doubled_away : (moves : Bool) (from to : Path) (w : World) (q : Path) → (moves ≡ true → q ≢ to) → doubled_if moves from to w q ≡ w q
+doubled_away true from to w q no_to = put_other w to q (w from) (no_to refl)
+doubled_away false from to w q no_to = refl
+
+pub ready_doubled : (moves twice : Bool) (from to : Path) (w : World) → is_ship_text to ≡ true → IsTableReady w → (moves ≡ true → CanMove twice from to w) → IsTableReady (doubled_if moves from to w)
+ready_doubled moves twice from to w ship ready can = record {
+  home = subst IsDirectory (sym (doubled_away moves from to w home_path (λ t. home_to w twice from to ready (can t)))) ready.home;
+  target = no_directory_at (doubled_if moves from to w diversions_path) (w diversions_path) (doubled_away moves from to w diversions_path (λ t. own_other diversions_path to ship refl)) ready.target;
+  spare = no_directory_at (doubled_if moves from to w (temporary diversions_path)) (w (temporary diversions_path)) (doubled_away moves from to w (temporary diversions_path) (λ t. own_other (temporary diversions_path) to ship refl)) ready.spare;
+}
+
+pub ready_same : (w now : World) → IsSame w now → IsTableReady w → IsTableReady now
+ready_same w now same ready = record {
+  home = subst IsDirectory (sym (same home_path)) ready.home;
+  target = no_directory_at (now diversions_path) (w diversions_path) (same diversions_path) ready.target;
+  spare = no_directory_at (now (temporary diversions_path)) (w (temporary diversions_path)) (same (temporary diversions_path)) ready.spare;
 }
 
 -- the file that is written
@@ -63,8 +77,25 @@ ready_moved moves from to w ship_from ship_to ready can = record {
 pub table_parent : (w : World) → IsTableReady w → HasParent w diversions_path
 table_parent w ready = (home_path, codes "diversions", refl, no_slash (codes "diversions") refl, ready.home)
 
-pub replacing_start : (node : Node) (w : World) → IsTableReady w → IsReplacing diversions_path node w w
-replacing_start node w ready = record { target = inl refl; spare = ready.spare; rest = λ q no_file no_spare. refl }
+replacing_start : (node : Node) (w now : World) → IsTableReady w → IsSame w now → IsReplacing diversions_path node w now
+replacing_start node w now ready same = record { target = inl (same diversions_path); spare = (ready_same w now same ready).spare; rest = λ q no_file no_spare. same q }
+
+pub replaced_same : (node : Node) (w mid now : World) → IsSame w mid → IsReplaced diversions_path node mid now → IsReplaced diversions_path node w now
+replaced_same node w mid now same is = record { target = is.target; spare = is.spare; rest = λ q no_file no_spare. is.rest q no_file no_spare ∙ same q }
+
+pub replacing_same : (node : Node) (w mid now : World) → IsSame w mid → IsReplacing diversions_path node mid now → IsReplacing diversions_path node w now
+replacing_same node w mid now same is = record {
+  target = elim is.target [ inl before ↦ inl (before ∙ same diversions_path) | inr new ↦ inr new ];
+  spare = is.spare;
+  rest = λ q no_file no_spare. is.rest q no_file no_spare ∙ same q;
+}
+
+-- the node is being moved, from a world that was looked at before
+pub carrying_moved : (node : Node) (moves : Bool) (from to : Path) (old mid now : World) → mid ≡ old → IsTableReady (moved_if moves from to old) → IsMoving moves from to mid now → IsCarrying node moves from to old now
+carrying_moved node moves from to old mid now is ready (inl same) = inl (same ∙ is)
+carrying_moved node moves from to old mid now is ready (inr (inl both)) = inr (inl (both ∙ ap (doubled_if moves from to) is))
+carrying_moved node moves from to old mid now is ready (inr (inr moved)) =
+    inr (inr (replacing_start node (moved_if moves from to old) now ready (subst (λ v. IsSame (moved_if moves from to v) now) is moved)))
 
 home_target : home_path ≢ diversions_path
 home_target e = absurd (omega (arith, ap length e))
@@ -112,28 +143,31 @@ recording_by moves entries node old now is table home ready replacing = record {
 pub home_stays : (moves : Bool) (from to : Path) (w : World) → is_ship_text from ≡ true → is_ship_text to ≡ true → moved_if moves from to w diversions_path ≡ w diversions_path
 home_stays moves from to w ship_from ship_to = moved_away moves from to w diversions_path (λ t. own_other diversions_path from ship_from refl) (λ t. own_other diversions_path to ship_to refl)
 
-pub under_way_by : (moves : World → World) (entries : List Diversion) (node : Node) (old now : World) → node ≡ table_file entries → IsTable entries → moves old diversions_path ≡ old diversions_path → IsTableReady (moves old)
-    → (now ≡ old) ⊎ IsReplacing diversions_path node (moves old) now → IsUnderWay moves entries old now
-under_way_by moves entries node old now is table home ready (inl same) = inl same
-under_way_by moves entries node old now is table home ready (inr replacing) = inr (recording_by moves entries node old now is table home ready replacing)
+pub under_way_by : (moves : Bool) (from to : Path) (entries : List Diversion) (node : Node) (old now : World) → node ≡ table_file entries → IsTable entries → moved_if moves from to old diversions_path ≡ old diversions_path → IsTableReady (moved_if moves from to old)
+    → IsTableReady (doubled_if moves from to old) → IsCarrying node moves from to old now → IsUnderWay (doubled_if moves from to) (moved_if moves from to) entries old now
+under_way_by moves from to entries node old now is table home ready twice (inl same) = inl same
+under_way_by moves from to entries node old now is table home ready twice (inr (inl both)) = inr (inl (both, subst IsTableReady (sym both) twice))
+under_way_by moves from to entries node old now is table home ready twice (inr (inr replacing)) = inr (inr (recording_by (moved_if moves from to) entries node old now is table home ready replacing))
 
 pub on_ok : {T E : Type 0} {P Q : Type 0} (result : Result T E) → (P → Q) → OnOk result P → OnOk result Q
 on_ok (Ok x) so there = so there
 on_ok (Err e) so there = tt
 
-pub under_way_same : (moves over : World → World) (entries : List Diversion) (v w now : World) → v ≡ w → moves v ≡ over w → IsUnderWay moves entries v now → IsUnderWay over entries w now
-under_way_same moves over entries v w now same goes (inl start) = inl (start ∙ same)
-under_way_same moves over entries v w now same goes (inr recording) = inr record {
+pub under_way_same : (doubles twice moves over : World → World) (entries : List Diversion) (v w now : World) → v ≡ w → doubles v ≡ twice w → moves v ≡ over w → IsUnderWay doubles moves entries v now → IsUnderWay twice over entries w now
+under_way_same doubles twice moves over entries v w now same both goes (inl start) = inl (start ∙ same)
+under_way_same doubles twice moves over entries v w now same both goes (inr (inl amid)) = inr (inl (amid.0 ∙ both, amid.1))
+under_way_same doubles twice moves over entries v w now same both goes (inr (inr recording)) = inr (inr record {
   table = elim recording.table [ inl before ↦ inl (before ∙ ap (λ u. u diversions_path) same) | inr after ↦ inr after ];
   ready = recording.ready;
   rest = subst (λ u. KeepsBesideFile diversions_path u now) goes recording.rest;
-}
+})
 
 -- the same where it was looked at before
-pub since_sight : (moves over : World → World) (entries : List Diversion) (a b c : State) → Reads a b → (IsTrue c.honest → moves b.world ≡ over a.world) → Since (λ so_far. IsUnderWay moves entries b.world) b c → Since (λ so_far. IsUnderWay over entries a.world) a c
-since_sight moves over entries a b c reads goes since =
-    since_then (λ so_far. IsUnderWay over entries a.world) a b c (since_reads (λ so_far. IsUnderWay over entries a.world) a b reads (λ fs all. inl refl))
-    (since_weaker_if _ _ b c (λ h so_far w is. under_way_same moves over entries b.world a.world w reads.world (goes h) is) since)
+pub since_sight : (doubles twice moves over : World → World) (entries : List Diversion) (a b c : State) → Reads a b → (IsTrue c.honest → doubles b.world ≡ twice a.world) → (IsTrue c.honest → moves b.world ≡ over a.world)
+    → Since (λ so_far. IsUnderWay doubles moves entries b.world) b c → Since (λ so_far. IsUnderWay twice over entries a.world) a c
+since_sight doubles twice moves over entries a b c reads both goes since =
+    since_then (λ so_far. IsUnderWay twice over entries a.world) a b c (since_reads (λ so_far. IsUnderWay twice over entries a.world) a b reads (λ fs all. inl refl))
+    (since_weaker_if _ _ b c (λ h so_far w is. under_way_same doubles twice moves over entries b.world a.world w reads.world (both h) (goes h) is) since)
 
 -- a node is moved whole
 pub moved_whole : (moves : Bool) (from to : Path) (w : World) → from ≢ to → IsMovedWhole from to w (moved_if moves from to w)
@@ -141,4 +175,12 @@ moved_whole true from to w other = record {
   whole = inr (put_other (put w from None) to from (w from) other ∙ put_same w from from None refl, put_same (put w from None) to to (w from) refl);
   rest = λ q no_from no_to. put_other (put w from None) to q (w from) no_to ∙ put_other w from q None no_from;
 }
-moved_whole false from to w other = record { whole = inl (refl, refl); rest = λ q no_from no_to. refl }
+moved_whole false from to w other = record { whole = inl (refl, inl refl); rest = λ q no_from no_to. refl }
+
+-- or has both names
+pub doubled_whole : (moves : Bool) (from to : Path) (w : World) → from ≢ to → IsMovedWhole from to w (doubled_if moves from to w)
+doubled_whole true from to w other = record {
+  whole = inl (put_other w to from (w from) other, inr (put_same w to to (w from) refl));
+  rest = λ q no_from no_to. put_other w to q (w from) no_to;
+}
+doubled_whole false from to w other = record { whole = inl (refl, inl refl); rest = λ q no_from no_to. refl }

@@ -1,18 +1,28 @@
 -- What holds where no condition of a refusal does.
-use Rattle.std.proofs.Common.{◌≡◌, ◌||◌, ◌&&◌, Bool, true, false, not, is_some, List, [], ◌∷◌, ◌++◌, Option, Some, None, Result, Ok, Err, refl, sym, ap, subst, ◌∙◌}
+use Rattle.std.proofs.Common.{◌≡◌, ◌≢◌, ◌||◌, ◌&&◌, ◌+◌, ℕ, nat_eq, cond, IsTrue, append_assoc, Bool, true, false, not, is_some, List, [], ◌∷◌, ◌++◌, Option, Some, None, Result, Ok, Err, refl, sym, ap, subst, ◌∙◌}
 use Rattle.std.specs.Prelude.{IfOk, MatchResult}
 use Rattle.std.specs.Str.{bytes_eq}
-use Rattle.std.proofs.lemmas.Bool.{and_parts, or_parts, true≢false, false≢true, not-false}
+use Rattle.std.proofs.lemmas.Bool.{and_from, and_parts, and_right, eqb-true, or_parts, true≢false, false≢true, not-false}
+use Rattle.std.proofs.lemmas.Slice.Eq.{bytes_eq-Decides}
 use Rattle.host_core.specs.Paths.{Path, is_ship_text}
-use Rattle.host_core.specs.World.{World, kind_of, IsDirectory, IsLoose}
+use Rattle.host_core.specs.World.{World, kind_of, IsDirectory, IsLoose, SyncRoot}
+use Rattle.host_core.specs.Events.{Event, Did}
+use Rattle.host_core.specs.Host.{Counts, NoFault, Reads, State}
+use Rattle.host_core.specs.Looks.{Looks}
+use Rattle.host_core.specs.declared.fault.HostFault.{HostFault}
+use Rattle.host_core.specs.declared.fault.HostFault.TheVariants.{Device, NoMemory, Declined}
+use Rattle.host_core.specs.declared.node.Kind.{Kind}
+use Rattle.host_core.proofs.Counted.{declined_then, no_fault_then}
+use Rattle.host_core.proofs.Moments.{faults_then, grown, reads_then, silent_then}
+use Rattle.host_core.specs.declared.node.Access.{Access}
 use Rattle.host_core.specs.declared.node.Node.{Node}
 use Rattle.host_core.specs.declared.node.Node.TheVariants.{File, Dir, Link}
 use Rattle.administration.proofs.WholeFiles.{no_directory_file}
-use Rattle.diversions.specs.Changes.{CanMove, moved_if}
+use Rattle.diversions.specs.Changes.{BeginsOnDisk, CanMove, IsBroughtFirst, OnDone, diversion_of, doubled_if, moved_if}
 use Rattle.diversions.specs.Entries.{is_diverted, is_target, IsTable, IsWellFormed}
 use Rattle.diversions.specs.Names.{front_of}
-use Rattle.diversions.specs.Refusals.{first_holding, move_conditions, add_conditions, owner_conditions, is_target_taken, answer_of, remove_answer}
-use Rattle.diversions.specs.Sights.{sight_of, is_directory_kind, is_loose_kind, moves_node}
+use Rattle.diversions.specs.Refusals.{has_same, first_holding, move_conditions, add_conditions, owner_conditions, is_target_taken, answer_of, remove_answer}
+use Rattle.diversions.specs.Sights.{brings_first, sight_of, is_directory_kind, is_loose_kind, moves_node, same_access, same_loose, same_node}
 use Rattle.diversions.specs.declared.entry.Diversion.{Diversion}
 use Rattle.diversions.specs.Places.{truename}
 use Rattle.diversions.specs.declared.entry.Owner.{Owner}
@@ -41,7 +51,7 @@ kind_none (Some (File bytes access)) is = absurd (true≢false is)
 kind_none (Some (Dir access)) is = absurd (true≢false is)
 kind_none (Some (Link target)) is = absurd (true≢false is)
 
-kind_directory : (n : Option Node) → is_directory_kind (kind_of n) ≡ true → IsDirectory n
+pub kind_directory : (n : Option Node) → is_directory_kind (kind_of n) ≡ true → IsDirectory n
 kind_directory None is = absurd (false≢true is)
 kind_directory (Some (File bytes access)) is = absurd (false≢true is)
 kind_directory (Some (Dir access)) is = (access, refl)
@@ -49,23 +59,87 @@ kind_directory (Some (Link target)) is = absurd (false≢true is)
 
 -- a node that is to be moved can be
 
-way_free : (sight : Sight) → first_holding (move_conditions true sight) ≡ None → (is_directory_kind sight.above ≡ true) × (is_some sight.to ≡ false)
-way_free sight is =
-    let first = none_holds NoParent (not (is_directory_kind sight.above)) ((TargetExists, is_some sight.to) ∷ []) is in
-    (not-false (is_directory_kind sight.above) first.0, (none_holds TargetExists (is_some sight.to) [] first.1).0)
+not-true : (b : Bool) → not b ≡ true → b ≡ false
+not-true true is = absurd (false≢true is)
+not-true false is = refl
 
-pub can_move : (moves rename listed : Bool) (sight : Sight) (w : World) (from to : Path) → moves ≡ moves_node rename listed sight → sight ≡ sight_of w from to → is_ship_text to ≡ true → first_holding (move_conditions moves sight) ≡ None → moves ≡ true → CanMove from to w
-can_move moves rename listed sight w from to moved seen ship none is =
+pub way_free : (sight : Sight) → first_holding (move_conditions true sight) ≡ None → (is_directory_kind sight.above ≡ true) × (is_some sight.to && not sight.same ≡ false)
+way_free sight is =
+    let first = none_holds NoParent (not (is_directory_kind sight.above)) ((TargetExists, is_some sight.to && not sight.same) ∷ []) is in
+    (not-false (is_directory_kind sight.above) first.0, (none_holds TargetExists (is_some sight.to && not sight.same) [] first.1).0)
+
+-- two nodes that are the same
+
+abbrev access_of : ℕ → ℕ → ℕ → Access
+access_of mode user group = record { mode = mode; user = user; group = group }
+
+same_access_is : (a b : Access) → same_access a b ≡ true → a ≡ b
+same_access_is a b is =
+    let first = and_parts (nat_eq a.mode b.mode) (nat_eq a.user b.user && nat_eq a.group b.group) is in
+    let second = and_parts (nat_eq a.user b.user) (nat_eq a.group b.group) first.1 in
+    let mode = eqb-true a.mode b.mode first.0 in
+    let user = eqb-true a.user b.user second.0 in
+    let group = eqb-true a.group b.group second.1 in
+    ap (λ m. access_of m a.user a.group) mode ∙ ap (λ u. access_of b.mode u a.group) user ∙ ap (access_of b.mode b.user) group
+
+same_loose_is : (n m : Node) → same_loose n m ≡ true → (n ≡ m) × (is_loose_kind (kind_of (Some m)) ≡ true)
+same_loose_is (File bytes access) (File others other) is =
+    let both = and_parts (bytes_eq bytes others) (same_access access other) is in
+    (ap (λ (b : List ℕ). File b access) ((bytes_eq-Decides bytes others).0 both.0) ∙ ap (λ (a : Access). File others a) (same_access_is access other both.1), refl)
+same_loose_is (File bytes access) (Dir other) is = absurd (false≢true is)
+same_loose_is (File bytes access) (Link target) is = absurd (false≢true is)
+same_loose_is (Dir access) m is = absurd (false≢true is)
+same_loose_is (Link target) (File bytes access) is = absurd (false≢true is)
+same_loose_is (Link target) (Dir access) is = absurd (false≢true is)
+same_loose_is (Link target) (Link other) is = (ap (λ (t : List ℕ). Link t) ((bytes_eq-Decides target other).0 is), refl)
+
+pub same_is : (n m : Option Node) → same_node n m ≡ true → (n ≡ m) × (is_loose_kind (kind_of m) ≡ true)
+same_is None m is = absurd (false≢true is)
+same_is (Some n) None is = absurd (false≢true is)
+same_is (Some n) (Some m) is = let both = same_loose_is n m is in (ap (λ (x : Node). Some x) both.0, both.1)
+
+-- what stands at the target is the node itself, or nothing
+pub target_is : (n m : Option Node) (rename listed : Bool) → rename ≡ true → listed ≡ false → is_some (kind_of m) && not (rename && same_node n m) ≡ false → m ≡ cond (rename && (not listed && is_loose_kind (kind_of m))) n None
+target_is n None true false is_asked is_free none = refl
+target_is n (Some m) true false is_asked is_free none = at (same_node n (Some m)) refl none
+  where
+    at : (same : Bool) → same_node n (Some m) ≡ same → is_some (kind_of (Some m)) && not same ≡ false → Some m ≡ cond (is_loose_kind (kind_of (Some m))) n None
+    at true same found = let both = same_is n (Some m) same in sym both.0 ∙ ap (λ b. cond b n None) (sym both.1)
+    at false same found = absurd (true≢false (sym (there m) ∙ found))
+      where
+        there : (m : Node) → is_some (kind_of (Some m)) && true ≡ true
+        there (File bytes access) = refl
+        there (Dir access) = refl
+        there (Link target) = refl
+target_is n m false listed is_asked is_free none = absurd (false≢true is_asked)
+target_is n m true true is_asked is_free none = absurd (true≢false is_free)
+
+pub can_move : (moves brings rename listed : Bool) (sight : Sight) (w : World) (from to : Path) → moves ≡ moves_node rename listed sight → brings ≡ brings_first rename listed sight → sight ≡ sight_of rename w from to → from ≢ to → is_ship_text to ≡ true
+    → first_holding (move_conditions moves sight) ≡ None → moves ≡ true → CanMove brings from to w
+can_move moves brings rename listed sight w from to moved brought seen other ship none is =
     let way = way_free sight (subst (λ b. first_holding (move_conditions b sight) ≡ None) is none) in
-    let loose = (and_parts (not listed) (is_loose_kind sight.from) (and_parts rename (not listed && is_loose_kind sight.from) (sym moved ∙ is)).1).1 in
+    let asked = and_parts rename (not listed && is_loose_kind sight.from) (sym moved ∙ is) in
+    let loose = and_parts (not listed) (is_loose_kind sight.from) asked.1 in
     record {
-      there = kind_loose (w from) (ap (λ (s : Sight). is_loose_kind s.from) (sym seen) ∙ loose);
-      free = kind_none (w to) (ap (λ (s : Sight). is_some s.to) (sym seen) ∙ way.1);
+      other = other;
+      there = kind_loose (w from) (ap (λ (s : Sight). is_loose_kind s.from) (sym seen) ∙ loose.1);
+      target = target_is (w from) (w to) rename listed asked.0 (not-true listed loose.0) (ap (λ (s : Sight). is_some s.to && not s.same) (sym seen) ∙ way.1)
+          ∙ ap (λ b. cond b (w from) None) (sym (brought ∙ ap (brings_first rename listed) seen));
       above = parent_at_front w to ship (kind_directory (w (front_of to)) (ap (λ (s : Sight). is_directory_kind s.above) (sym seen) ∙ way.0));
     }
 
-pub moved_same : (moves rename listed : Bool) (sight : Sight) (v w : World) (from to : Path) → moves ≡ moves_node rename listed sight → sight ≡ sight_of w from to → v ≡ w → moved_if moves from to v ≡ moved_if (moves_node rename listed (sight_of w from to)) from to w
-moved_same moves rename listed sight v w from to moved seen same = ap (λ b. moved_if b from to v) (moved ∙ ap (moves_node rename listed) seen) ∙ ap (moved_if (moves_node rename listed (sight_of w from to)) from to) same
+pub moved_same : (moves rename listed : Bool) (sight : Sight) (v w : World) (from to : Path) → moves ≡ moves_node rename listed sight → sight ≡ sight_of rename w from to → v ≡ w → moved_if moves from to v ≡ moved_if (moves_node rename listed (sight_of rename w from to)) from to w
+moved_same moves rename listed sight v w from to moved seen same = ap (λ b. moved_if b from to v) (moved ∙ ap (moves_node rename listed) seen) ∙ ap (moved_if (moves_node rename listed (sight_of rename w from to)) from to) same
+
+pub doubled_same : (moves rename listed : Bool) (sight : Sight) (v w : World) (from to : Path) → moves ≡ moves_node rename listed sight → sight ≡ sight_of rename w from to → v ≡ w → doubled_if moves from to v ≡ doubled_if (moves_node rename listed (sight_of rename w from to)) from to w
+doubled_same moves rename listed sight v w from to moved seen same = ap (λ b. doubled_if b from to v) (moved ∙ ap (moves_node rename listed) seen) ∙ ap (doubled_if (moves_node rename listed (sight_of rename w from to)) from to) same
+
+-- what is brought to the disk, behind what was looked at
+pub brought_behind : (rename listed : Bool) (sight : Sight) (brings : Bool) (a b c : State) (from to : Path) → brings ≡ brings_first rename listed sight → (IsTrue c.honest → sight ≡ sight_of rename a.world from to) → Reads a b → (brings ≡ true → BeginsOnDisk b c)
+    → IsBroughtFirst rename listed from to a c
+brought_behind rename listed sight brings a b c from to is seen reads begins h there =
+    let x = begins (is ∙ ap (brings_first rename listed) (seen h) ∙ there) in
+    (reads.added ++ x.0, x.1, faults_then reads.added x.0 reads.failed x.2, grown a.events b.events c.events reads.added (x.0 ++ Did SyncRoot ∷ x.1) reads.events x.3 ∙ ap (λ (l : List Event). a.events ++ l) (sym (append_assoc reads.added x.0 (Did SyncRoot ∷ x.1))))
 
 -- an entry that isn't refused
 
@@ -88,6 +162,9 @@ passes sight entries d rename seen none =
     let third = none_holds TargetDiverted (is_target_taken entries d) late second.1 in
     record { other = same.0; path = second.0; taken = third.0; way = (none_holds Conffile seen.conffile way third.1).1 }
 
+pub other_added : (sight : Sight) (entries : List Diversion) (d : Diversion) (rename : Bool) (seen : Seen) → first_holding (add_conditions sight entries d rename seen) ≡ None → d.path ≢ d.target
+other_added sight entries d rename seen none e = apart d.target d.path (passes sight entries d rename seen none).other (sym e)
+
 pub way_of_added : (sight : Sight) (entries : List Diversion) (d : Diversion) (rename : Bool) (seen : Seen) → first_holding (add_conditions sight entries d rename seen) ≡ None → first_holding (move_conditions (moves_node rename seen.listed sight) sight) ≡ None
 way_of_added sight entries d rename seen none = (passes sight entries d rename seen none).way
 
@@ -101,16 +178,16 @@ table_with_added sight entries d rename seen none formed table =
 
 -- taking away
 
-first_after : {T : Type 0} (a b : List (T × Bool)) → first_holding a ≡ None → first_holding (a ++ b) ≡ first_holding b
+pub first_after : {T : Type 0} (a b : List (T × Bool)) → first_holding a ≡ None → first_holding (a ++ b) ≡ first_holding b
 first_after [] b none = refl
 first_after ((x, true) ∷ a) b none = absurd (let e : Some x ≡ None = none in cc)
 first_after ((x, false) ∷ a) b none = first_after a b none
 
 pub remove_answered : (w : World) (entries : List Diversion) (path target : Path) (owner : Owner) (rename : Bool) (x : Answer) → first_holding (owner_conditions entries path owner) ≡ None → target ≡ truename entries path
-    → x ≡ answer_of (first_holding (move_conditions (moves_node rename false (sight_of w target path)) (sight_of w target path))) → x ≡ remove_answer w entries path owner rename
+    → x ≡ answer_of (first_holding (move_conditions (moves_node rename false (sight_of rename w target path)) (sight_of rename w target path))) → x ≡ remove_answer w entries path owner rename
 remove_answered w entries path target owner rename x none is answered =
-    answered ∙ ap (λ (t : Path). answer_of (first_holding (move_conditions (moves_node rename false (sight_of w t path)) (sight_of w t path)))) is
-    ∙ ap answer_of (sym (first_after (owner_conditions entries path owner) (move_conditions (moves_node rename false (sight_of w (truename entries path) path)) (sight_of w (truename entries path) path)) none))
+    answered ∙ ap (λ (t : Path). answer_of (first_holding (move_conditions (moves_node rename false (sight_of rename w t path)) (sight_of rename w t path)))) is
+    ∙ ap answer_of (sym (first_after (owner_conditions entries path owner) (move_conditions (moves_node rename false (sight_of rename w (truename entries path) path)) (sight_of rename w (truename entries path) path)) none))
 
 pub if_ok : {T E : Type 0} {P Q : T → Type 0} (result : Result T E) → ((x : T) → P x → Q x) → IfOk result P → IfOk result Q
 if_ok (Ok x) so there = so x there
@@ -119,3 +196,62 @@ if_ok (Err e) so there = tt
 pub ok_at : {T E : Type 0} (r : Result T E) (x : T) (P : T → Type 0) (Q : E → Type 0) → r ≡ Ok x → MatchResult r P Q → P x
 ok_at (Ok y) x P Q is holds = let same : y ≡ x = cc is in subst P same holds
 ok_at (Err e) x P Q is holds = absurd (let same : Err e ≡ Ok x = is in cc)
+
+-- what is seen, by what was looked at
+
+counts_behind : {T : Type 0} (a b c : State) (result : Result T HostFault) → NoFault a b → Counts b c result → Counts a c result
+counts_behind a b c (Ok x) first second = no_fault_then a b c first second
+counts_behind a b c (Err Device) first failed = record { once = failed.once ∙ ap (λ n. n + 1) first.faults; last = failed.last }
+counts_behind a b c (Err NoMemory) first second = no_fault_then a b c first second
+counts_behind a b c (Err Declined) first declined = declined_then a b c first declined
+
+-- where either is no file or link they aren't the same
+same_asked : (rename : Bool) (n m : Option Node) → (rename && (is_loose_kind (kind_of n) && is_loose_kind (kind_of m))) && same_node n m ≡ rename && same_node n m
+same_asked false n m = refl
+same_asked true n m = at (same_node n m) refl
+  where
+    at : (same : Bool) → same_node n m ≡ same → (is_loose_kind (kind_of n) && is_loose_kind (kind_of m)) && same ≡ same
+    at true is =
+        let both = same_is n m is in
+        and_from (is_loose_kind (kind_of n) && is_loose_kind (kind_of m)) true (and_from (is_loose_kind (kind_of n)) (is_loose_kind (kind_of m)) (ap (λ x. is_loose_kind (kind_of x)) both.0 ∙ both.1) both.1) refl
+    at false is = and_right (is_loose_kind (kind_of n) && is_loose_kind (kind_of m)) false refl
+
+abbrev seen_of : Option Kind → Option Kind → Option Kind → Bool → Sight
+seen_of there taken above same = record { from = there; to = taken; above = above; same = same }
+
+sight_seen : (rename : Bool) (from to : Path) (there taken above : Option Kind) (w : World) → there ≡ kind_of (w from) → taken ≡ kind_of (w to) → above ≡ kind_of (w (front_of to))
+    → seen_of there taken above ((rename && (is_loose_kind there && is_loose_kind taken)) && same_node (w from) (w to)) ≡ sight_of rename w from to
+sight_seen rename from to there taken above w at_from at_to at_above =
+    ap (λ k. seen_of k taken above ((rename && (is_loose_kind k && is_loose_kind taken)) && same_node (w from) (w to))) at_from
+    ∙ ap (λ k. seen_of (kind_of (w from)) k above ((rename && (is_loose_kind (kind_of (w from)) && is_loose_kind k)) && same_node (w from) (w to))) at_to
+    ∙ ap (λ k. seen_of (kind_of (w from)) (kind_of (w to)) k ((rename && (is_loose_kind (kind_of (w from)) && is_loose_kind (kind_of (w to)))) && same_node (w from) (w to))) at_above
+    ∙ ap (seen_of (kind_of (w from)) (kind_of (w to)) (kind_of (w (front_of to)))) (same_asked rename (w from) (w to))
+
+-- three kinds, and then whether both are one node
+pub looked_around : (rename : Bool) (from to : Path) (there taken above : Option Kind) (result : Result Sight HostFault) (a b c d e : State)
+    → Looks {T = Option Kind} (Ok there) (λ kind w. kind ≡ kind_of (w from)) a b → Looks {T = Option Kind} (Ok taken) (λ kind w. kind ≡ kind_of (w to)) b c → Looks {T = Option Kind} (Ok above) (λ kind w. kind ≡ kind_of (w (front_of to))) c d
+    → Looks result (λ sight w. sight ≡ record { from = there; to = taken; above = above; same = (rename && (is_loose_kind there && is_loose_kind taken)) && same_node (w from) (w to) }) d e
+    → Looks result (λ sight w. sight ≡ sight_of rename w from to) a e
+looked_around rename from to there taken above result a b c d e first second third last = record {
+  found = λ h.
+      let hd = last.reads.honest h in
+      let hc = third.reads.honest hd in
+      let hb = second.reads.honest hc in
+      let at_b : b.world ≡ a.world = first.reads.world in
+      let at_c : c.world ≡ a.world = second.reads.world ∙ at_b in
+      let at_d : d.world ≡ a.world = third.reads.world ∙ at_c in
+      if_ok result (λ x is. is ∙ ap (λ w. seen_of there taken above ((rename && (is_loose_kind there && is_loose_kind taken)) && same_node (w from) (w to))) at_d
+      ∙ sight_seen rename from to there taken above a.world (first.found hb) (second.found hc ∙ ap (λ w. kind_of (w to)) at_b) (third.found hd ∙ ap (λ w. kind_of (w (front_of to))) at_c))
+      (last.found h);
+  reads = reads_then a d e (reads_then a c d (reads_then a b c first.reads second.reads) third.reads) last.reads;
+  silent = silent_then a d e (silent_then a c d (silent_then a b c first.silent second.silent) third.silent) last.silent;
+  counts = counts_behind a d e result (no_fault_then a c d (no_fault_then a b c first.counts second.counts) third.counts) last.counts;
+}
+
+-- the entry that is asked for
+pub brought_of : (table : List Diversion) (rename listed : Bool) (result : Result Answer HostFault) (a b : State) (p p2 t t2 : Path) (o o2 : Owner) → p ≡ p2 → t ≡ t2 → o ≡ o2
+    → (has_same table (diversion_of p t o) ≡ false → OnDone result (IsBroughtFirst rename listed p t a b)) → has_same table (diversion_of p2 t2 o2) ≡ false → OnDone result (IsBroughtFirst rename listed p2 t2 a b)
+brought_of table rename listed result a b p p2 t t2 o o2 e f g goes =
+    subst (λ x. has_same table (diversion_of p2 t2 x) ≡ false → OnDone result (IsBroughtFirst rename listed p2 t2 a b)) g
+    (subst (λ x. has_same table (diversion_of p2 x o) ≡ false → OnDone result (IsBroughtFirst rename listed p2 x a b)) f
+    (subst (λ x. has_same table (diversion_of x t o) ≡ false → OnDone result (IsBroughtFirst rename listed x t a b)) e goes))

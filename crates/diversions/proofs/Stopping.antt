@@ -1,30 +1,35 @@
 -- A change that was stopped on its way, asked for again.
-use Rattle.std.proofs.Common.{◌≡◌, ◌≢◌, ◌⊎◌, inl, inr, ◌||◌, ◌&&◌, Bool, true, false, not, cond, List, [], ◌∷◌, ◌++◌, Option, Some, None, refl, sym, ap, ◌∙◌}
+use Rattle.std.proofs.Common.{◌≡◌, ◌≢◌, ◌⊎◌, inl, inr, ◌||◌, ◌&&◌, Bool, true, false, not, cond, is_some, nat_eq, subst, List, [], ◌∷◌, ◌++◌, Option, Some, None, refl, sym, ap, ◌∙◌}
 use Rattle.std.specs.Str.{bytes_eq}
-use Rattle.std.proofs.lemmas.Bool.{and_right, and_from, or_from, or_parts, true≢false}
+use Rattle.std.proofs.lemmas.Bool.{and_right, and_from, and_parts, eq-eqb, or_from, or_parts, true≢false}
 use Rattle.std.proofs.lemmas.Slice.Eq.{bytes_eq-Decides}
 use Rattle.host_core.specs.Paths.{Path, is_ship_text}
-use Rattle.host_core.specs.World.{World, put, kind_of}
+use Rattle.host_core.specs.World.{World, IsDirectory, moved, put, kind_of}
+use Rattle.host_core.specs.declared.node.Access.{Access}
+use Rattle.host_core.specs.declared.node.Node.{Node}
+use Rattle.host_core.specs.declared.node.Node.TheVariants.{File, Dir, Link}
 use Rattle.host_core.proofs.WorldLaws.{put_same, put_other}
 use Rattle.administration.specs.Files.{KeepsBesideFile}
 use Rattle.administration.specs.Places.{diversions_path, temporary}
 use Rattle.diversions.specs.Again.{IsFinishedAgain}
-use Rattle.diversions.specs.Changes.{IsAdding, IsRemoving, IsRecording, diverted, restored, moved_if}
+use Rattle.diversions.specs.Changes.{IsAdding, IsRemoving, IsRecording, IsSame, IsTableReady, diverted, doubled_if, restored, moved_if}
 use Rattle.diversions.specs.Entries.{entry_of, is_diverted, without, IsEntry, IsTable, IsWellFormed}
 use Rattle.diversions.specs.Lines.{HasDiversions}
 use Rattle.diversions.specs.Places.{truename, target_of}
 use Rattle.diversions.specs.Refusals.{first_holding, add_refusal, has_same, is_same, is_owned, is_target_taken, move_conditions, owner_conditions, remove_refusal, same_owner}
-use Rattle.diversions.specs.Sights.{sight_of, is_directory_kind, is_loose_kind, moves_node}
+use Rattle.diversions.specs.Names.{front_of}
+use Rattle.diversions.specs.Sights.{brings_first, sight_of, is_directory_kind, is_loose_kind, moves_node, same_access, same_node}
 use Rattle.diversions.specs.declared.entry.Diversion.{Diversion}
 use Rattle.diversions.specs.declared.entry.Owner.{Owner}
 use Rattle.diversions.specs.declared.refusal.Refusal.{Refusal}
-use Rattle.diversions.specs.declared.refusal.Refusal.TheVariants.{SamePath, Directory, AlreadyDiverted, TargetDiverted, Conffile, NotDiverted, OtherOwner}
+use Rattle.diversions.specs.declared.refusal.Refusal.TheVariants.{SamePath, Directory, AlreadyDiverted, TargetDiverted, Conffile, NotDiverted, OtherOwner, NoParent, TargetExists}
 use Rattle.diversions.specs.declared.refusal.Seen.{Seen}
 use Rattle.diversions.specs.declared.sight.Sight.{Sight}
-use Rattle.diversions.proofs.Moving.{own_other}
+use Rattle.diversions.proofs.Moving.{no_directory_to, own_other}
 use Rattle.diversions.proofs.Owners.{same_owner_from}
-use Rattle.diversions.proofs.Passing.{none_holds}
+use Rattle.diversions.proofs.Passing.{can_move, first_after, kind_directory, none_holds, way_free}
 use Rattle.diversions.proofs.Tables.{apart}
+use Rattle.diversions.proofs.Turning.{either_path, moved_from, moved_rest, moved_to}
 
 -- once the node is moved, or was none that is moved, none is moved again
 
@@ -32,15 +37,20 @@ way_none : (moves : Bool) (sight : Sight) → moves ≡ false → first_holding 
 way_none true sight is = absurd (true≢false is)
 way_none false sight is = refl
 
-record IsSettled (rename listed : Bool) (from to : Path) (old now : World) : Type 0 where
-  pub still : moves_node rename listed (sight_of now from to) ≡ false
+-- what is asked of a world so that no move is refused there
+record IsPassing (rename listed : Bool) (from to : Path) (old now : World) : Type 0 where
+  pub way : first_holding (move_conditions (moves_node rename listed (sight_of rename now from to)) (sight_of rename now from to)) ≡ None
   pub no_directory : is_directory_kind (kind_of (old from)) || is_directory_kind (kind_of (old to)) ≡ false → is_directory_kind (kind_of (now from)) || is_directory_kind (kind_of (now to)) ≡ false
 
-none_moved : (rename listed : Bool) (from to : Path) (w : World) → w from ≡ None → moves_node rename listed (sight_of w from to) ≡ false
+record IsSettled (rename listed : Bool) (from to : Path) (old now : World) : Type 0 where
+  pub still : moves_node rename listed (sight_of rename now from to) ≡ false
+  pub no_directory : is_directory_kind (kind_of (old from)) || is_directory_kind (kind_of (old to)) ≡ false → is_directory_kind (kind_of (now from)) || is_directory_kind (kind_of (now to)) ≡ false
+
+none_moved : (rename listed : Bool) (from to : Path) (w : World) → w from ≡ None → moves_node rename listed (sight_of rename w from to) ≡ false
 none_moved rename listed from to w none =
     and_right rename (not listed && is_loose_kind (kind_of (w from))) (and_right (not listed) (is_loose_kind (kind_of (w from))) (ap (λ n. is_loose_kind (kind_of n)) none))
 
-settled : (rename listed : Bool) (from to : Path) (old now : World) (moves : Bool) → from ≢ to → moves_node rename listed (sight_of old from to) ≡ moves → now from ≡ moved_if moves from to old from → now to ≡ moved_if moves from to old to → IsSettled rename listed from to old now
+settled : (rename listed : Bool) (from to : Path) (old now : World) (moves : Bool) → from ≢ to → moves_node rename listed (sight_of rename old from to) ≡ moves → now from ≡ moved_if moves from to old from → now to ≡ moved_if moves from to old to → IsSettled rename listed from to old now
 settled rename listed from to old now true other is at_from at_to =
     let gone : now from ≡ None = at_from ∙ put_other (put old from None) to from (old from) other ∙ put_same old from from None refl in
     let there : now to ≡ old from = at_to ∙ put_same (put old from None) to to (old from) refl in
@@ -59,27 +69,115 @@ not_moved : (moves : Bool) (from to : Path) (w : World) → moves ≡ false → 
 not_moved true from to w is = absurd (true≢false is)
 not_moved false from to w is = refl
 
+passing : (rename listed : Bool) (from to : Path) (old now : World) → IsSettled rename listed from to old now → IsPassing rename listed from to old now
+passing rename listed from to old now all = record { way = way_none (moves_node rename listed (sight_of rename now from to)) (sight_of rename now from to) all.still; no_directory = all.no_directory }
+
+-- where the node has both names
+
+passed_over : {T : Type 0} (x : T) (b : Bool) (cs : List (T × Bool)) → b ≡ false → first_holding cs ≡ None → first_holding ((x, b) ∷ cs) ≡ None
+passed_over x true cs is none = absurd (true≢false is)
+passed_over x false cs is none = none
+
+same_itself : (n : Option Node) → is_loose_kind (kind_of n) ≡ true → same_node n n ≡ true
+same_itself None is = absurd (true≢false (sym is))
+same_itself (Some (File bytes access)) is = and_from (bytes_eq bytes bytes) (same_access access access) ((bytes_eq-Decides bytes bytes).1 refl) (access_itself access)
+  where
+    access_itself : (a : Access) → same_access a a ≡ true
+    access_itself a =
+        and_from (nat_eq a.mode a.mode) (nat_eq a.user a.user && nat_eq a.group a.group) (eq-eqb a.mode a.mode refl) (and_from (nat_eq a.user a.user) (nat_eq a.group a.group) (eq-eqb a.user a.user refl) (eq-eqb a.group a.group refl))
+same_itself (Some (Dir access)) is = absurd (true≢false (sym is))
+same_itself (Some (Link target)) is = (bytes_eq-Decides target target).1 refl
+
+loose_undirected : (n : Option Node) → is_loose_kind (kind_of n) ≡ true → is_directory_kind (kind_of n) ≡ false
+loose_undirected None is = absurd (true≢false (sym is))
+loose_undirected (Some (File bytes access)) is = refl
+loose_undirected (Some (Dir access)) is = absurd (true≢false (sym is))
+loose_undirected (Some (Link target)) is = refl
+
+record IsAgain (rename listed : Bool) (from to : Path) (old now : World) : Type 0 where
+  pub moves : moves_node rename listed (sight_of rename now from to) ≡ true
+  pub passing : IsPassing rename listed from to old now
+  pub same : IsSame (moved old from to) (moved now from to)
+
+-- the directory above isn't the target itself
+front_other : (rename listed : Bool) (from to : Path) (old : World) → from ≢ to → is_ship_text to ≡ true → moves_node rename listed (sight_of rename old from to) ≡ true → first_holding (move_conditions true (sight_of rename old from to)) ≡ None → front_of to ≢ to
+front_other rename listed from to old other ship is none e =
+    let sight = sight_of rename old from to in
+    let can = can_move true (brings_first rename listed sight) rename listed sight old from to (sym is) refl refl other ship none refl in
+    let there = kind_directory (old (front_of to)) (way_free sight none).0 in
+    no_directory_to old (brings_first rename listed sight) from to can (subst (λ p. IsDirectory (old p)) e there)
+
+again_moved : (from to : Path) (old now : World) → from ≢ to → now ≡ put old to (old from) → IsSame (moved old from to) (moved now from to)
+again_moved from to old now other goes q = elim (either_path q to) [
+  | inl e ↦ moved_to now from to other q e ∙ ap (λ w. w from) goes ∙ put_other old to from (old from) other ∙ sym (moved_to old from to other q e)
+  | inr far ↦ elim (either_path q from) [
+    | inl e ↦ moved_from now from to other q e ∙ sym (moved_from old from to other q e)
+    | inr away ↦ moved_rest now from to other q away far ∙ ap (λ w. w q) goes ∙ put_other old to q (old from) far ∙ sym (moved_rest old from to other q away far)
+  ]
+]
+
+both_again : (rename listed : Bool) (from to : Path) (old now : World) → from ≢ to → is_ship_text to ≡ true → moves_node rename listed (sight_of rename old from to) ≡ true → first_holding (move_conditions true (sight_of rename old from to)) ≡ None → now ≡ put old to (old from)
+    → IsAgain rename listed from to old now
+both_again rename listed from to old now other ship is none goes =
+    let asked = and_parts rename (not listed && is_loose_kind (kind_of (old from))) is in
+    let loose : is_loose_kind (kind_of (old from)) ≡ true = (and_parts (not listed) (is_loose_kind (kind_of (old from))) asked.1).1 in
+    let at_from : now from ≡ old from = ap (λ w. w from) goes ∙ put_other old to from (old from) other in
+    let at_to : now to ≡ old from = ap (λ w. w to) goes ∙ put_same old to to (old from) refl in
+    let moves : moves_node rename listed (sight_of rename now from to) ≡ true = ap (λ n. rename && (not listed && is_loose_kind (kind_of n))) at_from ∙ is in
+    let above : is_directory_kind (kind_of (now (front_of to))) ≡ true =
+    ap (λ n. is_directory_kind (kind_of n)) (ap (λ w. w (front_of to)) goes ∙ put_other old to (front_of to) (old from) (front_other rename listed from to old other ship is none)) ∙ (way_free (sight_of rename old from to) none).0 in
+    let same : rename && same_node (now from) (now to) ≡ true =
+    and_from rename (same_node (now from) (now to)) asked.0 (ap (λ n. same_node n (now to)) at_from ∙ ap (same_node (old from)) at_to ∙ same_itself (old from) loose) in
+    let free : is_some (kind_of (now to)) && not (rename && same_node (now from) (now to)) ≡ false = and_right (is_some (kind_of (now to))) (not (rename && same_node (now from) (now to))) (ap not same) in
+    record {
+      moves = moves;
+      passing = record {
+        way = ap (λ b. first_holding (move_conditions b (sight_of rename now from to))) moves
+            ∙ passed_over NoParent (not (is_directory_kind (kind_of (now (front_of to))))) ((TargetExists, is_some (kind_of (now to)) && not (rename && same_node (now from) (now to))) ∷ []) (ap not above)
+            (passed_over TargetExists (is_some (kind_of (now to)) && not (rename && same_node (now from) (now to))) [] free refl);
+        no_directory = λ any. or_from (is_directory_kind (kind_of (now from))) (is_directory_kind (kind_of (now to)))
+            (ap (λ n. is_directory_kind (kind_of n)) at_from ∙ loose_undirected (old from) loose) (ap (λ n. is_directory_kind (kind_of n)) at_to ∙ loose_undirected (old from) loose);
+      };
+      same = again_moved from to old now other goes;
+    }
+
 -- what is left of either change
 
 module _ (rename listed : Bool) (from to : Path) (old now : World) (ship_from : is_ship_text from ≡ true) (ship_to : is_ship_text to ≡ true) (other : from ≢ to) where
-  at_shipped : KeepsBesideFile diversions_path (moved_if (moves_node rename listed (sight_of old from to)) from to old) now → IsSettled rename listed from to old now
+  at_shipped : KeepsBesideFile diversions_path (moved_if (moves_node rename listed (sight_of rename old from to)) from to old) now → IsSettled rename listed from to old now
   at_shipped rest =
-      settled rename listed from to old now (moves_node rename listed (sight_of old from to)) other refl
+      settled rename listed from to old now (moves_node rename listed (sight_of rename old from to)) other refl
       (rest from (λ e. own_other diversions_path from ship_from refl (sym e)) (λ e. own_other (temporary diversions_path) from ship_from refl (sym e)))
       (rest to (λ e. own_other diversions_path to ship_to refl (sym e)) (λ e. own_other (temporary diversions_path) to ship_to refl (sym e)))
 
-  finished : (entries : List Diversion) (refusal : World → Option Refusal) → refusal old ≡ None → (IsSettled rename listed from to old now → refusal now ≡ None)
-      → (now ≡ old) ⊎ IsRecording entries (λ w. moved_if (moves_node rename listed (sight_of w from to)) from to w) old now
-      → IsFinishedAgain entries refusal (λ w. moved_if (moves_node rename listed (sight_of w from to)) from to w) old now
-  finished entries refusal free again (inl same) =
-      inr (ap (λ w. w diversions_path) same, ap refusal same ∙ free, λ q no_file no_spare. ap (λ w. moved_if (moves_node rename listed (sight_of w from to)) from to w q) same)
-  finished entries refusal free again (inr recording) = at recording.table
+  abbrev Change : World → World
+  Change w = moved_if (moves_node rename listed (sight_of rename w from to)) from to w
+
+  finished : (entries : List Diversion) (refusal : World → Option Refusal) → refusal old ≡ None → first_holding (move_conditions (moves_node rename listed (sight_of rename old from to)) (sight_of rename old from to)) ≡ None
+      → (IsPassing rename listed from to old now → refusal now ≡ None)
+      → (now ≡ old) ⊎ (((now ≡ doubled_if (moves_node rename listed (sight_of rename old from to)) from to old) × IsTableReady now) ⊎ IsRecording entries Change old now)
+      → IsFinishedAgain entries refusal Change old now
+  finished entries refusal free way again (inl same) = unchanged same
     where
-      at : (now diversions_path ≡ old diversions_path) ⊎ HasDiversions now entries
-          → IsFinishedAgain entries refusal (λ w. moved_if (moves_node rename listed (sight_of w from to)) from to w) old now
+      unchanged : now ≡ old → IsFinishedAgain entries refusal Change old now
+      unchanged same = inr (ap (λ w. w diversions_path) same, ap refusal same ∙ free, λ q no_file no_spare. ap (λ w. Change w q) same)
+  finished entries refusal free way again (inr (inl both)) = at (moves_node rename listed (sight_of rename old from to)) refl both.0
+    where
+      at : (moves : Bool) → moves_node rename listed (sight_of rename old from to) ≡ moves → now ≡ doubled_if moves from to old → IsFinishedAgain entries refusal Change old now
+      at false is same = inr (ap (λ w. w diversions_path) same, ap refusal same ∙ free, λ q no_file no_spare. ap (λ w. Change w q) same)
+      at true is goes =
+          let all = both_again rename listed from to old now other ship_to is (subst (λ b. first_holding (move_conditions b (sight_of rename old from to)) ≡ None) is way) goes in
+          inr (
+            ap (λ w. w diversions_path) goes ∙ put_other old to diversions_path (old from) (own_other diversions_path to ship_to refl),
+            again all.passing,
+            λ q no_file no_spare. ap (λ b. moved_if b from to now q) all.moves ∙ all.same q ∙ ap (λ b. moved_if b from to old q) (sym is),
+          )
+  finished entries refusal free way again (inr (inr recording)) = at recording.table
+    where
+      at : (now diversions_path ≡ old diversions_path) ⊎ HasDiversions now entries → IsFinishedAgain entries refusal Change old now
       at (inl before) =
           let all = at_shipped recording.rest in
-          inr (before, again all, λ q no_file no_spare. ap (λ w. w q) (not_moved (moves_node rename listed (sight_of now from to)) from to now all.still) ∙ recording.rest q no_file no_spare)
+          inr (before, again (passing rename listed from to old now all), λ q no_file no_spare. ap (λ w. w q) (not_moved (moves_node rename listed (sight_of rename now from to)) from to now all.still) ∙ recording.rest q no_file no_spare)
       at (inr after) = inl (after, recording.rest)
 
 -- adding
@@ -87,16 +185,17 @@ module _ (rename listed : Bool) (from to : Path) (old now : World) (ship_from : 
 other_paths : (d : Diversion) → bytes_eq d.target d.path ≡ false → d.path ≢ d.target
 other_paths d other e = apart d.target d.path other (sym e)
 
-record AddsTo (w : World) (entries : List Diversion) (d : Diversion) (seen : Seen) : Type 0 where
+record AddsTo (w : World) (entries : List Diversion) (d : Diversion) (rename : Bool) (seen : Seen) : Type 0 where
   pub other : bytes_eq d.target d.path ≡ false
   pub no_directory : is_directory_kind (kind_of (w d.path)) || is_directory_kind (kind_of (w d.target)) ≡ false
   pub path : is_diverted entries d.path ≡ false
   pub taken : is_target_taken entries d ≡ false
   pub conffile : seen.conffile ≡ false
+  pub way : first_holding (move_conditions (moves_node rename seen.listed (sight_of rename w d.path d.target)) (sight_of rename w d.path d.target)) ≡ None
 
-adds : (w : World) (entries : List Diversion) (d : Diversion) (rename : Bool) (seen : Seen) → add_refusal w entries d rename seen ≡ None → AddsTo w entries d seen
+adds : (w : World) (entries : List Diversion) (d : Diversion) (rename : Bool) (seen : Seen) → add_refusal w entries d rename seen ≡ None → AddsTo w entries d rename seen
 adds w entries d rename seen none =
-    let sight = sight_of w d.path d.target in
+    let sight = sight_of rename w d.path d.target in
     let way = move_conditions (moves_node rename seen.listed sight) sight in
     let late = (Conffile, seen.conffile) ∷ way in
     let middle = (TargetDiverted, is_target_taken entries d) ∷ late in
@@ -106,15 +205,11 @@ adds w entries d rename seen none =
     let first = none_holds Directory directory early same.1 in
     let second = none_holds AlreadyDiverted (is_diverted entries d.path) middle first.1 in
     let third = none_holds TargetDiverted (is_target_taken entries d) late second.1 in
-    record { other = same.0; no_directory = first.0; path = second.0; taken = third.0; conffile = (none_holds Conffile seen.conffile way third.1).0 }
+    record { other = same.0; no_directory = first.0; path = second.0; taken = third.0; conffile = (none_holds Conffile seen.conffile way third.1).0; way = (none_holds Conffile seen.conffile way third.1).1 }
 
-passed_over : {T : Type 0} (x : T) (b : Bool) (cs : List (T × Bool)) → b ≡ false → first_holding cs ≡ None → first_holding ((x, b) ∷ cs) ≡ None
-passed_over x true cs is none = absurd (true≢false is)
-passed_over x false cs is none = none
-
-added_again : (entries : List Diversion) (d : Diversion) (rename : Bool) (seen : Seen) (old now : World) → AddsTo old entries d seen → IsSettled rename seen.listed d.path d.target old now → add_refusal now entries d rename seen ≡ None
+added_again : (entries : List Diversion) (d : Diversion) (rename : Bool) (seen : Seen) (old now : World) → AddsTo old entries d rename seen → IsPassing rename seen.listed d.path d.target old now → add_refusal now entries d rename seen ≡ None
 added_again entries d rename seen old now before all =
-    let sight = sight_of now d.path d.target in
+    let sight = sight_of rename now d.path d.target in
     let way = move_conditions (moves_node rename seen.listed sight) sight in
     let late = (Conffile, seen.conffile) ∷ way in
     let middle = (TargetDiverted, is_target_taken entries d) ∷ late in
@@ -125,13 +220,13 @@ added_again entries d rename seen old now before all =
     (passed_over AlreadyDiverted (is_diverted entries d.path) middle before.path
     (passed_over TargetDiverted (is_target_taken entries d) late before.taken
     (passed_over Conffile seen.conffile way before.conffile
-    (way_none (moves_node rename seen.listed sight) sight all.still)))))
+    all.way))))
 
 pub adding_again : (entries : List Diversion) (d : Diversion) (rename : Bool) (seen : Seen) (old now : World) → IsWellFormed d → add_refusal old entries d rename seen ≡ None → IsAdding entries d rename seen old now
     → IsFinishedAgain (entries ++ d ∷ []) (λ w. add_refusal w entries d rename seen) (diverted d rename seen) old now
 adding_again entries d rename seen old now formed none moment =
     let before = adds old entries d rename seen none in
-    finished rename seen.listed d.path d.target old now formed.path.path formed.target.path (other_paths d before.other) (entries ++ d ∷ []) (λ w. add_refusal w entries d rename seen) none
+    finished rename seen.listed d.path d.target old now formed.path.path formed.target.path (other_paths d before.other) (entries ++ d ∷ []) (λ w. add_refusal w entries d rename seen) none before.way
     (added_again entries d rename seen old now before) moment
 
 entry_last : (entries : List Diversion) (d : Diversion) → is_diverted entries d.path ≡ false → entry_of (entries ++ d ∷ []) d.path ≡ Some d
@@ -177,14 +272,26 @@ both_none [] b first second = second
 both_none ((x, true) ∷ a) b first second = absurd (let e : Some x ≡ None = first in cc)
 both_none ((x, false) ∷ a) b first second = both_none a b first second
 
+second_part : (a b : List (Refusal × Bool)) → first_holding a ≡ None → first_holding (a ++ b) ≡ None → first_holding b ≡ None
+second_part a b first none = sym (first_after a b first) ∙ none
+
+owned_entry : (entries : List Diversion) (path : Path) (owner : Owner) → IsTable entries → first_holding (owner_conditions entries path owner) ≡ None → HasEntry entries path
+owned_entry entries path owner table owned =
+    entry_there entries path table (unturned (is_diverted entries path) (none_holds NotDiverted (not (is_diverted entries path)) ((OtherOwner, not (is_owned (entry_of entries path) owner)) ∷ []) owned).0)
+
+-- a diversion goes to another path
+pub aimed_other : (entries : List Diversion) (path target : Path) (owner : Owner) → IsTable entries → first_holding (owner_conditions entries path owner) ≡ None → target ≡ truename entries path → target ≢ path
+aimed_other entries path target owner table owned is e =
+    let has = owned_entry entries path owner table owned in
+    has.is.other (sym (is ∙ ap (λ o. target_of o path) has.found) ∙ e ∙ has.same)
+
 pub removing_again : (entries : List Diversion) (path : Path) (owner : Owner) (rename : Bool) (old now : World) → IsTable entries → is_ship_text path ≡ true → remove_refusal old entries path owner rename ≡ None → IsRemoving entries path rename old now
     → IsFinishedAgain (without path entries) (λ w. remove_refusal w entries path owner rename) (restored path (truename entries path) rename) old now
 removing_again entries path owner rename old now table ship none moment =
     let target = truename entries path in
-    let way : World → List (Refusal × Bool) = λ w. move_conditions (moves_node rename false (sight_of w target path)) (sight_of w target path) in
+    let way : World → List (Refusal × Bool) = λ w. move_conditions (moves_node rename false (sight_of rename w target path)) (sight_of rename w target path) in
     let owned : first_holding (owner_conditions entries path owner) ≡ None = first_part (owner_conditions entries path owner) (way old) none in
-    let diverted_there : is_diverted entries path ≡ true = unturned (is_diverted entries path) (none_holds NotDiverted (not (is_diverted entries path)) ((OtherOwner, not (is_owned (entry_of entries path) owner)) ∷ []) owned).0 in
-    let has = entry_there entries path table diverted_there in
+    let has = owned_entry entries path owner table owned in
     let aimed : target ≡ has.entry.target = ap (λ o. target_of o path) has.found in
     finished rename false target path old now (ap is_ship_text aimed ∙ has.is.target.path) ship (λ e. has.is.other (sym aimed ∙ e ∙ has.same)) (without path entries) (λ w. remove_refusal w entries path owner rename) none
-    (λ all. both_none (owner_conditions entries path owner) (way now) owned (way_none (moves_node rename false (sight_of now target path)) (sight_of now target path) all.still)) moment
+    (second_part (owner_conditions entries path owner) (way old) owned none) (λ all. both_none (owner_conditions entries path owner) (way now) owned all.way) moment

@@ -1,15 +1,17 @@
 -- What adding a diversion and taking it away leave, in the end and at each moment.
 use Rattle.std.specs.Prelude.{◌≡◌, ◌≢◌, ◌⊎◌, Bool, true, false, cond, List, [], ◌∷◌, ◌++◌, Some, None, Result, Ok, Err, MatchBool, IsTrue}
 use Rattle.host_core.specs.Paths.{Path}
-use Rattle.host_core.specs.World.{World, moved, IsDirectory, IsLoose, HasParent}
-use Rattle.host_core.specs.Host.{State}
-use Rattle.administration.specs.Files.{NoDirectory, KeepsBesideFile}
+use Rattle.host_core.specs.World.{World, moved, put, SyncRoot, IsDirectory, IsLoose, HasParent}
+use Rattle.host_core.specs.Events.{Event, Did}
+use Rattle.host_core.specs.Host.{State, AllFailed}
+use Rattle.host_core.specs.declared.node.Node.{Node}
+use Rattle.administration.specs.Files.{NoDirectory, KeepsBesideFile, IsReplacing}
 use Rattle.administration.specs.Places.{home_path, diversions_path, temporary}
 use Rattle.diversions.specs.Entries.{without}
 use Rattle.diversions.specs.Lines.{HasDiversions}
 use Rattle.diversions.specs.Places.{truename}
 use Rattle.diversions.specs.Refusals.{has_same}
-use Rattle.diversions.specs.Sights.{sight_of, moves_node}
+use Rattle.diversions.specs.Sights.{brings_first, sight_of, moves_node}
 use Rattle.diversions.specs.Writing.{table_file}
 use Rattle.diversions.specs.declared.entry.Owner.{Owner}
 use Rattle.diversions.specs.declared.entry.Diversion.{Diversion}
@@ -42,21 +44,39 @@ pub record IsTableReady (w : World) : Type 0 where
   pub target : NoDirectory (w diversions_path)
   pub spare : NoDirectory (w (temporary diversions_path))
 
--- what a move needs: a file or link, nothing in the way, and a directory above
-pub record CanMove (from to : Path) (w : World) : Type 0 where
+-- what a move needs: a file or link, at its target nothing or the same node, and a directory above
+pub record CanMove (twice : Bool) (from to : Path) (w : World) : Type 0 where
+  pub other : from ≢ to
   pub there : IsLoose (w from)
-  pub free : w to ≡ None
+  pub target : w to ≡ cond twice (w from) None
   pub above : HasParent w to
+
+-- each path is as in a world
+abbrev pub IsSame : World → World → Type 0
+IsSame w now = (q : Path) → now q ≡ w q
+
+-- a node has a second name, or nothing is done
+abbrev pub doubled_if : Bool → Path → Path → World → World
+doubled_if false from to w = w
+doubled_if true from to w = put w to (w from)
 
 -- a node is moved, or nothing is
 abbrev pub moved_if : Bool → Path → Path → World → World
 moved_if false from to w = w
 moved_if true from to w = moved w from to
 
--- a node stands whole at one of the two names, and nothing else has changed
+-- what moving a node leaves at each moment: nothing is done, or it has both names, or the new one alone
+abbrev pub IsMoving : Bool → Path → Path → World → World → Type 0
+IsMoving moves from to old now = (now ≡ old) ⊎ ((now ≡ doubled_if moves from to old) ⊎ IsSame (moved_if moves from to old) now)
+
+-- a node stands whole at one of the two names or at both, and nothing else has changed
 pub record IsMovedWhole (from to : Path) (old new : World) : Type 0 where
-  pub whole : ((new from ≡ old from) × (new to ≡ old to)) ⊎ ((new from ≡ None) × (new to ≡ old from))
+  pub whole : ((new from ≡ old from) × ((new to ≡ old to) ⊎ (new to ≡ old from))) ⊎ ((new from ≡ None) × (new to ≡ old from))
   pub rest : (q : Path) → q ≢ from → q ≢ to → new q ≡ old q
+
+-- at each moment: nothing is done, or the node has both names, or it is moved and a file takes the table's place
+abbrev pub IsCarrying : Node → Bool → Path → Path → World → World → Type 0
+IsCarrying node moves from to old now = (now ≡ old) ⊎ ((now ≡ doubled_if moves from to old) ⊎ IsReplacing diversions_path node (moved_if moves from to old) now)
 
 -- the file has these entries, and nothing else has changed
 pub record IsRecorded (entries : List Diversion) (old new : World) : Type 0 where
@@ -71,15 +91,27 @@ pub record IsRecording (entries : List Diversion) (moves : World → World) (old
   pub ready : IsTableReady now
   pub rest : KeepsBesideFile diversions_path (moves old) now
 
--- at each moment: nothing is done, or the node is moved and the table being written
-abbrev pub IsUnderWay : (World → World) → List Diversion → World → World → Type 0
-IsUnderWay moves entries old now = (now ≡ old) ⊎ IsRecording entries moves old now
+-- at each moment: nothing is done, or the node has both names, or it is moved and the table being written
+abbrev pub IsUnderWay : (World → World) → (World → World) → List Diversion → World → World → Type 0
+IsUnderWay doubles moves entries old now = (now ≡ old) ⊎ (((now ≡ doubles old) × IsTableReady now) ⊎ IsRecording entries moves old now)
+
+-- all that stands under the root was brought to the disk before any other step was made
+abbrev pub BeginsOnDisk : State → State → Type 0
+BeginsOnDisk old new = (fs rest : List Event) × AllFailed fs × (new.events ≡ old.events ++ (fs ++ Did SyncRoot ∷ rest))
+
+-- so it is where a stopped command may have put the node where it is to be
+abbrev pub IsBroughtFirst : Bool → Bool → Path → Path → State → State → Type 0
+IsBroughtFirst rename listed from to old new = IsTrue new.honest → brings_first rename listed (sight_of rename old.world from to) ≡ true → BeginsOnDisk old new
 
 -- adding
 
 -- the packaged files with the node of a diverted path at its target, where it is moved
 abbrev pub diverted : Diversion → Bool → Seen → World → World
-diverted d rename seen w = moved_if (moves_node rename seen.listed (sight_of w d.path d.target)) d.path d.target w
+diverted d rename seen w = moved_if (moves_node rename seen.listed (sight_of rename w d.path d.target)) d.path d.target w
+
+-- the same with the node at both
+abbrev pub diverted_twice : Diversion → Bool → Seen → World → World
+diverted_twice d rename seen w = doubled_if (moves_node rename seen.listed (sight_of rename w d.path d.target)) d.path d.target w
 
 -- a table with an entry more at its end, unless it has it
 abbrev pub with_entry : List Diversion → Diversion → List Diversion
@@ -90,16 +122,20 @@ abbrev pub HasAdded : List Diversion → Diversion → Bool → Seen → World �
 HasAdded entries d rename seen old new = MatchBool (has_same entries d) (new ≡ old) (IsRecorded (entries ++ d ∷ []) (diverted d rename seen old) new)
 
 abbrev pub IsAdding : List Diversion → Diversion → Bool → Seen → World → World → Type 0
-IsAdding entries d rename seen old now = IsUnderWay (diverted d rename seen) (entries ++ d ∷ []) old now
+IsAdding entries d rename seen old now = IsUnderWay (diverted_twice d rename seen) (diverted d rename seen) (entries ++ d ∷ []) old now
 
 -- taking away
 
 -- the packaged files with the node of a target back at its path, where it is moved
 abbrev pub restored : Path → Path → Bool → World → World
-restored path target rename w = moved_if (moves_node rename false (sight_of w target path)) target path w
+restored path target rename w = moved_if (moves_node rename false (sight_of rename w target path)) target path w
+
+-- the same with the node at both
+abbrev pub restored_twice : Path → Path → Bool → World → World
+restored_twice path target rename w = doubled_if (moves_node rename false (sight_of rename w target path)) target path w
 
 abbrev pub HasRemoved : List Diversion → Path → Bool → World → World → Type 0
 HasRemoved entries path rename old new = IsRecorded (without path entries) (restored path (truename entries path) rename old) new
 
 abbrev pub IsRemoving : List Diversion → Path → Bool → World → World → Type 0
-IsRemoving entries path rename old now = IsUnderWay (restored path (truename entries path) rename) (without path entries) old now
+IsRemoving entries path rename old now = IsUnderWay (restored_twice path (truename entries path) rename) (restored path (truename entries path) rename) (without path entries) old now

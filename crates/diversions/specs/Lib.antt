@@ -10,5 +10,6 @@ pub mod Sights
 pub mod Refusals
 pub mod Writing
 pub mod Changes
+pub mod Turns
 pub mod Fault
 pub mod Again

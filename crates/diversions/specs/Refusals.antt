@@ -41,11 +41,11 @@ is_same (Some d) target owner = bytes_eq d.target target && same_owner d.owner o
 abbrev pub has_same : List Diversion → Diversion → Bool
 has_same entries d = is_same (entry_of entries d.path) d.target d.owner
 
--- a node that is to be moved has no way
+-- a node that is to be moved has no way: no directory is above the target, or another node is in the way there
 abbrev pub move_conditions : Bool → Sight → List (Refusal × Bool)
 move_conditions moves sight =
     (NoParent, moves && not (is_directory_kind sight.above))
-    ∷ (TargetExists, moves && is_some sight.to)
+    ∷ (TargetExists, moves && (is_some sight.to && not sight.same))
     ∷ []
 
 -- the target stands in an entry already, or the path is the target of one
@@ -72,10 +72,10 @@ abbrev pub remove_conditions : Sight → List Diversion → Path → Owner → B
 remove_conditions sight entries path owner rename = owner_conditions entries path owner ++ move_conditions (moves_node rename false sight) sight
 
 abbrev pub add_refusal : World → List Diversion → Diversion → Bool → Seen → Option Refusal
-add_refusal w entries d rename seen = first_holding (add_conditions (sight_of w d.path d.target) entries d rename seen)
+add_refusal w entries d rename seen = first_holding (add_conditions (sight_of rename w d.path d.target) entries d rename seen)
 
 abbrev pub remove_refusal : World → List Diversion → Path → Owner → Bool → Option Refusal
-remove_refusal w entries path owner rename = first_holding (remove_conditions (sight_of w (truename entries path) path) entries path owner rename)
+remove_refusal w entries path owner rename = first_holding (remove_conditions (sight_of rename w (truename entries path) path) entries path owner rename)
 
 abbrev pub answer_of : Option Refusal → Answer
 answer_of None = Done

@@ -6,7 +6,7 @@ ghost use Rattle.diversions.specs.Sights as spec;
 
 use crate::entry::{Diversion, Owner};
 use crate::refusal::{Refusal, Seen};
-use crate::sight::Sight;
+use crate::sight::{Sight, Way, is_loose};
 use crate::table::Table;
 use host_core::{Kind, ShipPath};
 use std::alloc::AllocError;
@@ -22,22 +22,16 @@ fn is_directory(kind: Option<Kind>) -> bool
     }
 }
 
-fn is_loose(kind: Option<Kind>) -> bool
-    ensures { result ≡ spec.is_loose_kind kind }
+/// Whether the node that is seen is moved, and whether what is at its target is brought to the disk.
+pub(crate) fn way_of(rename: bool, listed: bool, sight: Sight) -> Way
+    ensures moves { result.moves ≡ spec.moves_node rename listed sight }
+    ensures brings { result.brings ≡ spec.brings_first rename listed sight }
 {
-    match kind {
-        None => false,
-        Some(Kind::File) => true,
-        Some(Kind::Directory) => false,
-        Some(Kind::SymbolicLink) => true,
+    let asked = rename && !listed;
+    Way {
+        moves: asked && is_loose(sight.from),
+        brings: asked && is_loose(sight.to),
     }
-}
-
-/// Whether the node that is seen is moved.
-pub(crate) fn moves_node(rename: bool, listed: bool, sight: Sight) -> bool
-    ensures { result ≡ spec.moves_node rename listed sight }
-{
-    rename && !listed && is_loose(sight.from)
 }
 
 /// Whether the table has this very diversion.
@@ -59,7 +53,7 @@ pub(crate) fn move_refusal(moves: bool, sight: Sight) -> Option<Refusal>
     if moves && !is_directory(sight.above) {
         return Some(Refusal::NoParent);
     }
-    if moves && sight.to.is_some() {
+    if moves && (sight.to.is_some() && !sight.same) {
         return Some(Refusal::TargetExists);
     }
     None
@@ -99,7 +93,7 @@ pub(crate) fn add_refusal(
     if seen.conffile {
         return Some(Refusal::Conffile);
     }
-    move_refusal(moves_node(rename, seen.listed, sight), sight)
+    move_refusal(way_of(rename, seen.listed, sight).moves, sight)
 }
 
 /// The target of the owner's diversion of a path, or why there is none.

@@ -9,13 +9,14 @@ ghost use Rattle.administration.specs.declared.fault.AdministrationFault.TheVari
 ghost use Rattle.std.specs.Prelude.{IsErrOf};
 ghost use Rattle.diversions.specs.declared.entry.Diversion.{Diversion as ADiversion};
 ghost use Rattle.diversions.specs.Entries.{IsTable, is_owner, without};
-ghost use Rattle.diversions.specs.Changes.{HasAdded, HasRemoved, IsAdding, IsRemoving, IsTableReady, LeavesDone, OnDone, OnRefused, diversion_of, with_entry};
+ghost use Rattle.diversions.specs.Changes.{HasAdded, HasRemoved, IsAdding, IsBroughtFirst, IsRemoving, IsTableReady, LeavesDone, OnDone, OnRefused, diversion_of, with_entry};
 ghost use Rattle.diversions.specs.Fault.{CountsDiversion};
 ghost use Rattle.diversions.specs.Refusals.{add_answer, has_same, remove_answer};
 ghost use Rattle.diversions.specs.declared.fault.DiversionFault.TheVariants.{Closed};
 ghost use Rattle.diversions.specs.Lines.{HasEntries, HasDiversions, ReadsAs, IsNodeDamage, IsFileDamage, IsDiversionsDamage};
 ghost use Rattle.diversions.specs.Places as spec;
 ghost use Rattle.diversions.specs.Targets.{entry_to};
+ghost use Rattle.diversions.specs.Turns.{GoesByTurns};
 
 use crate::changing::{add_diversion, remove_diversion};
 use crate::entry::{Diversion, Owner};
@@ -218,6 +219,10 @@ impl Diversions {
         ensures any_moment { AtEachMoment
             (IsAdding self.old.entries (diversion_of path.now target.now owner.now) rename seen)
             (H.state host.old) (H.state host.new) }
+        ensures brought { has_same self.old.entries (diversion_of path.now target.now owner.now)
+            ≡ false → OnDone result (IsBroughtFirst rename seen.listed path.now target.now
+            (H.state host.old) (H.state host.new)) }
+        ensures turns { GoesByTurns (H.state host.old) (H.state host.new) }
         ensures silent { Silent (H.state host.old) (H.state host.new) }
         ensures counts { CountsDiversion (H.state host.old) (H.state host.new) result }
     {
@@ -267,6 +272,10 @@ impl Diversions {
             (H.state host.old) (H.state host.new) }
         ensures any_moment { AtEachMoment (IsRemoving self.old.entries path.now rename)
             (H.state host.old) (H.state host.new) }
+        ensures brought { OnDone result (IsBroughtFirst rename false
+            (spec.truename self.old.entries path.now) path.now (H.state host.old)
+            (H.state host.new)) }
+        ensures turns { GoesByTurns (H.state host.old) (H.state host.new) }
         ensures silent { Silent (H.state host.old) (H.state host.new) }
         ensures counts { CountsDiversion (H.state host.old) (H.state host.new) result }
     {

@@ -8,8 +8,11 @@
 //! path. `Diversions::add` and `remove` are refused by the first condition that holds, and then
 //! make no step (`answer`, `same`); else they move the node, where `rename` asks for it, and then
 //! write the table (`done`, `any_moment`), and after a fault they are closed (`err`, `closed`,
-//! `shut`). `a_stopped_change_is_finished`: stopped at any moment, the same change asked for again
-//! finishes it. `a_table_is_read_as_written`: a table that is written is read back.
+//! `shut`). The node gets its new name before it loses the old one, and a barrier is behind each
+//! (`turns`), so that no loss of power takes it (`a_loss_leaves_a_diversion_whole`); where a file
+//! or link stands at the target already, what a stopped command did is brought to the disk first
+//! (`brought`). `a_stopped_change_is_finished`: stopped at any moment, the same change asked for
+//! again finishes it. `a_table_is_read_as_written`: a table that is written is read back.
 #![tactic(auto)]
 
 mod changing;
@@ -19,6 +22,7 @@ mod entry;
 mod fault;
 mod laws;
 mod lines;
+mod moves;
 mod reading;
 mod refusal;
 mod sight;
@@ -28,7 +32,10 @@ mod writing;
 pub use diversions::Diversions;
 pub use entry::{Diversion, Owner};
 pub use fault::DiversionFault;
-pub use laws::{a_node_is_moved_whole, a_stopped_change_is_finished, a_table_is_read_as_written};
+pub use laws::{
+    a_loss_leaves_a_diversion_whole, a_node_is_moved_whole, a_stopped_change_is_finished,
+    a_table_is_read_as_written,
+};
 pub use lines::cut_line;
 pub use refusal::{Answer, Refusal, Seen};
 pub use sight::Sight;

@@ -25,7 +25,7 @@ pub enum Refusal {
     /// The diversion is another owner's.
     #[error("OtherOwner")]
     OtherOwner,
-    /// Something stands where the node is to be moved.
+    /// Something else stands where the node is to be moved.
     #[error("TargetExists")]
     TargetExists,
     /// No directory stands above where the node is to be moved.

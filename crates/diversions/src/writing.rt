@@ -1,17 +1,20 @@
 // Writing the file.
-ghost use Rattle.std.specs.Prelude.{◌≡◌, ◌⊎◌, ◌++◌, ◌∷◌, [], IfOk, OnOk, IsTrue};
+ghost use Rattle.std.specs.Prelude.{◌≡◌, ◌++◌, ◌∷◌, [], IfOk, OnOk, IsTrue};
 ghost use Rattle.host_core.specs.World.{IsFile};
 ghost use Rattle.host_core.specs.Nodes.{own_access};
 ghost use Rattle.host_core.specs.declared.node.Node.TheVariants.{File};
 ghost use Rattle.host_core.specs.Host.{AtEachMoment, Counts, Leaves, Needs, Silent};
 ghost use Rattle.administration.specs.Files.{IsReplaced, IsReplacing};
 ghost use Rattle.administration.specs.Places.{diversions_path};
-ghost use Rattle.diversions.specs.Changes.{CanMove, IsRecorded, IsTableReady, IsUnderWay, moved_if};
+ghost use Rattle.diversions.specs.Changes.{BeginsOnDisk, CanMove, IsCarrying, IsRecorded, IsTableReady, IsUnderWay, doubled_if, moved_if};
+ghost use Rattle.diversions.specs.Turns.{GoesByTurns};
 ghost use Rattle.diversions.specs.Entries.{IsTable, without};
 ghost use Rattle.diversions.specs.Lines.{owner_line};
 ghost use Rattle.diversions.specs.Writing.{entry_text, table_text};
 
 use crate::entry::{Diversion, Owner};
+use crate::moves::{bring, move_node};
+use crate::sight::Way;
 use crate::table::Table;
 use administration::{DIVERSIONS, replace};
 use host_core::{Access, Content, Host, HostFault, Node, RootPath, ShipPath};
@@ -102,56 +105,35 @@ fn save<H: Host>(alloc: Global, host: &mut H, node: &Node) -> Result<(), HostFau
     replace(host, &path, node)
 }
 
-// Moves a node, where one is to be moved.
-fn move_node<H: Host>(
-    host: &mut H,
-    from: &ShipPath,
-    to: &ShipPath,
-    moves: bool,
-) -> Result<(), HostFault>
-    requires { Needs (H.state host.old) (λ w. IsTrue moves → CanMove from.now to.now w) }
-    ensures moved { Leaves result (λ old new. new ≡ moved_if moves from.now to.now old)
-        (H.state host.old) (H.state host.new) }
-    ensures any_moment { AtEachMoment
-        (λ old now. (now ≡ old) ⊎ (now ≡ moved_if moves from.now to.now old)) (H.state host.old)
-        (H.state host.new) }
-    ensures silent { Silent (H.state host.old) (H.state host.new) }
-    ensures counts { Counts (H.state host.old) (H.state host.new) result }
-{
-    if !moves {
-        return Ok(());
-    }
-    from.law();
-    let there = from.at()?;
-    let free = to.at()?;
-    host.rename(&there, &free)
-}
-
-// Moves the node, where one is to be moved, and then writes the file.
+// Brings to the disk what a stopped command may have left, moves the node, where one is to be moved, and then writes the file.
 fn carry_out<H: Host>(
     alloc: Global,
     host: &mut H,
     from: &ShipPath,
     to: &ShipPath,
-    moves: bool,
+    way: Way,
     node: &Node,
 ) -> Result<(), HostFault>
     requires file { IsFile node.now }
     requires ready { Needs (H.state host.old) IsTableReady }
-    requires can { Needs (H.state host.old) (λ w. IsTrue moves → CanMove from.now to.now w) }
+    requires can { Needs (H.state host.old)
+        (λ w. IsTrue way.moves → CanMove way.brings from.now to.now w) }
     ensures done { Leaves result
-        (λ old new. IsReplaced diversions_path node.now (moved_if moves from.now to.now old) new)
+        (λ old new.
+        IsReplaced diversions_path node.now (moved_if way.moves from.now to.now old) new)
         (H.state host.old) (H.state host.new) }
-    ensures any_moment { AtEachMoment
-        (λ old now.
-        (now ≡ old) ⊎ IsReplacing diversions_path node.now (moved_if moves from.now to.now old) now)
+    ensures any_moment { AtEachMoment (IsCarrying node.now way.moves from.now to.now)
         (H.state host.old) (H.state host.new) }
+    ensures brought { IsTrue way.brings
+        → OnOk result (BeginsOnDisk (H.state host.old) (H.state host.new)) }
+    ensures turns { GoesByTurns (H.state host.old) (H.state host.new) }
     ensures silent { Silent (H.state host.old) (H.state host.new) }
     ensures counts { Counts (H.state host.old) (H.state host.new) result }
 {
     from.law();
     to.law();
-    move_node(host, from, to, moves)?;
+    bring(host, way.brings)?;
+    move_node(host, from, to, way.moves, way.brings)?;
     save(alloc, host, node)
 }
 
@@ -161,26 +143,30 @@ pub(crate) fn record_new<H: Host>(
     host: &mut H,
     table: &Table,
     entry: &Diversion,
-    moves: bool,
+    way: Way,
 ) -> Result<(), HostFault>
     requires may { IsTable (table.now ++ entry.now ∷ []) }
     requires ready { Needs (H.state host.old) IsTableReady }
     requires can { Needs (H.state host.old)
-        (λ w. IsTrue moves → CanMove entry.now.path entry.now.target w) }
+        (λ w. IsTrue way.moves → CanMove way.brings entry.now.path entry.now.target w) }
     ensures done { Leaves result
         (λ old new. IsRecorded (table.now ++ entry.now ∷ [])
-        (moved_if moves entry.now.path entry.now.target old) new)
+        (moved_if way.moves entry.now.path entry.now.target old) new)
         (H.state host.old) (H.state host.new) }
     ensures any_moment { AtEachMoment
-        (IsUnderWay (moved_if moves entry.now.path entry.now.target) (table.now ++ entry.now ∷ []))
+        (IsUnderWay (doubled_if way.moves entry.now.path entry.now.target)
+        (moved_if way.moves entry.now.path entry.now.target) (table.now ++ entry.now ∷ []))
         (H.state host.old) (H.state host.new) }
+    ensures brought { IsTrue way.brings
+        → OnOk result (BeginsOnDisk (H.state host.old) (H.state host.new)) }
+    ensures turns { GoesByTurns (H.state host.old) (H.state host.new) }
     ensures silent { Silent (H.state host.old) (H.state host.new) }
     ensures counts { Counts (H.state host.old) (H.state host.new) result }
 {
     entry.path.law();
     entry.target.law();
     let node = file_of(text_with(alloc, table, entry)?);
-    carry_out(alloc, host, &entry.path, &entry.target, moves, &node)
+    carry_out(alloc, host, &entry.path, &entry.target, way, &node)
 }
 
 /// Moves the node at the target of a path's entry back, where it is to be moved, and writes the table without the entry.
@@ -190,17 +176,22 @@ pub(crate) fn record_without<H: Host>(
     table: &Table,
     path: &ShipPath,
     target: &ShipPath,
-    moves: bool,
+    way: Way,
 ) -> Result<(), HostFault>
     requires ready { Needs (H.state host.old) IsTableReady }
-    requires can { Needs (H.state host.old) (λ w. IsTrue moves → CanMove target.now path.now w) }
+    requires can { Needs (H.state host.old)
+        (λ w. IsTrue way.moves → CanMove way.brings target.now path.now w) }
     ensures done { Leaves result
         (λ old new.
-        IsRecorded (without path.now table.now) (moved_if moves target.now path.now old) new)
+        IsRecorded (without path.now table.now) (moved_if way.moves target.now path.now old) new)
         (H.state host.old) (H.state host.new) }
     ensures any_moment { AtEachMoment
-        (IsUnderWay (moved_if moves target.now path.now) (without path.now table.now))
+        (IsUnderWay (doubled_if way.moves target.now path.now)
+        (moved_if way.moves target.now path.now) (without path.now table.now))
         (H.state host.old) (H.state host.new) }
+    ensures brought { IsTrue way.brings
+        → OnOk result (BeginsOnDisk (H.state host.old) (H.state host.new)) }
+    ensures turns { GoesByTurns (H.state host.old) (H.state host.new) }
     ensures silent { Silent (H.state host.old) (H.state host.new) }
     ensures counts { Counts (H.state host.old) (H.state host.new) result }
 {
@@ -208,5 +199,5 @@ pub(crate) fn record_without<H: Host>(
     path.law();
     target.law();
     let node = file_of(text_without(alloc, table, path.as_str())?);
-    carry_out(alloc, host, target, path, moves, &node)
+    carry_out(alloc, host, target, path, way, &node)
 }

@@ -118,6 +118,10 @@ impl<'a, D: Disk> Host for Watched<'a, D> {
         self.host.rename(from, to)
     }
 
+    fn lower(&mut self, path: &RootPath) -> Result<(), HostFault> {
+        self.host.lower(path)
+    }
+
     fn remove(&mut self, path: &RootPath) -> Result<(), HostFault> {
         self.host.remove(path)
     }

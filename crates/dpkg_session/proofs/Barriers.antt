@@ -6,7 +6,7 @@ use Rattle.undo_rows.specs.Telling.{Begun}
 use Rattle.host_core.specs.Paths.{Path}
 use Rattle.host_core.specs.World.{World, Barrier}
 use Rattle.host_core.specs.Events.{Ran, Did}
-use Rattle.host_core.specs.Host.{State, Does, Falls, Happens, Needs, Silent, Since}
+use Rattle.host_core.specs.Host.{State, Does, Falls, Happens, Needs, Silent, Since, WasDenied}
 use Rattle.host_core.specs.Loss.{IsLater}
 use Rattle.host_core.proofs.Moments.{since_barrier, since_then, silent_then}
 use Rattle.host_core.specs.declared.fault.HostFault.{HostFault}
@@ -19,7 +19,9 @@ use Rattle.undo_rows.specs.declared.unwinding.Unwinding.{Unwinding}
 use Rattle.status_db.specs.Noting.{IsMerging}
 use Rattle.status_db.specs.Recorded.{Recorded}
 use Rattle.held_administration.specs.Order.{IsInOrder}
-use Rattle.unpack_engine.specs.Units.{Given, Ground, HasCalled, HasCalledRows, HasCarriedOut, HasFailedFor, HasLeft, HasUnpacked, IsPlanFor, changes, commit_records, ground_of}
+use Rattle.host_core.proofs.Denials.{denied_first}
+use Rattle.unpack_engine.proofs.Carrying.{left_wider}
+use Rattle.unpack_engine.specs.Units.{Given, Ground, HasCalled, HasCalledRows, HasCarriedOut, HasFailedFor, HasLeft, HasLeftUnless, HasUnpacked, IsPlanFor, changes, commit_records, ground_of}
 use Rattle.unpack_plan.specs.Planned.{Planned}
 use Rattle.undo_rows.specs.declared.rows.Called.{Called}
 use Rattle.undo_rows.specs.declared.rows.Row.{Row}
@@ -45,6 +47,8 @@ carried_behind g p ended after lists s m t told now is goes silent later =
       since = silent_then is.last m t is.since silent;
       later = since_then _ is.last m t is.later later;
       leaves = λ h. subst (HasLeft (changes g p works listed) (commit_records g p works listed table) g.entries listed table (length p.others) ended is.last.world) (sym goes.world) (is.leaves (goes.honest h));
+      stays = λ h. subst (HasLeftUnless (changes g p works listed) (commit_records g p works listed table) g.entries listed table (length p.others) (WasDenied is.last t) ended is.last.world) (sym goes.world)
+          (left_wider (changes g p works listed) (commit_records g p works listed table) g.entries listed table (length p.others) (WasDenied is.last m) (WasDenied is.last t) (λ q denied. denied_first is.last m t q denied later) ended is.last.world m.world (is.stays (goes.honest h)));
       records = is.records;
       lists_are = is.lists_are;
     }

@@ -19,6 +19,7 @@ use Rattle.unpack_engine.proofs.Cleared.{begun_at, begun_beside, works_on}
 use Rattle.unpack_engine.specs.Units.{Given, HasFollowed, HasUnpacked, changes, commit_records, ground_of, last_place, package_name, task_from}
 use Rattle.listed_files.specs.Closing.{SparesAdministration}
 use Rattle.listed_files.specs.Concluding.{AreElsewhere}
+use Rattle.file_removal.specs.Removal.{any_path}
 use Rattle.listed_files.proofs.Closings.{below_within, removed_stays}
 use Rattle.unpack_steps.specs.Clearing.{IsBesideOwn}
 use Rattle.unpack_steps.specs.Task.{name, state_on}
@@ -94,7 +95,7 @@ module _ (q : Path) (far : IsFar q) where
       ∙ is.release.taken.rest q (λ name has. no_list name)
       ∙ is.replaced.rest q (λ name named. no_member c.name name)
       ∙ is.renewal.replaced.rest q (no_list c.name).0 (no_list c.name).1
-      ∙ removed_stays c.leaving old is.renewal.mid q spares is.renewal.removed far.below
+      ∙ removed_stays any_path c.leaving old is.renewal.mid q spares is.renewal.removed far.below
 
   followed_stays : (c : Changes) (records : List Record) (entries : List Diversion) (lists : List PackageList) (table : List Record) (others : ℕ) (ended : Ended) (old new : World) → SparesAdministration c.leaving → AreElsewhere c.names → HasFollowed c records entries lists table others ended old new → new q ≡ old q
   followed_stays c records entries lists table others Committed old new spares elsewhere is = committed_stays c entries lists _ old new spares elsewhere is

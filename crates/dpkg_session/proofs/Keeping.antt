@@ -18,15 +18,15 @@ use Rattle.control_members.specs.Names.{is_member_name}
 use Rattle.control_members.specs.Stored.{goes, stored_member_path}
 use Rattle.file_lists.specs.Info.{IsLink}
 use Rattle.file_lists.specs.declared.paths.PackageList.{PackageList}
-use Rattle.file_removal.proofs.Leavings.{spared_stays}
 use Rattle.file_removal.specs.Clearing.{cleared}
 use Rattle.status_db.specs.Held.{is_record_place}
 use Rattle.status_records.specs.Words.{is_not_installed}
 use Rattle.status_records.specs.declared.record.Record.{Record}
-use Rattle.listed_files.proofs.Closings.{below_within, removed_stays}
+use Rattle.listed_files.proofs.Closings.{below_within}
 use Rattle.listed_files.specs.Closing.{SparesAdministration}
 use Rattle.listed_files.specs.Concluding.{AreElsewhere}
 use Rattle.unit_stages.specs.PartFitting.{AreFit, IsFit}
+use Rattle.unit_stages.proofs.Outside.{removed_outside}
 use Rattle.unit_stages.specs.Parts.{HasDone, HaveDone, part_lists, part_records}
 use Rattle.unit_stages.specs.declared.part.Part.{Part}
 use Rattle.unit_stages.specs.declared.part.Part.TheVariants.{Note, Forget, Settle, Remove, RemoveDirectories, Clear, List as Listing, DropList, DropMembers}
@@ -178,35 +178,34 @@ taken_link true old new is link away = no_link_none new is link
 taken_link false old new is link away = away (subst IsLink is link)
 
 module _ (name : Path) where
-  part_keeps : (part : Part) (rs : List Record) (old new : World) → IsOwn name part → HasDone name part rs old new → KeepsOthers name old new
-  part_keeps (Note r) rs old new fit done = keeps_same name old new (λ q inside. done.rest q inside.unnoted)
-  part_keeps Forget rs old new fit done = keeps_same name old new (λ q inside. done.rest q inside.unnoted)
-  part_keeps (Settle settled) rs old new fit done = keeps_same name old new (λ q inside. done.rest q (no_name_of_some settled.items q inside.below))
-  part_keeps (Remove leaving) rs old new fit done = keeps_same name old new (λ q inside. removed_stays leaving.items old new q fit done inside.below)
-  part_keeps (RemoveDirectories leaving) rs old new fit done = keeps_same name old new (λ q inside. spared_stays true old leaving.items new q done
-      (λ x has goes e. true≢false (sym (below_within q inside.below) ∙ ap (is_within home_path) (sym e) ∙ fit x has goes)))
-  part_keeps (Clear names) rs old new fit done =
+  part_keeps : (declined : Path → Type 0) (part : Part) (rs : List Record) (old new : World) → IsOwn name part → HasDone name declined part rs old new → KeepsOthers name old new
+  part_keeps declined (Note r) rs old new fit done = keeps_same name old new (λ q inside. done.rest q inside.unnoted)
+  part_keeps declined Forget rs old new fit done = keeps_same name old new (λ q inside. done.rest q inside.unnoted)
+  part_keeps declined (Settle settled) rs old new fit done = keeps_same name old new (λ q inside. done.rest q (no_name_of_some settled.items q inside.below))
+  part_keeps declined (Remove leaving) rs old new fit done = keeps_same name old new (λ q inside. removed_outside false leaving.items old new fit declined done q (below_within q inside.below))
+  part_keeps declined (RemoveDirectories leaving) rs old new fit done = keeps_same name old new (λ q inside. removed_outside true leaving.items old new fit declined done q (below_within q inside.below))
+  part_keeps declined (Clear names) rs old new fit done =
       keeps_same name old new (λ q inside. done.each q ∙ ap (λ b. cond b (cleared (old q)) (old q)) (fit q (below_within q inside.below)))
-  part_keeps (Listing paths) rs old new fit done = record {
+  part_keeps declined (Listing paths) rs old new fit done = record {
     stays = λ q others. done.rest q others.list.0 others.list.1;
     links = λ q inside link. subst IsLink (done.rest q
         (λ e. no_link_file (new q) _ _ (ap new e ∙ done.target) link)
         (λ e. no_link_none (new q) (ap new e ∙ done.spare) link)) link;
   }
-  part_keeps DropList rs old new fit done = record {
+  part_keeps declined DropList rs old new fit done = record {
     stays = λ q others. done.rest q others.list.0;
     links = λ q inside link. subst IsLink (done.rest q (λ e. no_link_none (new q) (ap new e ∙ done.target) link)) link;
   }
-  part_keeps (DropMembers keep_postrm) rs old new fit done = record {
+  part_keeps declined (DropMembers keep_postrm) rs old new fit done = record {
     stays = λ q others. done.taken.rest q others.members;
     links = λ q inside link. by_absence (old q) (λ away. away (subst IsLink (done.taken.rest q
         (λ member is e. taken_link (goes done.names keep_postrm member) (old q) (new q) (ap new e ∙ done.taken.stands member is ∙ ap (λ p. cond (goes done.names keep_postrm member) None (old p)) (sym e)) link away)) link));
   }
 
-  pub parts_keep : (parts : List Part) (rs : List Record) (old new : World) → AreOwn name parts → HaveDone name parts rs old new → KeepsOthers name old new
-  parts_keep [] rs old new fit done = subst (KeepsOthers name old) (sym done) (keeps_here name old)
-  parts_keep (part ∷ parts) rs old new fit done = keeps_then name old done.0 new (part_keeps part rs old done.0 fit.0 done.1)
-      (parts_keep parts (part_records name part rs) done.0 new fit.1 done.2)
+  pub parts_keep : (declined : Path → Type 0) (parts : List Part) (rs : List Record) (old new : World) → AreOwn name parts → HaveDone name declined parts rs old new → KeepsOthers name old new
+  parts_keep declined [] rs old new fit done = subst (KeepsOthers name old) (sym done) (keeps_here name old)
+  parts_keep declined (part ∷ parts) rs old new fit done = keeps_then name old done.0 new (part_keeps declined part rs old done.0 fit.0 done.1)
+      (parts_keep declined parts (part_records name part rs) done.0 new fit.1 done.2)
 
   -- what fits is so
   part_own : (part : Part) (rs : List Record) (ls : List PackageList) → IsFit name part rs ls → IsOwn name part

@@ -72,6 +72,7 @@ module _ (g : Given) (places : List Path) (s m : State) (reads : Reads s m) (sil
         since = carried.since;
         later = carried.later;
         leaves = carried.leaves;
+        stays = carried.stays;
         records = carried.records;
         lists_are = carried.lists_are;
       }

@@ -161,13 +161,13 @@ module _ (X : List Diversion → World → Type 0) (keep : (before after : List 
   diverted_kept asked seen before after u s t is h =
       let d = asked_entry asked in
       answered_kept is.answer before (cond (has_same before d) before (before ++ d ∷ [])) after (HasAdded before d asked.rename seen) s.world t.world is.table (is.left h)
-      (added_kept (has_same before d) before (before ++ d ∷ []) (moves_node asked.rename seen.listed (sight_of s.world asked.path asked.target)) asked.path asked.target s.world t.world is.shipped.path is.shipped.target)
+      (added_kept (has_same before d) before (before ++ d ∷ []) (moves_node asked.rename seen.listed (sight_of asked.rename s.world asked.path asked.target)) asked.path asked.target s.world t.world is.shipped.path is.shipped.target)
 
   undiverted_kept : (asked : Undiverting) (before after : List Diversion) (u : AUnit) (s t : State) → IsUndiverted asked before after u s t → IsTrue t.honest → X before s.world → X after t.world
   undiverted_kept asked before after u s t is h =
       let target = truename before asked.path in
       answered_kept is.answer before (without asked.path before) after (HasRemoved before asked.path asked.rename) s.world t.world is.table (is.left h)
-      (λ left. keep before (without asked.path before) s.world t.world (record { moves = moves_node asked.rename false (sight_of s.world target asked.path); from = target; to = asked.path; ship_from = is.shipped.target; ship_to = is.shipped.path; recorded = left }))
+      (λ left. keep before (without asked.path before) s.world t.world (record { moves = moves_node asked.rename false (sight_of asked.rename s.world target asked.path); from = target; to = asked.path; ship_from = is.shipped.target; ship_to = is.shipped.path; recorded = left }))
 
 module _ (d : Recorded) (lists : List PackageList) where
   pub standing_diverted : (asked : Diverting) (seen : Seen) (before after : List Diversion) (u : AUnit) (s t : State) → IsDiverted asked seen before after u s t → IsTrue t.honest → IsStanding (with_entries d lists before) s.world → IsStanding (with_entries d lists after) t.world

@@ -4,7 +4,7 @@ use Rattle.std.specs.List.{AllByRecursion, list_any}
 use Rattle.host_core.specs.Paths.{Path, is_named_by, is_own}
 use Rattle.host_core.specs.World.{World, Change, Avoids, SameOn, changed, is_kept}
 use Rattle.host_core.specs.Events.{Ran, changes_of, follow_all}
-use Rattle.host_core.specs.Host.{State, CallsSome, finished}
+use Rattle.host_core.specs.Host.{State, CallsSome, WasDenied, finished}
 use Rattle.host_core.proofs.Scripts.{Avoids-front, changed_kept}
 use Rattle.host_core.specs.declared.call.Call.{Call}
 use Rattle.diversions.specs.declared.entry.Diversion.{Diversion}
@@ -57,7 +57,7 @@ module _ (name : Path) (entries : List Diversion) where
   calls_keep h P s t made honest = keeps_own name s.world t.world (calls_own _ P s t made honest)
 
   does_keep : (parts : List Part) (h : Holding) (s t : State) → AreOwn name parts → DoesParts name parts h s t → IsTrue t.honest → KeepsOthers name s.world t.world
-  does_keep parts h s t fit does honest = parts_keep name parts h.records s.world t.world fit (does.done honest)
+  does_keep parts h s t fit does honest = parts_keep name (WasDenied s t) parts h.records s.world t.world fit (does.done honest)
 
   passed_keeps : (stage : Stage) (h : Holding) (s t : State) (told now : List Called) → IsOwnStage name stage → HasPassed name entries stage h s t told now → IsTrue t.honest → KeepsOthers name s.world t.world
   passed_keeps stage h s t told now fit passed honest =

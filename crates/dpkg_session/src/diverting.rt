@@ -8,6 +8,7 @@ ghost use Rattle.diversions.specs.Changes.{HasAdded, IsAdding, IsTableReady, wit
 ghost use Rattle.diversions.specs.Fault.{CountsDiversion};
 ghost use Rattle.diversions.specs.Refusals.{add_answer};
 ghost use Rattle.diversions.specs.declared.fault.DiversionFault.TheVariants as fault;
+ghost use Rattle.diversions.specs.Turns.{GoesByTurns};
 ghost use Rattle.file_lists.specs.Owners.{places_in};
 ghost use Rattle.dpkg_session.specs.Diversions.{HasBroken, IsDiverted, IsFlushed, IsOneUnit, LeavesAnswer, asked_entry, by_answer, is_listed, seen_of};
 ghost use Rattle.dpkg_session.specs.PowerLoss.{LosesLikeAStop, StandsOnceAnswered};
@@ -72,6 +73,7 @@ fn add_to_disk<H: Host>(
         (H.state host.new)) }
     ensures any_moment { AtEachMoment (IsAdding diversions.old.entries (asked_entry asked.now)
         asked.now.rename seen) (H.state host.old) (H.state host.new) }
+    ensures turns { GoesByTurns (H.state host.old) (H.state host.new) }
     ensures silent { Silent (H.state host.old) (H.state host.new) }
     ensures counts { CountsDiversion (H.state host.old) (H.state host.new) result }
     ensures not_closed { IsErrOf result fault.Closed → ⊥ }
@@ -111,6 +113,7 @@ fn add_unit<H: Host>(
     ensures touched { TellsNoPackage result }
     ensures any_moment { AtEachMoment (IsAdding diversions.old.entries (asked_entry asked.now)
         asked.now.rename seen) (H.state host.old) (H.state host.new) }
+    ensures turns { GoesByTurns (H.state host.old) (H.state host.new) }
     ensures silent { Silent (H.state host.old) (H.state host.new) }
     ensures counts { CountsReply (H.state host.old) (H.state host.new) result.reply }
     ensures not_closed { IsBrokenBy Closed result.reply → ⊥ }
@@ -148,6 +151,7 @@ fn divert_on<H: Host>(
     ensures any_moment { AtEachMoment (IsAdding diversions.old.entries (asked_entry asked.now)
         asked.now.rename (seen_of database.now.records lists.now.lists asked.now.owner
         asked.now.path)) (H.state host.old) (H.state host.new) }
+    ensures turns { GoesByTurns (H.state host.old) (H.state host.new) }
     ensures silent { Silent (H.state host.old) (H.state host.new) }
     ensures counts { CountsLast (H.state host.old) (H.state host.new) result.last }
     ensures not_closed { IfSome result.last (λ unit. IsBrokenBy Closed unit.reply → ⊥) }
@@ -176,6 +180,7 @@ impl<H: Host> Session<H> {
             asked.now.rename (seen_of self.old.administration.database.records
             self.old.administration.lists.lists asked.now.owner asked.now.path))
             (H.state self.old.host) (H.state self.new.host) }
+        ensures turns { GoesByTurns (H.state self.old.host) (H.state self.new.host) }
         ensures loss { self.old.closed ≡ false
             → LosesLikeAStop (λ so_far. IsAdding self.old.diversions.entries (asked_entry asked.now)
             asked.now.rename (seen_of self.old.administration.database.records

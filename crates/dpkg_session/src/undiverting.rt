@@ -7,6 +7,7 @@ ghost use Rattle.diversions.specs.Entries.{without};
 ghost use Rattle.diversions.specs.Fault.{CountsDiversion};
 ghost use Rattle.diversions.specs.Refusals.{remove_answer};
 ghost use Rattle.diversions.specs.declared.fault.DiversionFault.TheVariants as fault;
+ghost use Rattle.diversions.specs.Turns.{GoesByTurns};
 ghost use Rattle.file_lists.specs.Owners.{places_in};
 ghost use Rattle.dpkg_session.specs.Diversions.{HasBroken, IsFlushed, IsOneUnit, IsUndiverted, LeavesAnswer, by_answer};
 ghost use Rattle.dpkg_session.specs.PowerLoss.{LosesLikeAStop, StandsOnceAnswered};
@@ -43,6 +44,7 @@ fn remove_to_disk<H: Host>(
         (H.state host.new)) }
     ensures any_moment { AtEachMoment (IsRemoving diversions.old.entries asked.now.path
         asked.now.rename) (H.state host.old) (H.state host.new) }
+    ensures turns { GoesByTurns (H.state host.old) (H.state host.new) }
     ensures silent { Silent (H.state host.old) (H.state host.new) }
     ensures counts { CountsDiversion (H.state host.old) (H.state host.new) result }
     ensures not_closed { IsErrOf result fault.Closed → ⊥ }
@@ -73,6 +75,7 @@ fn remove_unit<H: Host>(
     ensures touched { TellsNoPackage result }
     ensures any_moment { AtEachMoment (IsRemoving diversions.old.entries asked.now.path
         asked.now.rename) (H.state host.old) (H.state host.new) }
+    ensures turns { GoesByTurns (H.state host.old) (H.state host.new) }
     ensures silent { Silent (H.state host.old) (H.state host.new) }
     ensures counts { CountsReply (H.state host.old) (H.state host.new) result.reply }
     ensures not_closed { IsBrokenBy Closed result.reply → ⊥ }
@@ -107,6 +110,7 @@ fn undivert_on<H: Host>(
         lists.now.lists }
     ensures any_moment { AtEachMoment (IsRemoving diversions.old.entries asked.now.path
         asked.now.rename) (H.state host.old) (H.state host.new) }
+    ensures turns { GoesByTurns (H.state host.old) (H.state host.new) }
     ensures silent { Silent (H.state host.old) (H.state host.new) }
     ensures counts { CountsLast (H.state host.old) (H.state host.new) result.last }
     ensures not_closed { IfSome result.last (λ unit. IsBrokenBy Closed unit.reply → ⊥) }
@@ -131,6 +135,7 @@ impl<H: Host> Session<H> {
         ensures any_moment { self.old.closed ≡ false
             → AtEachMoment (IsRemoving self.old.diversions.entries asked.now.path asked.now.rename)
             (H.state self.old.host) (H.state self.new.host) }
+        ensures turns { GoesByTurns (H.state self.old.host) (H.state self.new.host) }
         ensures loss { self.old.closed ≡ false
             → LosesLikeAStop (λ so_far. IsRemoving self.old.diversions.entries asked.now.path
             asked.now.rename (H.state self.old.host).world) (H.state self.old.host)

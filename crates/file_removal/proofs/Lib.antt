@@ -1,3 +1,4 @@
+pub mod Lowered
 pub mod Visiting
 pub mod Removing
 pub mod Clears

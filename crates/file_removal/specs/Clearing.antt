@@ -3,7 +3,7 @@ use Rattle.std.specs.Prelude.{◌≡◌, ◌⊎◌, Bool, List, Option, Some, No
 use Rattle.std.specs.List.{list_any}
 use Rattle.std.specs.Str.{bytes_eq}
 use Rattle.host_core.specs.Paths.{Path}
-use Rattle.host_core.specs.World.{World}
+use Rattle.host_core.specs.World.{World, lowered}
 use Rattle.host_core.specs.declared.node.Node.{Node}
 use Rattle.host_core.specs.declared.node.Node.TheVariants.{File, Dir, Link}
 
@@ -24,3 +24,8 @@ pub record Cleared (names : List Path) (old new : World) : Type 0 where
 -- at each moment: a path is as before, or it is one of the names and cleared
 pub record IsClearing (names : List Path) (old now : World) : Type 0 where
   pub each : (p : Path) → (now p ≡ old p) ⊎ (IsTrue (is_among names p) × (now p ≡ cleared (old p)))
+
+-- At each moment, of files whose rights are taken before they go, since another name of them may exist: a path is as before, or it is
+-- one of the names and lends no rights any more, or is cleared.
+pub record IsRetiring (names : List Path) (old now : World) : Type 0 where
+  pub each : (p : Path) → (now p ≡ old p) ⊎ (IsTrue (is_among names p) × ((now p ≡ lowered (old p)) ⊎ (now p ≡ cleared (old p))))

@@ -1,3 +1,4 @@
 pub mod Removal
 pub mod Visits
 pub mod Clearing
+pub mod Lowering

@@ -66,10 +66,10 @@ since_to_disk {T} P result a b c still first does = since_then P a b c first (mo
     more (Err Device) (Stops.some u is goes) = since_fails Q (Did u) b c goes (λ h. elim (is h) [ inl same ↦ whole u (goes.honest h) same | inr part ↦ absurd part ])
         (λ h. elim (is h) [ inl same ↦ after u (goes.honest h) same | inr part ↦ absurd part ])
     more (Err NoMemory) does = record { added = []; events = does.events ∙ sym (append-nil b.events); honest = does.honest; world = does.world; each = λ h. here (does.honest h) [] refl }
-    more (Err Declined) (Declines.nothing path goes) = since_goes Q (Denied path) b c goes
-        (λ h. record { before = here (goes.honest h) [] refl; inside = λ d cut. absurd cut; behind = here (goes.honest h) (Denied path ∷ []) refl })
-    more (Err Declined) (Declines.undone path t is goes) = record {
-      added = Did t ∷ Did Barrier ∷ Denied path ∷ [];
+    more (Err Declined) (Declines.nothing goes) = since_goes Q (Denied []) b c goes
+        (λ h. record { before = here (goes.honest h) [] refl; inside = λ d cut. absurd cut; behind = here (goes.honest h) (Denied [] ∷ []) refl })
+    more (Err Declined) (Declines.undone t is goes) = record {
+      added = Did t ∷ Did Barrier ∷ Denied [] ∷ [];
       events = goes.events;
       honest = goes.honest;
       world = goes.world;

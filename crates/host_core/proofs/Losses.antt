@@ -7,7 +7,7 @@ use Rattle.std.proofs.lemmas.List.{append-nil}
 use Rattle.std.specs.Str.{bytes_eq}
 use Rattle.std.proofs.lemmas.Slice.Eq.{bytes_eq-Decides}
 use Rattle.host_core.specs.Paths.{Path}
-use Rattle.host_core.specs.World.{World, Change, Avoids, Step, Write, Move, Take, MakeDir, RemoveDir, HardLink, MakeLink, Sync, Barrier, SyncAll, SyncRoot, IsPart, SameOn, KeepsBut}
+use Rattle.host_core.specs.World.{World, Change, Avoids, Step, Write, Move, Take, MakeDir, RemoveDir, HardLink, MakeLink, Sync, Barrier, SyncAll, SyncRoot, Lower, IsPart, SameOn, KeepsBut}
 use Rattle.host_core.specs.Events.{Event, Did, Finished, Cut, Failed, Denied, follow, follow_all, IsCutOf, Ran, scripts_of, changes_of}
 use Rattle.host_core.specs.Unsynced.{unsynced, unsynced_all, unsynced_after, unsynced_step, marked, is_temporary, IsSettled, KeepsSettled}
 use Rattle.host_core.specs.Host.{State, AllFailed, Throughout, Since, Silent, Runs, Calls, finished, ScriptsBut, OnlyScripts}
@@ -92,6 +92,7 @@ part_unsynced (Sync p) t u part = absurd part
 part_unsynced Barrier t u part = absurd part
 part_unsynced SyncAll t u part = absurd part
 part_unsynced SyncRoot t u part = absurd part
+part_unsynced (Lower p) t u part = absurd part
 
 cut_unsynced : (e d : Event) (u : Path → Bool) → IsCutOf e d → unsynced_after d u ≡ unsynced_after e u
 cut_unsynced (Did s) d u cut = ap (λ x. unsynced_after x u) cut.2 ∙ part_unsynced s cut.0 u cut.1
@@ -137,6 +138,7 @@ temporary_step events (Sync p) owed all = temporary_marked (unsynced events) p f
 temporary_step events Barrier owed all = all
 temporary_step events SyncAll owed all = λ q is. no false refl is
 temporary_step events SyncRoot owed all = all
+temporary_step events (Lower p) owed all = all
 
 -- what is owed before a step is enough for a part of it
 pub keeps_part : (events : List Event) (s t : Step) → IsPart s t → KeepsSettled events s → KeepsSettled events t
@@ -153,6 +155,7 @@ keeps_part events (Sync p) t part owed = absurd part
 keeps_part events Barrier t part owed = absurd part
 keeps_part events SyncAll t part owed = absurd part
 keeps_part events SyncRoot t part owed = absurd part
+keeps_part events (Lower p) t part owed = absurd part
 
 -- the same of an event: only a step owes something
 abbrev pub EventKeepsSettled : List Event → Event → Type 0

@@ -3,7 +3,7 @@ use Rattle.std.specs.Prelude.{◌≡◌, ◌⊎◌, ℕ, Bool, true, false, List
 use Rattle.std.specs.List.{list_any}
 use Rattle.std.specs.Str.{bytes_eq}
 use Rattle.host_core.specs.Paths.{Path}
-use Rattle.host_core.specs.World.{World, Change, Avoids, Step, Write, Move, Take, MakeDir, RemoveDir, HardLink, MakeLink, Sync, Barrier, SyncAll, SyncRoot}
+use Rattle.host_core.specs.World.{World, Change, Avoids, Step, Write, Move, Take, MakeDir, RemoveDir, HardLink, MakeLink, Sync, Barrier, SyncAll, SyncRoot, Lower}
 use Rattle.host_core.specs.Events.{Event, Did, Finished, Cut, Failed, Denied, follow_all, IsCutOf, changes_of}
 use Rattle.host_core.specs.Unsynced.{unsynced, is_temporary}
 use Rattle.host_core.specs.Host.{State, Reads, AllFailed, Since}
@@ -26,6 +26,7 @@ flushes (MakeLink p t) = false
 flushes (Sync p) = false
 flushes SyncAll = false
 flushes SyncRoot = true
+flushes (Lower p) = false
 
 abbrev pub is_barrier : Event → Bool
 is_barrier (Did s) = flushes s

@@ -32,6 +32,13 @@ not_begun done changing declined later made (Err Device) failed look changes non
 not_begun done changing declined later made (Err NoMemory) failed look changes none = none
 not_begun done changing declined later made (Err Declined) failed look changes none = absurd look
 
+-- it was refused before it changed anything
+pub refused : (T : Type 0) (done changing declined : List SystemCall → Type 0) (later made : List SystemCall) (fault : HostFault) → fault ≡ Device → changing later → changes_in made ≡ []
+    → IsAnsweredBy {T = T} done (IsBegun changing) declined made (Err fault)
+refused T done changing declined later made Device is changes none = begun_none changing later made changes none
+refused T done changing declined later made NoMemory is changes none = none
+refused T done changing declined later made Declined is changes none = absurd (let e : Declined ≡ Device = is in cc)
+
 -- the same of something that is made
 pub not_made : {T : Type 0} (first undo : SystemCall) (changes made : List SystemCall) (result : Result T HostFault) → IsErr result → IfErr result IsUndeclined → changes_in made ≡ [] → IsMakingBy first undo changes made result
 not_made first undo changes made (Ok x) failed look none = absurd (false≢true failed)

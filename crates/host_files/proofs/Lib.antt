@@ -5,3 +5,4 @@ pub mod OnDisk
 pub mod Replayed
 pub mod RememberedLaws
 pub mod Supposed
+mod CutOff

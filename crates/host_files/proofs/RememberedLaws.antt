@@ -6,7 +6,8 @@ use Rattle.std.specs.declared.fs.Metadata.{Metadata}
 use Rattle.std.specs.Fs.{metadata_mode}
 use Rattle.host_core.specs.Paths.{Path}
 use Rattle.host_core.specs.Tree.{IsTree, IsBelow}
-use Rattle.host_core.specs.World.{World, IsDirectory, kind_of, put}
+use Rattle.host_core.specs.World.{World, IsDirectory, kind_of, lowered, put}
+use Rattle.host_core.proofs.Paths.{decide}
 use Rattle.host_core.proofs.WorldLaws.{put_same, put_other}
 use Rattle.host_core.specs.declared.node.Kind.TheVariants as kind
 use Rattle.host_core.specs.declared.node.Node.{Node}
@@ -41,6 +42,7 @@ known_step_more d (asked.Sync p) A B f k = f k
 known_step_more d asked.Barrier A B f k = f k
 known_step_more d asked.SyncAll A B f k = f k
 known_step_more d asked.SyncRoot A B f k = f k
+known_step_more d (asked.Lower p) A B f k = f k
 
 known_more : (d : Path) (n : Noted) (A B : Type 0) → (A → ∥ B ∥₁) → IsKnownBy d n A → ∥ IsKnownBy d n B ∥₁
 known_more d (was.Looked p found) A B f (inl seen) = ∣ inl seen ∣₁
@@ -67,6 +69,7 @@ new_step_more g (asked.Sync p) A B f k = f k
 new_step_more g asked.Barrier A B f k = f k
 new_step_more g asked.SyncAll A B f k = f k
 new_step_more g asked.SyncRoot A B f k = f k
+new_step_more g (asked.Lower p) A B f k = f k
 
 new_more : (g : Path) (n : Noted) (A B : Type 0) → (A → ∥ B ∥₁) → IsNewBy g n A → ∥ IsNewBy g n B ∥₁
 new_more g (was.Looked p found) A B f k = f k
@@ -103,6 +106,22 @@ is_dir (Some (Link target)) e = absurd (let o : kind.SymbolicLink ≡ kind.Direc
 -- what stands at another path is as before
 other : (P : Option Node → Type 0) (w : World) (p d : Path) (n : Option Node) → p ≢ d → P (w d) → P (put w p n d)
 other P w p d n apart here = subst P (sym (put_other w p d n (λ e. apart (sym e)))) here
+
+-- where rights are taken, what stood stands
+lowered_some : (o : Option Node) → IsSome o → IsSome (lowered o)
+lowered_some None some = some
+lowered_some (Some (File bytes access)) some = refl
+lowered_some (Some (Dir access)) some = refl
+lowered_some (Some (Link target)) some = refl
+
+lowered_directory : (o : Option Node) → IsDirectory o → IsDirectory (lowered o)
+lowered_directory o (access, is) = (access, ap lowered is)
+
+lower_keeps : (P : Option Node → Type 0) → ((o : Option Node) → P o → P (lowered o)) → (w : World) (p d : Path) → P (w d) → P (put w p (lowered (w p)) d)
+lower_keeps P each w p d here = elim (decide d p) [
+  | inl same ↦ subst P (sym (put_same w p d (lowered (w p)) same)) (each (w p) (subst (λ q. P (w q)) same here))
+  | inr apart ↦ subst P (sym (put_other w p d (lowered (w p)) apart)) here
+]
 
 module _ (m : Model) (sound : IsSound m) where
   before : (n : Noted) (h : List Noted) → IsTrue (replay m (n ∷ h)).honest → IsTrue (replay m h).honest
@@ -146,6 +165,8 @@ module _ (m : Model) (sound : IsSound m) where
   known_stands d (was.Done asked.Barrier ∷ h) known honest = known_stands d h known (before (was.Done asked.Barrier) h honest)
   known_stands d (was.Done asked.SyncAll ∷ h) known honest = known_stands d h known (before (was.Done asked.SyncAll) h honest)
   known_stands d (was.Done asked.SyncRoot ∷ h) known honest = known_stands d h known (before (was.Done asked.SyncRoot) h honest)
+  known_stands d (was.Done (asked.Lower p) ∷ h) known honest =
+      lower_keeps IsDirectory lowered_directory (replay m h).world p d (known_stands d h known (before (was.Done (asked.Lower p)) h honest))
   known_stands d (was.Undone a ∷ h) known honest = absurd known
   known_stands d (was.Declined a ∷ h) known honest = absurd known
   known_stands d (was.Ended call kept outcome ∷ h) known honest = absurd known
@@ -175,6 +196,8 @@ module _ (m : Model) (sound : IsSound m) where
   new_stands g (was.Done asked.Barrier ∷ h) new honest = new_stands g h new (before (was.Done asked.Barrier) h honest)
   new_stands g (was.Done asked.SyncAll ∷ h) new honest = new_stands g h new (before (was.Done asked.SyncAll) h honest)
   new_stands g (was.Done asked.SyncRoot ∷ h) new honest = new_stands g h new (before (was.Done asked.SyncRoot) h honest)
+  new_stands g (was.Done (asked.Lower p) ∷ h) new honest =
+      lower_keeps IsSome lowered_some (replay m h).world p g (new_stands g h new (before (was.Done (asked.Lower p)) h honest))
   new_stands g (was.Undone a ∷ h) new honest = absurd new
   new_stands g (was.Declined a ∷ h) new honest = absurd new
   new_stands g (was.Ended call kept outcome ∷ h) new honest = absurd new

@@ -2,7 +2,7 @@
 use Rattle.std.proofs.Common.{◌≡◌, ◌⊎◌, inl, inr, Bool, true, false, ◌&&◌, IsTrue, List, [], ◌∷◌, ◌++◌, Option, Some, None, Result, Ok, Err, OnOk, refl, sym, ap, subst, ◌∙◌, append_assoc}
 use Rattle.std.proofs.lemmas.Bool.{false≢true}
 use Rattle.std.proofs.lemmas.List.{append-nil}
-use Rattle.host_core.specs.World.{Step, Write, Move, Take, MakeDir, RemoveDir, HardLink, MakeLink, Sync, Barrier, SyncAll, SyncRoot, IsPart, is_kept, undo_of}
+use Rattle.host_core.specs.World.{Step, Write, Move, Take, MakeDir, RemoveDir, HardLink, MakeLink, Sync, Barrier, SyncAll, SyncRoot, Lower, IsPart, is_kept, undo_of, place_of}
 use Rattle.host_core.specs.Events.{Event, Did, Finished, Cut, Failed, Denied}
 use Rattle.host_core.specs.Unsynced.{IsSettled, KeepsSettled}
 use Rattle.host_core.proofs.Losses.{settled_none, settled_event, keeps_part}
@@ -17,7 +17,7 @@ use Rattle.host_files.specs.Faults.{IsUndeclined}
 use Rattle.host_files.specs.declared.record.Asked.{Asked}
 use Rattle.host_files.specs.declared.record.Noted.{Noted}
 use Rattle.host_files.specs.declared.record.Noted.TheVariants.{Looked, Seen, Listed, Done, Undone, Declined, Ended, Broke, Missed}
-use Rattle.host_files.specs.Replay.{Model, IsSound, IsLeftOf, IsTakenBack, IsOwed, replay, events_of, failing, declining, step_of, path_of}
+use Rattle.host_files.specs.Replay.{Model, IsSound, IsLeftOf, IsTakenBack, IsOwed, replay, events_of, failing, declining, step_of}
 use Rattle.host_core.specs.Host.{ran_of}
 
 pub honest_before : (a b : Bool) → IsTrue (a && b) → IsTrue b
@@ -63,8 +63,8 @@ module _ (m : Model) where
     -- a step that was declined
     declines : (a : Asked) (old new : List Noted) (left : Option _) → m.left old ≡ left → new ≡ Declined a ∷ old → Declines (step_of a) (replay m old) (replay m new)
     declines a old new None is noted =
-        Declines.nothing (path_of a) (subst (λ o. Happens (declining a o) (replay m old) (replay m new)) is (one (Declined a) old new noted))
-    declines a old new (Some t) is noted = Declines.undone (path_of a) t
+        Declines.nothing (subst (λ o. Happens (declining a o) (replay m old) (replay m new)) is (one (Declined a) old new noted))
+    declines a old new (Some t) is noted = Declines.undone t
         (λ h. subst (IsTakenBack (step_of a) (replay m old).world) is (sound.answers (Declined a) old (subst (λ l. IsTrue (replay m l).honest) noted h)))
         (subst (λ o. Happens (declining a o) (replay m old) (replay m new)) is (one (Declined a) old new noted))
 
@@ -109,14 +109,15 @@ module _ (m : Model) where
     undo_owed events Barrier = tt
     undo_owed events SyncAll = tt
     undo_owed events SyncRoot = tt
+    undo_owed events (Lower p) = tt
 
     -- a step that was declined, at the end
     settled_declining : (a : Asked) (events : List Event) (w : _) (left : Option Step) → IsTakenBack (step_of a) w left → KeepsSettled events (step_of a) → IsSettled events → IsSettled (events ++ declining a left)
-    settled_declining a events w None is owed settled = settled_event events (Denied (path_of a)) tt settled
+    settled_declining a events w None is owed settled = settled_event events (Denied (place_of (step_of a))) tt settled
     settled_declining a events w (Some t) is owed settled =
         let some : List Event = events ++ Did t ∷ [] in
         let undo : Event = Did (undo_of (step_of a)) in
-        let denied : Event = Denied (path_of a) in
+        let denied : Event = Denied (place_of (step_of a)) in
         subst IsSettled (append_assoc some (undo ∷ []) (denied ∷ []) ∙ append_assoc events (Did t ∷ []) (undo ∷ denied ∷ []))
         (settled_event (some ++ undo ∷ []) denied tt
         (settled_event some undo (undo_owed some (step_of a))

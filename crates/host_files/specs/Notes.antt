@@ -24,6 +24,7 @@ asked_by (asks.Sync p) = asked.Sync p.now
 asked_by asks.Barrier = asked.Barrier
 asked_by asks.SyncAll = asked.SyncAll
 asked_by asks.SyncRoot = asked.SyncRoot
+asked_by (asks.Lower p) = asked.Lower p.now
 
 abbrev pub noted : Note → Noted
 noted (note.Looked p n) = was.Looked p.now n.now

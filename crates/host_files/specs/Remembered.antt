@@ -22,6 +22,7 @@ IsKnownByStep d (asked.Sync p) before = before
 IsKnownByStep d asked.Barrier before = before
 IsKnownByStep d asked.SyncAll before = before
 IsKnownByStep d asked.SyncRoot before = before
+IsKnownByStep d (asked.Lower p) before = before
 
 -- It is known by a call: it was seen, or something below it, or it was known before. After a script, a fault and a step that was declined nothing is.
 abbrev pub IsKnownBy : Path → Noted → Type 0 → Type 0
@@ -53,6 +54,7 @@ IsNewByStep f (asked.Sync p) before = before
 IsNewByStep f asked.Barrier before = before
 IsNewByStep f asked.SyncAll before = before
 IsNewByStep f asked.SyncRoot before = before
+IsNewByStep f (asked.Lower p) before = before
 
 -- It is new by a call. After a script, a fault and a step that was declined none is.
 abbrev pub IsNewBy : Path → Noted → Type 0 → Type 0

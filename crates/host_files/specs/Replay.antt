@@ -1,8 +1,7 @@
 -- What the calls of a real directory and their answers say of it.
 use Rattle.std.specs.Prelude.{◌≡◌, ◌⊎◌, Bool, false, ◌&&◌, IsTrue, List, [], ◌∷◌, ◌++◌, Option, Some, None}
 use Rattle.std.proofs.lemmas.Bool.{false≢true}
-use Rattle.host_core.specs.World.{World, Change, Avoids, Step, Write, Move, Take, MakeDir, RemoveDir, HardLink, MakeLink, Sync, Barrier, SyncAll, SyncRoot, after, kind_of, undo_of, IsPart, is_kept}
-use Rattle.host_core.specs.Paths.{Path}
+use Rattle.host_core.specs.World.{World, Change, Avoids, Step, Write, Move, Take, MakeDir, RemoveDir, HardLink, MakeLink, Sync, Barrier, SyncAll, SyncRoot, Lower, after, kind_of, undo_of, place_of, IsPart, is_kept}
 use Rattle.host_core.specs.Events.{Event, Did, Finished, Cut, Failed, Denied, follow_all}
 use Rattle.host_core.specs.Unsynced.{KeepsSettled}
 use Rattle.host_core.specs.Host.{State, ran_of}
@@ -35,29 +34,16 @@ step_of (asked.Sync p) = Sync p
 step_of asked.Barrier = Barrier
 step_of asked.SyncAll = SyncAll
 step_of asked.SyncRoot = SyncRoot
+step_of (asked.Lower p) = Lower p
 
 abbrev pub failing : Option Step → List Event
 failing None = Failed ∷ []
 failing (Some t) = Did t ∷ Failed ∷ []
 
--- the path of which a person is told where a step was declined
-abbrev pub path_of : Asked → Path
-path_of (asked.Write p n) = p
-path_of (asked.Move a b) = a
-path_of (asked.Take p) = p
-path_of (asked.MakeDir p m) = p
-path_of (asked.RemoveDir p) = p
-path_of (asked.HardLink a b) = a
-path_of (asked.MakeLink p t) = p
-path_of (asked.Sync p) = p
-path_of asked.Barrier = []
-path_of asked.SyncAll = []
-path_of asked.SyncRoot = []
-
 -- nothing was done of a step that was declined, or a part, which was taken away
 abbrev pub declining : Asked → Option Step → List Event
-declining a None = Denied (path_of a) ∷ []
-declining a (Some t) = Did t ∷ Did (undo_of (step_of a)) ∷ Denied (path_of a) ∷ []
+declining a None = Denied (place_of (step_of a)) ∷ []
+declining a (Some t) = Did t ∷ Did (undo_of (step_of a)) ∷ Denied (place_of (step_of a)) ∷ []
 
 -- what happened in a call, after these calls
 abbrev pub events_of : Model → List Noted → Noted → List Event

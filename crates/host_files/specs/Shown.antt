@@ -2,11 +2,12 @@
 use Rattle.std.specs.Prelude.{◌≡◌, ◌≢◌, ◌⊎◌, ℕ, ℤ, Bool, true, false, ◌&&◌, bit_and, cond, List, [], ◌∷◌, ◌++◌, Option, Some, None, Result, Ok, Err, String, string_bytes, map, reverse, codes, Contains}
 use Rattle.std.specs.BTreeSet.{BTreeSet}
 use Rattle.std.specs.List.{All}
-use Rattle.std.specs.Fs.{file_type, IsFile}
+use Rattle.std.specs.Fs.{file_type, IsDir, IsFile}
 use Rattle.std.specs.declared.alloc.Global.{Global}
 use Rattle.std.specs.declared.fs.Metadata.{Metadata}
 use Rattle.std.specs.declared.process.Command.{Command}
 use Rattle.host_core.specs.Paths.{Path}
+use Rattle.host_core.specs.Tree.{IsBelow}
 use Rattle.host_core.specs.declared.call.Call.{Call}
 use Rattle.host_core.specs.declared.call.Outcome.{Outcome}
 use Rattle.host_core.specs.declared.call.Outcome.TheVariants.{NotStarted}
@@ -19,7 +20,7 @@ use Rattle.host_core.specs.declared.node.Node.{Node}
 use Rattle.host_core.specs.declared.node.Node.TheVariants.{File, Dir, Link}
 use Rattle.host_files.specs.Commands.{outcome_of}
 use Rattle.host_files.specs.Directories.{HasDirectoryOf}
-use Rattle.host_files.specs.Entries.{HasNoBytes, IsNodeOf, IsKindOf, is_access, is_plain}
+use Rattle.host_files.specs.Entries.{HasNoBytes, IsNodeOf, IsKindOf, LendsRights, LendsNothing, is_access, is_plain}
 use Rattle.host_files.specs.Places.{place_of, place_in, IsEntry}
 use Rattle.host_files.specs.Remembered.{IsNew}
 use Rattle.host_files.specs.SystemCalls.{changes_in, Looks, start_call}
@@ -87,6 +88,19 @@ Adds changes old new (Err Declined) = AddsFirst changes old new
 abbrev pub LooksAt : (Metadata → Type 0) → List ℕ → List SystemCall → List SystemCall → Type 0
 LooksAt P place old new = (found : Metadata) × P found × Looks place (Some found) old new
 
+-- no directory stands there
+abbrev pub IsNoDirectory : Option Metadata → Type 0
+IsNoDirectory None = Unit {0}
+IsNoDirectory (Some found) = IsDir (file_type found) → ⊥
+
+-- a look at a place told no directory
+abbrev pub LooksAtNoDirectory : List ℕ → List SystemCall → List SystemCall → Type 0
+LooksAtNoDirectory place old new = (found : Option Metadata) × IsNoDirectory found × Looks place found old new
+
+-- the last look told that no directory stands at a place above this path, where nothing was changed before
+abbrev pub IsCutOff : List ℕ → Path → List SystemCall → Type 0
+IsCutOff front p made = (top : Path) × IsBelow top p × ((before : List SystemCall) × (changes_in before ≡ []) × LooksAtNoDirectory (place_of front top) before made)
+
 -- the changes of a rename: where one file has both names the system's own would do nothing, and the former is removed
 abbrev pub IsRenaming : List ℕ → List ℕ → List SystemCall → Type 0
 IsRenaming from to made = (made ≡ ask.Rename from to ∷ []) ⊎ ((made ≡ ask.Unlink from ∷ []) × (from ≢ to))
@@ -102,6 +116,18 @@ HasSynced place made =
     LooksAt HasNoBytes place [] made
     ⊎ ((looked : List SystemCall) × LooksAt (λ found. IsFile (file_type found)) place [] looked × (made ≡ ask.SyncFile place ∷ looked))
     ⊎ (made ≡ ask.SyncMade ∷ [])
+
+-- what takes the rights away that the file at a place lends
+abbrev pub lowering_calls : List ℕ → List SystemCall
+lowering_calls place = ask.SetModeSeen place 0o600 ∷ []
+
+-- Rights that were lent were taken away: a look told a file that lends rights, and they were taken from it; or it told what lends
+-- none, which stays as it is. Where owners aren't told, set-id bits aren't either, and nothing is done.
+abbrev pub HasLowered : Bool → List ℕ → List SystemCall → Type 0
+HasLowered owners place made =
+    ((owners ≡ false) × (made ≡ []))
+    ⊎ LooksAt LendsNothing place [] made
+    ⊎ ((looked : List SystemCall) × LooksAt LendsRights place [] looked × (made ≡ lowering_calls place ++ looked))
 
 -- what is done is done, what failed and what was declined left this, and where memory was refused nothing was changed
 abbrev pub IsAnsweredBy : {T : Type 0} → (done failed declined : List SystemCall → Type 0) → List SystemCall → Result T HostFault → Type 0
@@ -143,6 +169,11 @@ IsRenamedBy from to made result = IsAnsweredBy (HasRenamed from to) (IsBegun (Is
 -- a sync that was answered so
 abbrev pub IsSyncedBy : {T : Type 0} → List ℕ → List SystemCall → Result T HostFault → Type 0
 IsSyncedBy place made result = IsAnsweredBy (HasSynced place) (IsBegun (λ all. all ≡ [])) (IsAsked (λ all. all ≡ [])) made result
+
+-- taking rights away that was answered so
+abbrev pub IsLoweredBy : {T : Type 0} → (owners : Bool) → (place : List ℕ) → List SystemCall → Result T HostFault → Type 0
+IsLoweredBy owners place made result =
+    IsAnsweredBy (HasLowered owners place) (IsBegun (λ all. all ≡ lowering_calls place)) (IsAsked (λ all. all ≡ lowering_calls place)) made result
 
 -- the syncs of directories, one after another
 abbrev pub sync_calls : List ℕ → List (String Global) → List SystemCall
@@ -189,6 +220,7 @@ IsRemembered directories (asked.Sync p) = Unit {0}
 IsRemembered directories asked.Barrier = Unit {0}
 IsRemembered directories asked.SyncAll = Unit {0}
 IsRemembered directories asked.SyncRoot = Unit {0}
+IsRemembered directories (asked.Lower p) = Unit {0}
 
 -- something was seen at a place
 abbrev pub IsLookedAt : List ℕ → List SystemCall → Type 0
@@ -207,6 +239,7 @@ IsSure front earlier (asked.Sync p) made = IsLookedAt (place_of front p) made �
 IsSure front earlier asked.Barrier made = Unit {0}
 IsSure front earlier asked.SyncAll made = Unit {0}
 IsSure front earlier asked.SyncRoot made = Unit {0}
+IsSure front earlier (asked.Lower p) made = Unit {0}
 
 -- what stands at a place was taken away from the directory that holds it, which was open
 abbrev pub IsTakenFrom : (taking : List ℕ → List ℕ → SystemCall) → (place : List ℕ) → List SystemCall → Type 0
@@ -232,6 +265,7 @@ module _ (front : List ℕ) (owners : Bool) where
   IsChanging asked.Barrier made = made ≡ []
   IsChanging asked.SyncAll made = made ≡ []
   IsChanging asked.SyncRoot made = made ≡ []
+  IsChanging (asked.Lower p) made = made ≡ lowering_calls (place_of front p)
 
   -- a step that was done
   abbrev pub IsDoneBy : Asked → List SystemCall → Type 0
@@ -246,6 +280,7 @@ module _ (front : List ℕ) (owners : Bool) where
   IsDoneBy asked.Barrier made = IsChanging asked.Barrier (changes_in made)
   IsDoneBy asked.SyncAll made = IsChanging asked.SyncAll (changes_in made)
   IsDoneBy asked.SyncRoot made = IsChanging asked.SyncRoot (changes_in made)
+  IsDoneBy (asked.Lower p) made = HasLowered owners (place_of front p) made
 
   -- What is promised of the disk: a file that was written is listed, or else it was synced as it was written; when all that were
   -- written are brought there each that is listed is, at a barrier each of these directories, and when the root is they or all.
@@ -261,6 +296,7 @@ module _ (front : List ℕ) (owners : Bool) where
   IsBrought directories files asked.Barrier made = made ≡ sync_calls front directories.keys
   IsBrought directories files asked.SyncAll made = AreOnDisk front files made
   IsBrought directories files asked.SyncRoot made = IsRootBrought front directories.keys made
+  IsBrought directories files (asked.Lower p) made = Unit {0}
 
   -- a step that failed
   abbrev pub IsBegunBy : Asked → List SystemCall → Type 0
@@ -281,6 +317,7 @@ module _ (front : List ℕ) (owners : Bool) where
   IsBegunBy asked.Barrier made = IsBegun (IsChanging asked.Barrier) made
   IsBegunBy asked.SyncAll made = IsBegun (IsChanging asked.SyncAll) made
   IsBegunBy asked.SyncRoot made = IsBegun (IsChanging asked.SyncRoot) made
+  IsBegunBy (asked.Lower p) made = IsBegun (IsChanging (asked.Lower p)) made
 
   -- a step that was declined; a barrier is never, and so isn't a sync of all of the root
   abbrev pub IsDeclinedBy : Asked → List SystemCall → Type 0
@@ -301,20 +338,26 @@ module _ (front : List ℕ) (owners : Bool) where
   IsDeclinedBy asked.Barrier made = ⊥
   IsDeclinedBy asked.SyncAll made = IsAsked (IsChanging asked.SyncAll) made
   IsDeclinedBy asked.SyncRoot made = ⊥
+  IsDeclinedBy (asked.Lower p) made = IsAsked (IsChanging (asked.Lower p)) made
 
   -- a step that was answered so
   abbrev pub IsStepBy : {T : Type 0} → Asked → List SystemCall → Result T HostFault → Type 0
   IsStepBy a made result = IsAnsweredBy (IsDoneBy a) (IsBegunBy a) (IsDeclinedBy a) made result
 
-  -- the kind that a look told; nothing also where a name above is no directory's
-  abbrev pub IsSeenBy : Path → Option Kind → List SystemCall → Type 0
-  IsSeenBy p (Some kind) made = LooksAt (λ found. IsKindOf found kind) (place_of front p) [] made
-  IsSeenBy p None made = (made ≡ []) ⊎ Looks (place_of front p) None [] made
+  -- nothing stands at a path, as the last look tells: it told nothing there, or that what stands above it is no directory
+  abbrev pub IsAbsentBy : Path → List SystemCall → Type 0
+  IsAbsentBy p made =
+      ((before : List SystemCall) × (changes_in before ≡ []) × Looks (place_of front p) None before made) ⊎ IsCutOff front p made
 
-  -- the node of which a look told
+  -- the kind that the last look told
+  abbrev pub IsSeenBy : Path → Option Kind → List SystemCall → Type 0
+  IsSeenBy p (Some kind) made = (before : List SystemCall) × (changes_in before ≡ []) × LooksAt (λ found. IsKindOf found kind) (place_of front p) before made
+  IsSeenBy p None made = IsAbsentBy p made
+
+  -- the node of which the last look told
   abbrev pub IsReadBy : Path → Option Node → List SystemCall → Type 0
-  IsReadBy p (Some node) made = LooksAt (λ found. IsNodeOf owners found node) (place_of front p) [] made
-  IsReadBy p None made = (made ≡ []) ⊎ Looks (place_of front p) None [] made
+  IsReadBy p (Some node) made = (before : List SystemCall) × (changes_in before ≡ []) × LooksAt (λ found. IsNodeOf owners found node) (place_of front p) before made
+  IsReadBy p None made = IsAbsentBy p made
 
 -- the device failed, and no end is known; or memory was wanting, and no start was made
 abbrev pub IsNotBegun : Command Global → List SystemCall → List SystemCall → HostFault → Type 0

@@ -6,7 +6,7 @@ use Rattle.std.specs.declared.alloc.Global.{Global}
 use Rattle.std.specs.declared.fs.Metadata.{Metadata}
 use Rattle.std.specs.declared.process.Command.{Command}
 use Rattle.host_files.specs.declared.trace.SystemCall.{SystemCall}
-use Rattle.host_files.specs.declared.trace.SystemCall.TheVariants.{Look, Create, Append, MakeDirectory, OpenMade, SeenMade, SetOwnerMade, SetModeMade, SetTimeMade, Rename, Link, MakeLink, Unlink, RemoveDirectory, Gone, SyncFile, SyncMade, SyncDirectory, SyncDevice, SyncSystem, Start, End, UnlinkAt, RemoveDirectoryAt}
+use Rattle.host_files.specs.declared.trace.SystemCall.TheVariants.{Look, Create, Append, MakeDirectory, OpenMade, SeenMade, SetOwnerMade, SetModeMade, SetTimeMade, SetModeSeen, Rename, Link, MakeLink, Unlink, RemoveDirectory, Gone, SyncFile, SyncMade, SyncDirectory, SyncDevice, SyncSystem, Start, End, UnlinkAt, RemoveDirectoryAt}
 use Rattle.host_files.specs.declared.trace.Request.{Request}
 use Rattle.host_files.specs.declared.trace.Request.TheVariants as request
 
@@ -29,6 +29,7 @@ requested (request.SeenMade access) = SeenMade access
 requested (request.SetOwnerMade user group) = SetOwnerMade user group
 requested (request.SetModeMade mode) = SetModeMade mode
 requested (request.SetTimeMade time) = SetTimeMade time
+requested (request.SetModeSeen p mode) = SetModeSeen p.now mode
 requested (request.Rename from to) = Rename from.now to.now
 requested (request.Link from to) = Link from.now to.now
 requested (request.MakeLink target p) = MakeLink target.now p.now
@@ -58,6 +59,7 @@ changes_in (SeenMade access ∷ made) = SeenMade access ∷ changes_in made
 changes_in (SetOwnerMade user group ∷ made) = SetOwnerMade user group ∷ changes_in made
 changes_in (SetModeMade mode ∷ made) = SetModeMade mode ∷ changes_in made
 changes_in (SetTimeMade time ∷ made) = SetTimeMade time ∷ changes_in made
+changes_in (SetModeSeen p mode ∷ made) = SetModeSeen p mode ∷ changes_in made
 changes_in (Rename from to ∷ made) = Rename from to ∷ changes_in made
 changes_in (Link from to ∷ made) = Link from to ∷ changes_in made
 changes_in (MakeLink target p ∷ made) = MakeLink target p ∷ changes_in made

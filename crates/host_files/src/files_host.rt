@@ -3,7 +3,9 @@ ghost use Rattle.std.specs.Prelude.{◌≡◌, ◌<◌, IsTrue, is_some, string_
 ghost use Rattle.std.specs.Option.{ForSome};
 ghost use Rattle.host_core.specs.Unsynced.{IsSettled};
 ghost use Rattle.host_files.specs.Remembered.{IsKnown, IsNew};
-ghost use Rattle.host_files.specs.Replay.{replay};
+ghost use Rattle.host_core.specs.World.{place_of};
+ghost use Rattle.host_files.specs.Notes.{asked_by};
+ghost use Rattle.host_files.specs.Replay.{replay, step_of};
 
 use crate::changed::Changed;
 use crate::disk::fault_of;
@@ -14,7 +16,7 @@ use crate::record::{Asks, Note};
 use crate::root::Root;
 use crate::scripts::run_script;
 use crate::steps::{
-    hard_link, make_directory, move_over, symlink, unlink, unlink_directory, write_file,
+    hard_link, lower_file, make_directory, move_over, symlink, unlink, unlink_directory, write_file,
 };
 use crate::syncing::{flush, flush_all, flush_root, flush_written};
 use crate::system::{ScriptStreams, System};
@@ -53,19 +55,29 @@ pub fn is_superuser() -> bool {
     libc::geteuid() == 0
 }
 
-// The path of a step, which a person is told where it fails or is declined; that of one which names none is kept by the
-// system's call.
-fn path_of<'a>(asked: Asks<'a>) -> &'a str {
+// The path that a step is told by where it is declined; that of one which names none is kept by the system's call.
+fn place_of<'a>(asked: Asks<'a>) -> &'a str
+    ensures { result.now ≡ place_of (step_of (asked_by asked.entry)) }
+{
     match asked {
         Asks::Write(path, _)
-        | Asks::Move(path, _)
+        | Asks::Move(_, path)
         | Asks::Take(path)
         | Asks::MakeDir(path, _)
         | Asks::RemoveDir(path)
-        | Asks::HardLink(path, _)
+        | Asks::HardLink(_, path)
         | Asks::MakeLink(path, _)
-        | Asks::Sync(path) => path.as_str(),
+        | Asks::Sync(path)
+        | Asks::Lower(path) => path.as_str(),
         Asks::Barrier | Asks::SyncAll | Asks::SyncRoot => "",
+    }
+}
+
+// The path that a person is told where it fails: that at which something is to stand before.
+fn path_of<'a>(asked: Asks<'a>) -> &'a str {
+    match asked {
+        Asks::Move(path, _) | Asks::HardLink(path, _) => path.as_str(),
+        _ => place_of(asked),
     }
 }
 
@@ -88,12 +100,12 @@ impl<D: Disk> FilesHost<D> {
     ghost use Rattle.host_core.specs.declared.fault.HostFault.TheVariants as fault;
     ghost use Rattle.host_files.specs.Faults.{IsUndeclined};
     ghost use Rattle.host_files.specs.FilesState.{directory_of};
-    ghost use Rattle.host_files.specs.Notes.{noted, asked_by, told_of, calls_in, faults_in, IsPlain, IsNotedFault};
+    ghost use Rattle.host_files.specs.Notes.{noted, told_of, calls_in, faults_in, IsPlain, IsNotedFault};
     ghost use Rattle.host_files.specs.Shown.{IsBrought, IsDeclinedBy, IsEndedBy, IsRemembered, IsShownBy, IsStepBy, IsSure};
     ghost use Rattle.host_files.specs.SystemCalls.{changes_in};
     ghost use Rattle.host_files.specs.declared.record.Noted.TheVariants.{Done, Undone, Declined, Ended};
     ghost use Rattle.host_core.specs.Unsynced.{KeepsSettled};
-    ghost use Rattle.host_files.specs.Replay.{IsOwed, step_of};
+    ghost use Rattle.host_files.specs.Replay.{IsOwed};
 
     /// Links may lead to the directory. Device where there is none, or its path has more than 3,000
     /// bytes.
@@ -231,7 +243,7 @@ impl<D: Disk> FilesHost<D> {
             ∷ self.old.told.log.notes }
     {
         self.note(&Note::Declined(asked));
-        self.failure = Some(failure_of(&mut self.system, &self.root, path_of(asked)));
+        self.failure = Some(failure_of(&mut self.system, &self.root, place_of(asked)));
     }
 
     // Notes how a step ended.
@@ -414,6 +426,13 @@ impl<D: Disk> Host for FilesHost<D> {
         let settled = self.settle(Asks::Move(from, to), moved);
         self.written.leave(to, &settled);
         settled
+    }
+
+    fn lower(&mut self, path: &RootPath) -> Result<(), HostFault> {
+        self.told.guard()?;
+        self.system.begin_open();
+        let lowered = lower_file(&mut self.system, &self.root, path);
+        self.settle(Asks::Lower(path), lowered)
     }
 
     fn remove(&mut self, path: &RootPath) -> Result<(), HostFault> {

@@ -15,6 +15,11 @@
 //! is open (`IsTakenFrom`). A file that was written is listed until it is on the disk, and a sync of
 //! all files syncs each that is listed, or all of its file system (`AreOnDisk`).
 //!
+//! That nothing stands at a path is told only where the last look told nothing there, or that no
+//! directory stands above it (`IsAbsentBy`). The rights that a file lends are taken by what is open
+//! of it, and where the program is told of owners it is left as it is only where a look told that it
+//! lends none (`HasLowered`).
+//!
 //! What it doesn't look at again is tied to the record of its calls: the directory that it
 //! remembers is known by them (`IsKnown`: seen, or above what was seen or made, and no script,
 //! fault or step at it since), the file that it takes for the last one written is that (`IsNew`),

@@ -21,6 +21,7 @@ pub enum Asked {
     Barrier,
     SyncAll,
     SyncRoot,
+    Lower(RootPath),
 }
 
 /// A call with its answer: what was found; a step that was done, of which Device was told, or that
@@ -53,6 +54,7 @@ pub(crate) enum Asks<'a> {
     Barrier,
     SyncAll,
     SyncRoot,
+    Lower(&'a RootPath),
 }
 
 /// A call with its answer, lent.

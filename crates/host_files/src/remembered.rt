@@ -147,7 +147,7 @@ impl Remembered {
             Asks::HardLink(from, to) => self.forget_both(from, to),
             Asks::MakeLink(path, _) => self.forget_named(path),
             Asks::Sync(_) => {}
-            Asks::Barrier | Asks::SyncAll | Asks::SyncRoot => {}
+            Asks::Barrier | Asks::SyncAll | Asks::SyncRoot | Asks::Lower(_) => {}
         }
     }
 

@@ -7,12 +7,12 @@ ghost use Rattle.host_core.specs.declared.node.Access.{Access as AnAccess};
 ghost use Rattle.host_files.specs.Entries.{IsAccessOf, IsSettable, is_access, is_plain};
 ghost use Rattle.host_files.specs.Faults.{IsOfStep, IsUndeclined};
 ghost use Rattle.host_files.specs.Places.{place_of, IsEntry};
-ghost use Rattle.host_files.specs.Shown.{Adds, IsLookedAt, IsMakingBy, IsRenamedBy, IsStepBy, IsSyncedUnread, IsSyncedWhole, access_calls, amending_calls, directory_calls, fill_calls, first_call, first_mode, opened_calls, time_calls, write_calls};
+ghost use Rattle.host_files.specs.Shown.{Adds, IsLookedAt, IsLoweredBy, IsMakingBy, IsRenamedBy, IsStepBy, IsSyncedUnread, IsSyncedWhole, access_calls, amending_calls, directory_calls, fill_calls, first_call, first_mode, opened_calls, time_calls, write_calls};
 ghost use Rattle.host_files.specs.SystemCalls.{changes_in, Looks};
-ghost use Rattle.host_files.specs.declared.record.Asked.TheVariants.{HardLink, MakeDir, MakeLink, Move, RemoveDir, Take, Write};
+ghost use Rattle.host_files.specs.declared.record.Asked.TheVariants.{HardLink, Lower, MakeDir, MakeLink, Move, RemoveDir, Take, Write};
 ghost use Rattle.host_files.specs.declared.trace.SystemCall.TheVariants.{Append, Create, RemoveDirectory, Unlink};
 
-use crate::disk::access_of;
+use crate::disk::{access_of, lends};
 use crate::opened::Opened;
 use crate::root::Root;
 use crate::syncing::NO_FILE;
@@ -23,6 +23,9 @@ use host_core::{Access, HostFault, Modified, Node, RootPath};
 use std::fs::{File, Metadata};
 use std::os::unix::fs::MetadataExt;
 use texts::Text;
+
+// the mode of a file whose rights were taken
+const LOWERED: u16 = 0o600;
 
 /// The place of a step.
 pub(crate) fn place_of_step(
@@ -401,6 +404,31 @@ pub(crate) fn hard_link(
     let to = place_of_step(system, root, to)?;
     look_at_loose(system, from.as_str())?;
     system.link(from.as_str(), to.as_str())
+}
+
+// Takes the rights from what stands at a place, if it is a file that lends them.
+fn lower_at(system: &mut System, owners: bool, place: &str) -> Result<(), HostFault>
+    requires begun { system.old.trace.calls ≡ [] }
+    ensures { IsLoweredBy owners place.now system.new.trace.calls result }
+{
+    match system.look(place)? {
+        Some(found) if lends(&found) => system.set_mode_seen(place, &found, LOWERED),
+        Some(found) if !found.is_dir() => Ok(()),
+        _ => Err(system.refuse(NO_FILE)),
+    }
+}
+
+/// Takes the rights from a file that lends them. Where owners aren't told, no file does.
+pub(crate) fn lower_file(system: &mut System, root: &Root, path: &RootPath) -> Result<(), HostFault>
+    requires begun { system.old.trace.calls ≡ [] }
+    ensures { IsStepBy (string_bytes root.now.front) root.now.owners (Lower path.now)
+        system.new.trace.calls result }
+{
+    if !root.owners {
+        return Ok(());
+    }
+    let place = place_of_step(system, root, path)?;
+    lower_at(system, root.owners, place.as_str())
 }
 
 // The directory in which the name of a place stands, and that name.

@@ -5,7 +5,7 @@ ghost use Rattle.std.specs.IoError.{raw_os_error};
 ghost use Rattle.std.specs.Process.{exit_code};
 ghost use Rattle.host_core.specs.declared.fault.HostFault.TheVariants.{Declined, Device, NoMemory};
 ghost use Rattle.host_files.specs.Faults.{IsFaultOf, IsOfStep, IsUndeclined, step_fault_of};
-ghost use Rattle.host_files.specs.declared.trace.SystemCall.TheVariants.{Create, Append, MakeDirectory, OpenMade, SeenMade, SetOwnerMade, SetModeMade, SetTimeMade, Rename, Link, MakeLink, Unlink, RemoveDirectory, Gone, SyncFile, SyncMade, SyncDirectory, SyncDevice, SyncSystem, End, UnlinkAt, RemoveDirectoryAt};
+ghost use Rattle.host_files.specs.declared.trace.SystemCall.TheVariants.{Create, Append, MakeDirectory, OpenMade, SeenMade, SetOwnerMade, SetModeMade, SetTimeMade, SetModeSeen, Rename, Link, MakeLink, Unlink, RemoveDirectory, Gone, SyncFile, SyncMade, SyncDirectory, SyncDevice, SyncSystem, End, UnlinkAt, RemoveDirectoryAt};
 ghost use Rattle.host_files.specs.Shown.{IsNotBegun};
 ghost use Rattle.host_files.specs.SystemCalls.{changes_in, Looks, start_call};
 ghost use Rattle.host_files.specs.Places.{place_of};
@@ -135,6 +135,16 @@ fn has_synced(rt: &HostRuntime, words: &[&str]) -> Result<bool, HostFault>
             _ => Ok(false),
         },
     }
+}
+
+// Sets the mode of the file at a place, if it is the one that a look just told, and tells whether it is.
+fn set_mode_of(rt: &HostRuntime, place: &str, seen: &Metadata, mode: u16) -> io::Result<bool> {
+    let opened = fs::open(rt, place)?;
+    if identity_of(&opened.metadata()?) != identity_of(seen) {
+        return Ok(false);
+    }
+    opened.set_permissions(Permissions::from_mode(u32::from(mode)))?;
+    Ok(true)
 }
 
 // Sets when what is open was last modified, and leaves when it was last read.
@@ -377,6 +387,24 @@ impl System {
                 Ok((directory, access))
             }
             Ok(None) => Err(self.refuse("what was made there is no longer there")),
+            Err(error) => Err(self.step_fault(error)),
+        }
+    }
+
+    /// The file that a look just told; another that stands there is a fault.
+    pub(crate) fn set_mode_seen(
+        &mut self,
+        place: &str,
+        seen: &Metadata,
+        mode: u16,
+    ) -> Result<(), HostFault>
+        ensures made { self.new.trace.calls ≡ SetModeSeen place.now mode ∷ self.old.trace.calls }
+        ensures err { IfErr result IsOfStep }
+    {
+        self.trace = self.trace.with(&Request::SetModeSeen(place, mode));
+        match set_mode_of(&self.rt, place, seen, mode) {
+            Ok(true) => Ok(()),
+            Ok(false) => Err(self.refuse("another file stands there than was seen")),
             Err(error) => Err(self.step_fault(error)),
         }
     }

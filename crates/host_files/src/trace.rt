@@ -29,6 +29,8 @@ pub enum SystemCall {
     SetOwnerMade(u32, u32),
     SetModeMade(u16),
     SetTimeMade(Modified),
+    /// of the file at a path, by what is open of it, which is the one that a look there told
+    SetModeSeen(Text, u16),
     Rename(Text, Text),
     /// a second name, the latter, for what stands at the former
     Link(Text, Text),
@@ -69,6 +71,7 @@ pub(crate) enum Request<'a> {
     SetOwnerMade(u32, u32),
     SetModeMade(u16),
     SetTimeMade(Modified),
+    SetModeSeen(&'a str, u16),
     Rename(&'a str, &'a str),
     Link(&'a str, &'a str),
     MakeLink(&'a str, &'a str),

@@ -8,7 +8,7 @@ use Rattle.std.proofs.Math.Seq.{take-suc}
 use Rattle.std.proofs.lemmas.List.Folds.{list_any-append}
 use Rattle.std.proofs.lemmas.Slice.Eq.{bytes_eq-Decides}
 use Rattle.host_core.specs.Paths.{Path}
-use Rattle.host_core.specs.World.{World, put, IsDirectory, Step, Write, Move, Take, MakeDir, RemoveDir, HardLink, MakeLink, Sync, Barrier, SyncAll, SyncRoot}
+use Rattle.host_core.specs.World.{World, put, IsDirectory, Step, Write, Move, Take, MakeDir, RemoveDir, HardLink, MakeLink, Sync, Barrier, SyncAll, SyncRoot, Lower}
 use Rattle.host_core.specs.Events.{Event, Did, Finished, Cut, Failed, Denied}
 use Rattle.host_core.specs.Tree.{IsTree}
 use Rattle.host_core.specs.Unsynced.{unsynced, unsynced_all, unsynced_after, unsynced_step, marked}
@@ -101,6 +101,7 @@ put_by_step (Sync p) u q is = inr (not_first (bytes_eq p q) (u q) is)
 put_by_step Barrier u q is = inr is
 put_by_step SyncAll u q is = absurd (false≢true is)
 put_by_step SyncRoot u q is = inr is
+put_by_step (Lower p) u q is = inr is
 
 put_by_event : (e : Event) (u : Path → Bool) (q : Path) → unsynced_after e u q ≡ true → (is_target e q ≡ true) ⊎ (u q ≡ true)
 put_by_event (Did s) u q is = put_by_step s u q is

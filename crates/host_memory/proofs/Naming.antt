@@ -2,7 +2,7 @@
 use Rattle.std.proofs.Common.{◌≡◌, ◌∙◌, ◌++◌, ◌∷◌, [], true, false, refl, sym, ap}
 use Rattle.std.specs.Prelude.{cond}
 use Rattle.std.proofs.lemmas.Bool.{false≢true}
-use Rattle.host_core.specs.World.{Step, Write, Move, Take, MakeDir, RemoveDir, HardLink, MakeLink, Sync, Barrier, SyncAll, SyncRoot, World, after}
+use Rattle.host_core.specs.World.{Step, Write, Move, Take, MakeDir, RemoveDir, HardLink, MakeLink, Sync, Barrier, SyncAll, SyncRoot, Lower, World, after}
 use Rattle.host_core.specs.Host.{State}
 use Rattle.host_core.specs.Loss.{flushes}
 use Rattle.host_memory.specs.declared.history.History.{History}
@@ -22,6 +22,7 @@ naming_flushes (Sync p) is = refl
 naming_flushes Barrier is = absurd (false≢true is)
 naming_flushes SyncAll is = refl
 naming_flushes SyncRoot is = absurd (false≢true is)
+naming_flushes (Lower p) is = refl
 
 -- a step that flushes nothing leaves on the disk what was there
 pub disk_behind : (s : Step) (old : History) (now : State) → flushes s ≡ false → now ≡ disk_state old → now ≡ on_disk_behind s old
@@ -44,3 +45,4 @@ nameless_world (Sync p) w is = refl
 nameless_world Barrier w is = refl
 nameless_world SyncAll w is = refl
 nameless_world SyncRoot w is = refl
+nameless_world (Lower p) w is = absurd (false≢true (sym is))

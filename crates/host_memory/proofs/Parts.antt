@@ -1,6 +1,6 @@
 -- What is done of a step at which the device fails can be done, and keeps settled what is.
 use Rattle.std.proofs.Common.{◌≡◌, ℕ, List, Some, None, take, subst, ap}
-use Rattle.host_core.specs.World.{World, Step, Write, Move, Take, MakeDir, RemoveDir, HardLink, MakeLink, Sync, Barrier, SyncAll, SyncRoot, IsFile}
+use Rattle.host_core.specs.World.{World, Step, Write, Move, Take, MakeDir, RemoveDir, HardLink, MakeLink, Sync, Barrier, SyncAll, SyncRoot, Lower, IsFile}
 use Rattle.host_core.specs.Events.{Event}
 use Rattle.host_core.specs.Unsynced.{KeepsSettled}
 use Rattle.host_core.specs.declared.node.Node.{Node}
@@ -31,6 +31,7 @@ module _ (t : Step) (w : World) where
   can_front n Barrier is can = never t is
   can_front n SyncAll is can = never t is
   can_front n SyncRoot is can = never t is
+  can_front n (Lower p) is can = never t is
 
   pub can_part : (e : Effect) (s : Step) → part_left e s ≡ Some t → CanDo s w → CanDo t w
   can_part effect.None s is can = never t is
@@ -50,6 +51,7 @@ module _ (t : Step) (events : List Event) where
   settles_front n Barrier is owed = never t is
   settles_front n SyncAll is owed = never t is
   settles_front n SyncRoot is owed = never t is
+  settles_front n (Lower p) is owed = never t is
 
   pub settles_part : (e : Effect) (s : Step) → part_left e s ≡ Some t → KeepsSettled events s → KeepsSettled events t
   settles_part effect.None s is owed = never t is

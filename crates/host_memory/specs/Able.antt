@@ -1,6 +1,6 @@
 -- What has to stand on a root before a step is made.
 use Rattle.std.specs.Prelude.{◌≡◌, None}
-use Rattle.host_core.specs.World.{World, Step, Write, Move, Take, MakeDir, RemoveDir, HardLink, MakeLink, Sync, Barrier, SyncAll, SyncRoot, IsBare, IsDirectory, IsFile, IsLoose, HasParent}
+use Rattle.host_core.specs.World.{World, Step, Write, Move, Take, MakeDir, RemoveDir, HardLink, MakeLink, Sync, Barrier, SyncAll, SyncRoot, Lower, IsBare, IsDirectory, IsFile, IsLoose, HasParent}
 
 abbrev pub CanDo : Step → World → Type 0
 CanDo (Write p n) w = IsFile n × (w p ≡ None) × HasParent w p
@@ -14,3 +14,4 @@ CanDo (Sync p) w = Unit {0}
 CanDo Barrier w = Unit {0}
 CanDo SyncAll w = Unit {0}
 CanDo SyncRoot w = Unit {0}
+CanDo (Lower p) w = IsLoose (w p)

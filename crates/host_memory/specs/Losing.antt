@@ -1,7 +1,7 @@
 -- What a loss of power leaves of the steps since all was on the disk.
 use Rattle.std.specs.Prelude.{◌≡◌, ◌<◌, ◌≤◌, ◌⊎◌, ◌+◌, ℕ, Bool, true, false, List, take, length, cond, Option, Some, None, slice_get, count_by, replicate}
 use Rattle.std.specs.BTreeMap.{get_by_text}
-use Rattle.host_core.specs.World.{World, Step, Write, Move, Take, MakeDir, RemoveDir, HardLink, MakeLink, Sync, Barrier, SyncAll, SyncRoot}
+use Rattle.host_core.specs.World.{World, Step, Write, Move, Take, MakeDir, RemoveDir, HardLink, MakeLink, Sync, Barrier, SyncAll, SyncRoot, Lower}
 use Rattle.host_core.specs.Events.{Event, Did, Finished, Cut, Failed, Denied, follow_all}
 use Rattle.host_core.specs.Loss.{is_barrier}
 use Rattle.host_core.specs.declared.node.Node.{Node}
@@ -21,6 +21,7 @@ names (Sync p) = false
 names Barrier = false
 names SyncAll = false
 names SyncRoot = false
+names (Lower p) = true
 
 abbrev pub is_naming : Event → Bool
 is_naming (Did s) = names s

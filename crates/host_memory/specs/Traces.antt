@@ -3,7 +3,7 @@ use Rattle.std.specs.Prelude.{Bool, false, List, Option, Some, None}
 use Rattle.std.specs.List.{list_any}
 use Rattle.std.specs.Str.{bytes_eq}
 use Rattle.host_core.specs.Paths.{Path}
-use Rattle.host_core.specs.World.{Step, Write, Move, Take, MakeDir, RemoveDir, HardLink, MakeLink, Sync, Barrier, SyncAll, SyncRoot}
+use Rattle.host_core.specs.World.{Step, Write, Move, Take, MakeDir, RemoveDir, HardLink, MakeLink, Sync, Barrier, SyncAll, SyncRoot, Lower}
 use Rattle.host_core.specs.Events.{Event, Did, Finished, Cut, Failed, Denied}
 use Rattle.host_memory.specs.declared.unsynced.Trace.{Trace}
 use Rattle.host_memory.specs.declared.unsynced.Trace.TheVariants.{Known, From}
@@ -26,6 +26,7 @@ target_of (Sync p) = None
 target_of Barrier = None
 target_of SyncAll = None
 target_of SyncRoot = None
+target_of (Lower p) = None
 
 abbrev pub event_target : Event → Option Path
 event_target (Did s) = target_of s

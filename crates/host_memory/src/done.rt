@@ -1,8 +1,9 @@
 // What was done on a root, one thing after another.
 ghost use Rattle.std.specs.Prelude.{◌≡◌, ◌≤◌, ◌∷◌, [], map, option_map, IfOk};
 ghost use Rattle.host_core.specs.Events.{denials_of};
+ghost use Rattle.host_core.specs.World.{place_of};
 ghost use Rattle.host_memory.specs.Changes.{change_of};
-ghost use Rattle.host_memory.specs.Doings.{cut_short, event_of, how_ended, place_of, step_of, part_left};
+ghost use Rattle.host_memory.specs.Doings.{cut_short, event_of, how_ended, step_of, part_left};
 
 use crate::change::{Ending, Entry};
 use crate::fault_plan::Effect;
@@ -32,6 +33,7 @@ pub enum DeviceStep {
     Barrier,
     SyncAll,
     SyncRoot,
+    Lower(RootPath),
 }
 
 /// What was done: a step or the part of one that was, a script call that ended, one that a fault cut off, or nothing
@@ -95,7 +97,7 @@ pub(crate) fn part_of(
     }
 }
 
-// Where a step is made. A move or link is made at its target, one that names no path at the root.
+// The path that a step is told by where it is declined.
 pub(crate) fn place_of(alloc: Global, step: DeviceStep) -> RootPath
     ensures { result ≡ place_of (step_of step) }
 {
@@ -108,6 +110,7 @@ pub(crate) fn place_of(alloc: Global, step: DeviceStep) -> RootPath
         DeviceStep::Take(path) => path,
         DeviceStep::RemoveDir(path) => path,
         DeviceStep::Sync(path) => path,
+        DeviceStep::Lower(path) => path,
         DeviceStep::Barrier | DeviceStep::SyncAll | DeviceStep::SyncRoot => {
             RootPath::new(String::new(alloc))
         }

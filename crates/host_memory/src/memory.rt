@@ -337,7 +337,7 @@ impl MemoryHost {
 impl Host for MemoryHost {
     ghost use Rattle.std.specs.Prelude.{◌≡◌, ◌≤◌, None, true, false, IfOk, OnOk};
     ghost use Rattle.host_core.specs.Paths.{Path};
-    ghost use Rattle.host_core.specs.World.{Write, Move, Take, MakeDir, RemoveDir, HardLink, MakeLink, Sync, Barrier, SyncAll, SyncRoot, kind_of, HasParent, IsBare, IsDirectory, IsFile, IsLoose, is_kept};
+    ghost use Rattle.host_core.specs.World.{Write, Move, Take, MakeDir, RemoveDir, HardLink, MakeLink, Sync, Barrier, SyncAll, SyncRoot, Lower, kind_of, HasParent, IsBare, IsDirectory, IsFile, IsLoose, is_kept};
     ghost use Rattle.host_core.specs.Host.{Runs, Counts, Falls};
     ghost use Rattle.host_core.specs.Tree.{IsListing};
     ghost use Rattle.host_core.specs.Unsynced.{is_temporary, unsynced};
@@ -450,6 +450,13 @@ impl Host for MemoryHost {
         ensures { MakesStep (Move from.now to.now) self.old self.new result }
     {
         self.make_step(DeviceStep::Move(from.copy()?, to.copy()?))
+    }
+
+    fn lower(&mut self, path: &RootPath) -> Result<(), HostFault>
+        requires { IsLoose ((memory_state self.old).world path.now) }
+        ensures { MakesStep (Lower path.now) self.old self.new result }
+    {
+        self.make_step(DeviceStep::Lower(path.copy()?))
     }
 
     fn remove(&mut self, path: &RootPath) -> Result<(), HostFault>

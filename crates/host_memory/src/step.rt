@@ -1,14 +1,14 @@
 // What a step of the device does to the files.
 ghost use Rattle.std.specs.Prelude.{◌≡◌, None, Some, OnOk, OnErr};
 ghost use Rattle.std.specs.BTreeMap.{get_by_text};
-ghost use Rattle.host_core.specs.World.{after, moved, put, HasParent, IsDirectory, IsLoose};
+ghost use Rattle.host_core.specs.World.{after, lowered, lowered_access, moved, put, HasParent, IsDirectory, IsLoose};
 ghost use Rattle.host_memory.specs.Able.{CanDo};
 ghost use Rattle.host_memory.specs.Doings.{step_of};
 ghost use Rattle.host_memory.specs.Trees.{Fits};
 
 use crate::done::DeviceStep;
 use crate::files::Files;
-use host_core::{Node, RootPath};
+use host_core::{Access, Node, RootPath};
 use std::alloc::{AllocError, Global};
 
 // A node comes to stand where nothing stood.
@@ -71,6 +71,48 @@ fn link_node(
     add(alloc, files, to, node)
 }
 
+// The access of a file that lent rights, when it is to go.
+fn lowered_access(access: Access) -> Access
+    ensures { result ≡ lowered_access access }
+{
+    if access.mode & 0o6000 == 0 {
+        return access;
+    }
+    Access {
+        mode: 0o600,
+        user: access.user,
+        group: access.group,
+    }
+}
+
+fn lowered(node: Node) -> Node
+    ensures { Some result ≡ lowered (Some node) }
+{
+    match node {
+        Node::File { bytes, access } => Node::File {
+            bytes,
+            access: lowered_access(access),
+        },
+        Node::Dir { access } => Node::Dir { access },
+        Node::Link { target } => Node::Link { target },
+    }
+}
+
+// A file lends no rights any more.
+fn lower(alloc: Global, files: &mut Files, path: &RootPath) -> Result<(), AllocError>
+    requires { IsLoose (get_by_text files.old.nodes path.now) }
+    ensures ok { OnOk result (get_by_text files.new.nodes ≡ put (get_by_text files.old.nodes)
+        path.now (lowered (get_by_text files.old.nodes path.now))) }
+    ensures err { OnErr result (get_by_text files.new.nodes ≡ get_by_text files.old.nodes) }
+{
+    let node = match files.copy_at(path)? {
+        Some(node) => node,
+        None => unreachable!(),
+    };
+    path.law();
+    files.put(alloc, path.as_str(), lowered(node))
+}
+
 // Nothing stands at a path any more, below which nothing stood.
 fn remove(files: &mut Files, path: &RootPath)
     requires { Fits (get_by_text files.old.nodes) path.now None }
@@ -105,6 +147,7 @@ pub(crate) fn perform(alloc: Global, files: &mut Files, step: &DeviceStep) -> Re
             let target = target.copy()?;
             add(alloc, files, path, Node::Link { target })
         }
+        DeviceStep::Lower(path) => lower(alloc, files, path),
         DeviceStep::Sync(_) | DeviceStep::Barrier | DeviceStep::SyncAll | DeviceStep::SyncRoot =>
             Ok(()),
     }

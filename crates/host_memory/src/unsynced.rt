@@ -62,7 +62,10 @@ fn trace_step<'a>(step: &'a DeviceStep, path: &'a RootPath) -> Trace<'a>
         DeviceStep::MakeLink(made, _) => marked_at(made, false, path),
         DeviceStep::Sync(synced) => marked_at(synced, false, path),
         DeviceStep::SyncAll => Trace::Known(false),
-        DeviceStep::RemoveDir(_) | DeviceStep::Barrier | DeviceStep::SyncRoot => Trace::From(path),
+        DeviceStep::RemoveDir(_)
+        | DeviceStep::Barrier
+        | DeviceStep::SyncRoot
+        | DeviceStep::Lower(_) => Trace::From(path),
     }
 }
 

@@ -4,7 +4,7 @@ use Rattle.std.specs.Str.{bytes_eq}
 use Rattle.std.proofs.lemmas.Bool.{true≢false}
 use Rattle.std.proofs.lemmas.Slice.Eq.{bytes_eq-Decides}
 use Rattle.host_core.specs.Paths.{Path}
-use Rattle.host_core.specs.World.{World, KeepsBut}
+use Rattle.host_core.specs.World.{World, KeepsBut, lowered}
 use Rattle.host_core.specs.declared.node.Node.{Node}
 use Rattle.administration.specs.Places.{temporary}
 use Rattle.diversions.specs.declared.entry.Diversion.{Diversion}
@@ -14,7 +14,7 @@ use Rattle.package_files.specs.declared.work.Work.{Work}
 use Rattle.package_files.specs.Files.{Each, Misses}
 use Rattle.package_files.specs.Back.{CanGoBack}
 use Rattle.file_removal.specs.declared.leaving.Leaving.{Leaving}
-use Rattle.file_removal.specs.Removal.{Goes, Removed, IsRemoving}
+use Rattle.file_removal.specs.Removal.{Staying, any_path, none_stays, GoesBy, Removed, IsRemoving}
 use Rattle.file_removal.specs.Clearing.{cleared, is_among}
 use Rattle.listed_files.specs.Areas.{is_leaving_place, is_list_place, is_listing_place, is_renewed_place, is_work_name}
 use Rattle.listed_files.specs.Closing.{HasReleased, HasRenewed, MayRelease, MayRenew}
@@ -71,40 +71,41 @@ module _ (list : Path) (union listed : Node) (works : List Work) (old : World) w
   turning_back_keeps now (inl is) q out = listing_keeps list union works old now is q out
   turning_back_keeps now (inr m) q out = let o = outside list union works old q out in m.4.rest q o.0 o.1 ∙ m.3.rest q o.2 ∙ m.2.rest q o.0 o.1
 
-no_leaving : (xs : List Leaving) (old : World) (q : Path) → is_leaving_place xs q ≡ false → Goes old xs q → ⊥
-no_leaving [] old q out goes = goes
-no_leaving (x ∷ xs) old q out (inl later) = no_leaving xs old q (neither (x.goes && bytes_eq q x.place) (is_leaving_place xs q) out).1 later
-no_leaving (x ∷ xs) old q out (inr here) =
+no_leaving : (s : Staying) (xs : List Leaving) (old : World) (q : Path) → is_leaving_place xs q ≡ false → GoesBy s false old xs q → ⊥
+no_leaving s [] old q out goes = goes
+no_leaving s (x ∷ xs) old q out (inl later) = no_leaving s xs old q (neither (x.goes && bytes_eq q x.place) (is_leaving_place xs q) out).1 later
+no_leaving s (x ∷ xs) old q out (inr here) =
     let at : bytes_eq q x.place ≡ true = (bytes_eq-Decides q x.place).1 (sym here.0) in
     true≢false (sym (ap (λ b. b && bytes_eq q x.place) here.1 ∙ at) ∙ (neither (x.goes && bytes_eq q x.place) (is_leaving_place xs q) out).0)
 
-removed_keeps : (xs : List Leaving) (old new : World) (q : Path) → Removed xs old new → is_leaving_place xs q ≡ false → new q ≡ old q
-removed_keeps xs old new q removed out = elim (removed.each q) [ inl gone ↦ absurd (no_leaving xs old q out gone.0) | inr kept ↦ kept.1 ]
-
 removing_keeps : (xs : List Leaving) (old now : World) (q : Path) → IsRemoving xs old now → is_leaving_place xs q ≡ false → now q ≡ old q
-removing_keeps xs old now q amid out = elim (amid.each q) [ inl same ↦ same | inr gone ↦ absurd (no_leaving xs old q out gone.0) ]
+removing_keeps xs old now q amid out = elim (amid.each q) [ inl same ↦ same | inr gone ↦ absurd (no_leaving none_stays xs old q out gone.0) ]
 
-pub renewed_keeps : (xs : List Leaving) (list : Path) (node : Node) (old new : World) → HasRenewed xs list node old new → KeepsBut (is_renewed_place xs list) old new
-renewed_keeps xs list node old new has q out =
-    let n = neither (is_leaving_place xs q) (is_list_place list q) out in
-    let l = no_list list q n.1 in
-    has.replaced.rest q l.0 l.1 ∙ removed_keeps xs old has.mid q has.removed n.0
+module _ (xs : List Leaving) where
+  removed_keeps : (old new : World) (q : Path) → Removed any_path xs old new → is_leaving_place xs q ≡ false → new q ≡ old q
+  removed_keeps old new q removed out = elim (removed.2.each q) [ inl gone ↦ absurd (no_leaving removed.0 xs old q out gone.0) | inr kept ↦ kept.1 ]
 
-pub renewing_keeps : (xs : List Leaving) (list : Path) (node : Node) (old now : World) → MayRenew xs list node old now → KeepsBut (is_renewed_place xs list) old now
-renewing_keeps xs list node old now (inl is) q out = removing_keeps xs old now q is (neither (is_leaving_place xs q) (is_list_place list q) out).0
-renewing_keeps xs list node old now (inr m) q out =
-    let n = neither (is_leaving_place xs q) (is_list_place list q) out in
-    let l = no_list list q n.1 in
-    m.2.rest q l.0 l.1 ∙ removed_keeps xs old m.0 q m.1 n.0
+  pub renewed_keeps : (list : Path) (node : Node) (old new : World) → HasRenewed xs list node old new → KeepsBut (is_renewed_place xs list) old new
+  renewed_keeps list node old new has q out =
+      let n = neither (is_leaving_place xs q) (is_list_place list q) out in
+      let l = no_list list q n.1 in
+      has.replaced.rest q l.0 l.1 ∙ removed_keeps old has.mid q has.removed n.0
+
+  pub renewing_keeps : (list : Path) (node : Node) (old now : World) → MayRenew xs list node old now → KeepsBut (is_renewed_place xs list) old now
+  renewing_keeps list node old now (inl is) q out = removing_keeps xs old now q is (neither (is_leaving_place xs q) (is_list_place list q) out).0
+  renewing_keeps list node old now (inr m) q out =
+      let n = neither (is_leaving_place xs q) (is_list_place list q) out in
+      let l = no_list list q n.1 in
+      m.2.rest q l.0 l.1 ∙ removed_keeps old m.0 q m.1 n.0
 
 module _ (entries : List Diversion) (places from : List Path) (had : List PackageList) (names : List Path) (old : World) where
   pub released_keeps : (new : World) (q : Path) → HasReleased entries places from had names old new → IsNoList from q → is_among names q ≡ false → new q ≡ old q
   released_keeps new q has none out = has.cleared.each q ∙ ap (λ b. cond b (cleared (has.mid q)) (has.mid q)) out ∙ has.taken.rest q none
 
-  clearing_keeps : (mid now : World) (q : Path) → (now q ≡ mid q) ⊎ (IsTrue (is_among names q) × (now q ≡ cleared (mid q))) → is_among names q ≡ false → now q ≡ mid q
-  clearing_keeps mid now q (inl same) out = same
-  clearing_keeps mid now q (inr gone) out = absurd (true≢false (sym gone.0 ∙ out))
+  retiring_keeps : (mid now : World) (q : Path) → (now q ≡ mid q) ⊎ (IsTrue (is_among names q) × ((now q ≡ lowered (mid q)) ⊎ (now q ≡ cleared (mid q)))) → is_among names q ≡ false → now q ≡ mid q
+  retiring_keeps mid now q (inl same) out = same
+  retiring_keeps mid now q (inr gone) out = absurd (true≢false (sym gone.0 ∙ out))
 
   pub releasing_keeps : (now : World) (q : Path) → MayRelease entries places from had names old now → IsNoList from q → is_among names q ≡ false → now q ≡ old q
   releasing_keeps now q (inl is) none out = is.rest q none
-  releasing_keeps now q (inr m) none out = clearing_keeps m.0 now q (m.3.each q) out ∙ m.1.rest q none
+  releasing_keeps now q (inr m) none out = retiring_keeps m.0 now q (m.3.each q) out ∙ m.1.rest q none

@@ -6,3 +6,4 @@ pub mod Areas
 pub mod Concludings
 pub mod Turning
 pub mod Declining
+pub mod Denying

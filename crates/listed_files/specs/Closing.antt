@@ -1,8 +1,10 @@
 -- Steps of an unpack's commit, in Policy's order (6.6): old paths go and the new list is written; places leave other packages'
 -- lists, and what stands at names that only the installer writes goes.
-use Rattle.std.specs.Prelude.{◌≡◌, ◌⊎◌, ℕ, false, List, Contains, IsTrue}
+use Rattle.std.specs.Prelude.{◌≡◌, ◌⊎◌, ℕ, false, List, ◌∷◌, ◌++◌, Contains, IsTrue, Result, OnOk}
 use Rattle.host_core.specs.Paths.{Path}
-use Rattle.host_core.specs.World.{World}
+use Rattle.host_core.specs.World.{World, Barrier}
+use Rattle.host_core.specs.Events.{Event, Did}
+use Rattle.host_core.specs.Host.{State}
 use Rattle.host_core.specs.declared.node.Node.{Node}
 use Rattle.administration.specs.Files.{IsReplaced, IsReplacing, NoDirectory}
 use Rattle.administration.specs.Places.{home_path, is_within, list_path, temporary}
@@ -10,22 +12,35 @@ use Rattle.diversions.specs.declared.entry.Diversion.{Diversion}
 use Rattle.file_lists.specs.declared.paths.PackageList.{PackageList}
 use Rattle.file_lists.specs.Taking.{HasTakenAll, IsTaking}
 use Rattle.file_removal.specs.declared.leaving.Leaving.{Leaving}
-use Rattle.file_removal.specs.Removal.{Removed, IsRemoving}
-use Rattle.file_removal.specs.Clearing.{Cleared, IsClearing}
+use Rattle.file_removal.specs.Removal.{any_path, Removed, IsRemoving}
+use Rattle.file_removal.specs.Lowering.{TookLowered}
+use Rattle.file_removal.specs.Clearing.{Cleared, IsRetiring}
 
 -- no path that goes has its place in the directory of the administration
 abbrev pub SparesAdministration : List Leaving → Type 0
 SparesAdministration leaving = (x : Leaving) → Contains leaving x → IsTrue x.goes → is_within home_path x.place ≡ false
 
--- the old version's paths went, and then the list was written
-pub record HasRenewed (leaving : List Leaving) (list : Path) (node : Node) (old new : World) : Type 0 where
+-- the old version's paths went, but for directories whose removal was declined, and then the list was written
+pub record HasRenewedUnless (declined : Path → Type 0) (leaving : List Leaving) (list : Path) (node : Node) (old new : World) : Type 0 where
   pub mid : World
-  pub removed : Removed leaving old mid
+  pub removed : Removed declined leaving old mid
   pub replaced : IsReplaced list node mid new
 
+-- whatever was declined
+abbrev pub HasRenewed : List Leaving → Path → Node → World → World → Type 0
+HasRenewed leaving list node old new = HasRenewedUnless any_path leaving list node old new
+
 -- at each moment: the paths are going, or they went and the list is being written
+abbrev pub MayRenewUnless : (declined : Path → Type 0) → List Leaving → Path → Node → World → World → Type 0
+MayRenewUnless declined leaving list node old now = IsRemoving leaving old now ⊎ ((mid : World) × Removed declined leaving old mid × IsReplacing list node mid now)
+
+-- whatever was declined
 abbrev pub MayRenew : List Leaving → Path → Node → World → World → Type 0
-MayRenew leaving list node old now = IsRemoving leaving old now ⊎ ((mid : World) × Removed leaving old mid × IsReplacing list node mid now)
+MayRenew leaving list node old now = MayRenewUnless any_path leaving list node old now
+
+-- a barrier was the first thing that was done: what was done before is on the disk before anything else
+abbrev pub BeganWithBarrier : State → State → Type 0
+BeganWithBarrier old new = (later : List Event) × (new.events ≡ old.events ++ Did Barrier ∷ later)
 
 -- no directory stands at the temporary names of these packages' lists
 abbrev pub AreSparesLoose : List Path → World → Type 0
@@ -38,7 +53,12 @@ pub record HasReleased (entries : List Diversion) (places : List Path) (from : L
   pub spares : AreSparesLoose from mid
   pub cleared : Cleared names mid new
 
--- at each moment: the lists lose the places, or they have lost them and the names are being cleared
+-- at each moment: the lists lose the places, or they have lost them and what stands at the names is going
 abbrev pub MayRelease : List Diversion → List Path → List Path → List PackageList → List Path → World → World → Type 0
 MayRelease entries places from had names old now =
-    IsTaking entries places from had old now ⊎ ((mid : World) × HasTakenAll entries places from had old mid × AreSparesLoose from mid × IsClearing names mid now)
+    IsTaking entries places from had old now ⊎ ((mid : World) × HasTakenAll entries places from had old mid × AreSparesLoose from mid × IsRetiring names mid now)
+
+-- behind the lists each file that went lent no rights any more when it did
+abbrev pub LeavesRetired : {T E : Type 0} → Result T E → List Diversion → List Path → List Path → List PackageList → State → State → Type 0
+LeavesRetired result entries places from had old new =
+    IsTrue new.honest → OnOk result ((mid : State) × HasTakenAll entries places from had old.world mid.world × TookLowered mid new)

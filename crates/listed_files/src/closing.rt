@@ -1,22 +1,26 @@
 // Steps of an unpack's commit.
 ghost use Rattle.std.specs.Prelude.{◌≡◌, ◌⊎◌, ℕ, List, Contains, OnOk, OnErr, true, false};
-ghost use Rattle.host_core.specs.Host.{AtEachMoment, Counts, Leaves, Needs, Silent};
+ghost use Rattle.host_core.specs.Events.{IsDeniedIn};
+ghost use Rattle.host_core.specs.Host.{AtEachMoment, AtEachMomentOf, Counts, Leaves, Needs, Silent, WasDenied};
 ghost use Rattle.texts.specs.PackageNames.{is_package_name};
 ghost use Rattle.administration.specs.Places.{list_path};
 ghost use Rattle.file_lists.specs.Owners.{AreListPaths};
 ghost use Rattle.file_lists.specs.Taking.{without_all};
 ghost use Rattle.file_lists.specs.Writing.{list_file, with_list, IsListReady};
-ghost use Rattle.listed_files.specs.Closing.{HasReleased, HasRenewed, MayRelease, MayRenew, SparesAdministration};
+ghost use Rattle.listed_files.specs.Closing.{BeganWithBarrier, HasReleased, HasRenewedUnless, LeavesRetired, MayRelease, MayRenewUnless, SparesAdministration};
 
 use crate::open_lists::{replace_list, take_places};
 use diversions::Diversions;
 use file_lists::{FileLists, Paths};
-use file_removal::{Leaving, clear_names, remove_owned};
+use file_removal::{Leaving, remove_owned, retire_names};
 use host_core::{Host, HostFault, RootPath};
 use std::alloc::Global;
 use texts::Text;
 
-/// Takes away what the new version of a package has no more, and then writes its list.
+/// Takes away what the new version of a package has no more, but for directories whose removal is
+/// declined, and then writes its list. What was written in the place of old files is on the disk
+/// before: what goes may be another name of a file whose place was taken, and lends no rights any
+/// more.
 pub fn renew_list<H: Host>(
     alloc: Global,
     host: &mut H,
@@ -36,20 +40,23 @@ pub fn renew_list<H: Host>(
     }) }
     ensures err { OnErr result ((lists.new ≡ record lists.old { closed = true })
         ⊎ (lists.new ≡ lists.old)) }
-    ensures renewed { Leaves result (HasRenewed leaving.now (list_path name.now)
-        (list_file shipped)) (H.state host.old) (H.state host.new) }
-    ensures any_moment { AtEachMoment (MayRenew leaving.now (list_path name.now)
-        (list_file shipped)) (H.state host.old) (H.state host.new) }
+    ensures renewed { Leaves result (HasRenewedUnless (WasDenied (H.state host.old)
+        (H.state host.new)) leaving.now (list_path name.now) (list_file shipped)) (H.state host.old)
+        (H.state host.new) }
+    ensures any_moment { AtEachMomentOf (λ old so_far now. MayRenewUnless (IsDeniedIn so_far)
+        leaving.now (list_path name.now) (list_file shipped) old now) (H.state host.old) (H.state host.new) }
+    ensures first { OnOk result (BeganWithBarrier (H.state host.old) (H.state host.new)) }
     ensures silent { Silent (H.state host.old) (H.state host.new) }
     ensures counts { Counts (H.state host.old) (H.state host.new) result }
 {
+    host.barrier()?;
     remove_owned(host, leaving)?;
     replace_list(alloc, host, lists, name, shipped)
 }
 
-/// Takes the places of written files and links out of these packages' lists, and then takes away what
-/// stands at names that only the installer writes: backups, and new versions of conffiles that are shipped
-/// no more.
+/// Takes the places of written files and links out of these packages' lists, and then takes away
+/// what stands at names that only the installer writes: backups, and new versions of conffiles that
+/// are shipped no more. No other name of such a file lends rights any more.
 pub fn release<H: Host>(
     alloc: Global,
     host: &mut H,
@@ -72,11 +79,13 @@ pub fn release<H: Host>(
         })) }
     ensures released { Leaves result (HasReleased diversions.now.entries places.now from.now
         lists.old.lists names.now) (H.state host.old) (H.state host.new) }
+    ensures retired { LeavesRetired result diversions.now.entries places.now from.now
+        lists.old.lists (H.state host.old) (H.state host.new) }
     ensures any_moment { AtEachMoment (MayRelease diversions.now.entries places.now from.now
         lists.old.lists names.now) (H.state host.old) (H.state host.new) }
     ensures silent { Silent (H.state host.old) (H.state host.new) }
     ensures counts { Counts (H.state host.old) (H.state host.new) result }
 {
     take_places(alloc, host, lists, diversions, places, from)?;
-    clear_names(host, names)
+    retire_names(host, names)
 }

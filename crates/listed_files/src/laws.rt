@@ -41,9 +41,11 @@ pub fn what_a_move_leaves()
         → CanGoBack works old → MayUnlist list node works old now
         → KeepsBut (is_listing_place list works) old now }
     ensures renewed { (leaving : List Leaving) (list : Path) (node : Node) (old new : World)
-        → HasRenewed leaving list node old new → KeepsBut (is_renewed_place leaving list) old new }
+        → HasRenewed leaving list node old new
+        → KeepsBut (is_renewed_place leaving list) old new }
     ensures renewing { (leaving : List Leaving) (list : Path) (node : Node) (old now : World)
-        → MayRenew leaving list node old now → KeepsBut (is_renewed_place leaving list) old now }
+        → MayRenew leaving list node old now
+        → KeepsBut (is_renewed_place leaving list) old now }
     ensures released { (entries : List Diversion) (places : List Path) (from : List Path)
         (had : List PackageList) (names : List Path) (old new : World) (q : Path)
         → HasReleased entries places from had names old new → IsNoList from q

@@ -67,8 +67,8 @@ looks_unbrought fault a b c reads does h = at fault does
     at Device (Stops.nothing goes) = idle (Failed ∷ []) tt goes.events
     at Device (Stops.some t is goes) = elim (is h) [ inl same ↦ made t same goes.events | inr part ↦ absurd part ]
     at NoMemory does = inr (reads.added, fails_idle reads.added reads.failed, does.events ∙ reads.events)
-    at Declined (Declines.nothing path goes) = idle (Denied path ∷ []) tt goes.events
-    at Declined (Declines.undone path t is goes) = absurd (is h).0
+    at Declined (Declines.nothing goes) = idle (Denied [] ∷ []) tt goes.events
+    at Declined (Declines.undone t is goes) = absurd (is h).0
 
 -- whatever comes behind the step
 pub begins_then : (a b c : State) → BeginsOnDisk a b → IsLater b c → BeginsOnDisk a c

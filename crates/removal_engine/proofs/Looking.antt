@@ -6,14 +6,16 @@ use Rattle.texts.specs.PackageNames.{is_package_name}
 use Rattle.host_core.specs.World.{World}
 use Rattle.host_core.proofs.Counted.{faults_of-append}
 use Rattle.host_core.specs.Events.{Event, Ran, Did, Finished, Cut, Failed, Denied, faults_of, scripts_of}
-use Rattle.host_core.specs.Host.{State, AllFailed, AtEachMomentOf, Reads, Silent, faults, finished}
+use Rattle.host_core.specs.Host.{State, AllFailed, AtEachMomentOf, Reads, Silent, faults, finished, WasDenied}
 use Rattle.host_core.specs.Loss.{IsLater}
+use Rattle.host_core.proofs.Denials.{denied_later_reads}
 use Rattle.host_core.proofs.Moments.{since_reads, since_then, since_weaker_if, silent_then}
 use Rattle.host_core.specs.declared.call.Call.{Call}
 use Rattle.undo_rows.specs.Telling.{Begun}
 use Rattle.diversions.specs.declared.entry.Diversion.{Diversion}
 use Rattle.undo_rows.specs.declared.rows.Called.{Called}
 use Rattle.unit_stages.specs.Parts.{HaveDone}
+use Rattle.unit_stages.proofs.Denied.{parts_wider}
 use Rattle.unit_stages.specs.declared.part.Part.{Part}
 use Rattle.unit_stages.specs.Calls.{MayRunStages}
 use Rattle.unit_stages.specs.Fitting.{AreStagesFit}
@@ -68,7 +70,8 @@ module _ (old mid : State) (reads : Reads old mid) (silent : Silent old mid) whe
   does_behind name parts h ready does = record {
     silent = silent_then old mid ready silent does.silent;
     later = later_behind ready does.later;
-    done = λ t. subst (λ (w : World). HaveDone name parts h.records w ready.world) reads.world (does.done t);
+    done = λ t. subst (λ (w : World). HaveDone name (WasDenied old ready) parts h.records w ready.world) reads.world
+        (parts_wider name (WasDenied mid ready) (WasDenied old ready) (λ p is. denied_later_reads old mid ready p reads is) parts h.records mid.world ready.world (does.done t));
   }
 
   run_behind : (name : List ℕ) (entries : List Diversion) (first : Stage) (stages : List Stage) (failed : Option Call) (before after : Holding) (new : State) (told now : List Called) → HaveRun name entries (first ∷ stages) failed before after mid new told now

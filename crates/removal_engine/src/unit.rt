@@ -2,6 +2,8 @@
 ghost use Rattle.std.specs.Prelude.{◌≡◌, true, IfOk, OnOk};
 ghost use Rattle.texts.specs.PackageNames.{is_package_name};
 ghost use Rattle.host_core.specs.Host.{AtEachMomentOf, Counts, Needs, Reads, Silent};
+ghost use Rattle.scattered_losses.specs.Apart.{WorksApart};
+ghost use Rattle.status_db.specs.Held.{is_record_place};
 ghost use Rattle.held_administration.specs.Open.{IsOpen};
 ghost use Rattle.held_administration.specs.Order.{IsInOrder};
 ghost use Rattle.unit_stages.specs.Holding.{holding_of};
@@ -79,6 +81,7 @@ pub fn remove<H: Host>(
     ensures any_moment { AtEachMomentOf
         (IsAmidUnit (given extent name.now diversions.now.entries (holding_of administration.old)))
         (H.state host.old) (H.state host.new) }
+    ensures apart { WorksApart result is_record_place (H.state host.old) (H.state host.new) }
     ensures counts { Counts (H.state host.old) (H.state host.new) result }
 {
     let alloc = administration.alloc;

@@ -15,10 +15,11 @@ use Rattle.file_lists.specs.Lists.{IsReadable}
 use Rattle.file_lists.specs.Owners.{paths_of}
 use Rattle.file_lists.specs.Writing.{list_file}
 use Rattle.file_lists.specs.declared.paths.PackageList.{PackageList}
-use Rattle.file_removal.specs.Removal.{IsRemoving, Removed}
+use Rattle.file_removal.specs.Removal.{any_path, IsRemoving, Removed}
+use Rattle.listed_files.proofs.Closings.{removed_inside, removing_inside, retiring_inside}
 use Rattle.status_records.specs.Records.{record_in}
 use Rattle.status_records.specs.declared.record.Record.{Record}
-use Rattle.unit_stages.proofs.Outside.{cleared_outside, clearing_outside, removed_outside, removing_outside}
+use Rattle.unit_stages.proofs.Outside.{cleared_outside}
 use Rattle.unpack_commit.proofs.Left.{same_list}
 use Rattle.unpack_commit.specs.Commit.{Changes, HasCommitted, MayCommit, renewed_lists}
 use Rattle.unpack_commit.specs.Takeover.{put_records}
@@ -74,10 +75,10 @@ recorded_safe names entries name w known safe = safe_fewer names (name ∷ names
 module _ (c : Changes) (entries : List Diversion) (lists : List PackageList) (named : is_package_name c.name ≡ true) (spares : SparesAdministration c.leaving) (elsewhere : AreElsewhere c.names) (listed : AreGood c.listed)
     (losers_named : (q : Path) → Contains c.losers q → is_package_name q ≡ true) (losers_good : (q : Path) → Contains c.losers q → AreGood (paths_of (renewed_lists c entries lists) q)) where
   removing_quiet : (old now : World) → IsRemoving c.leaving old now → IsQuiet old now
-  removing_quiet old now is = quiet_outside old now (removing_outside false c.leaving old now spares is)
+  removing_quiet old now is = quiet_outside old now (removing_inside c.leaving old now spares is)
 
-  removed_quiet : (old now : World) → Removed c.leaving old now → IsQuiet old now
-  removed_quiet old now is = quiet_outside old now (removed_outside false c.leaving old now spares is)
+  removed_quiet : (old now : World) → Removed any_path c.leaving old now → IsQuiet old now
+  removed_quiet old now is = quiet_outside old now (removed_inside c.leaving old now spares any_path is)
 
   renewing_quiet : (old now : World) → MayRenew c.leaving (list_path c.name) (list_file c.listed) old now → IsQuiet old now
   renewing_quiet old now (inl is) = removing_quiet old now is
@@ -92,7 +93,7 @@ module _ (c : Changes) (entries : List Diversion) (lists : List PackageList) (na
   may_release_quiet : (old now : World) → MayRelease entries c.places c.losers had c.names old now → IsQuiet old now
   may_release_quiet old now (inl is) = releasing_quiet entries c.places c.losers had losers_named losers_good old now is
   may_release_quiet old now (inr m) =
-      quiet_then old m.0 now (released_quiet entries c.places c.losers had losers_named losers_good old m.0 m.1) (quiet_outside m.0 now (clearing_outside c.names m.0 now elsewhere m.3))
+      quiet_then old m.0 now (released_quiet entries c.places c.losers had losers_named losers_good old m.0 m.1) (quiet_outside m.0 now (retiring_inside c.names m.0 now elsewhere m.3))
 
   has_released_quiet : (old now : World) → HasReleased entries c.places c.losers had c.names old now → IsQuiet old now
   has_released_quiet old now has =

@@ -5,13 +5,14 @@ use Rattle.std.specs.Str.{bytes_eq}
 use Rattle.std.proofs.lemmas.Bool.{and_right}
 use Rattle.host_core.specs.Paths.{Path, has_reserved_suffix, has_room, is_below_administration, is_path_text, is_ship_text}
 use Rattle.host_core.specs.World.{World, IsDirectory}
+use Rattle.host_core.proofs.WorldLaws.{put_other}
 use Rattle.host_core.specs.declared.node.Node.{Node}
 use Rattle.host_core.specs.declared.node.Node.TheVariants.{File, Dir, Link}
 use Rattle.administration.proofs.WholeFiles.{no_directory_at}
 use Rattle.administration.specs.Files.{KeepsBesideFile}
 use Rattle.administration.specs.Places.{diversions_path, info_path, status_path, temporary, updates_path}
 use Rattle.diversions.proofs.Moving.{moved_away, own_other}
-use Rattle.diversions.specs.Changes.{IsAdding, IsRemoving, IsTableReady, moved_if}
+use Rattle.diversions.specs.Changes.{IsAdding, IsRemoving, IsTableReady, doubled_if, moved_if}
 use Rattle.diversions.specs.Entries.{IsTable, entry_of, without}
 use Rattle.diversions.specs.Lines.{HasDiversions, HasEntries}
 use Rattle.diversions.specs.Places.{target_of, truename}
@@ -39,14 +40,8 @@ below_not_ship q below =
     (and_right (not (bytes_eq q (codes "/"))) (not (has_reserved_suffix q) && not (is_below_administration q))
     (and_right (not (has_reserved_suffix q)) (not (is_below_administration q)) (ap not below))))
 
--- a node moved from one shipped path to another, and the table is being written
-module _ (h : Held) (old now : World) (sound : IsSound h old) (moves : Bool) (from to : Path) (ship_from : is_ship_text from ≡ true) (ship_to : is_ship_text to ≡ true)
-    (rest : KeepsBesideFile diversions_path (moved_if moves from to old) now) (ready : IsTableReady now) (entries : List Diversion) (has : HasDiversions now entries) where
-  same : (q : Path) → is_below_administration q ≡ true → get_or q 14 0 ≢ 100 → now q ≡ old q
-  same q below no_d =
-      rest q (λ e. no_d (ap (λ (l : Path). get_or l 14 0) e)) (λ e. no_d (ap (λ (l : Path). get_or l 14 0) e))
-      ∙ moved_away moves from to old q (λ t. own_other q from ship_from (below_not_ship q below)) (λ t. own_other q to ship_to (below_not_ship q below))
-
+-- below the administration's directory nothing has changed but the table, which is there
+module _ (h : Held) (old now : World) (sound : IsSound h old) (same : (q : Path) → is_below_administration q ≡ true → get_or q 14 0 ≢ 100 → now q ≡ old q) (ready : IsTableReady now) (entries : List Diversion) (has : HasDiversions now entries) where
   same_info : (more : Path) → now (info_path ++ more) ≡ old (info_path ++ more)
   same_info more = same (info_path ++ more) refl (λ e. absurd (omega (arith, e)))
 
@@ -92,11 +87,28 @@ table_there : (old now : World) (before entries : List Diversion) → (now diver
 table_there old now before entries (inl same) has = (before, subst (λ (n : Option Node). HasEntries n before) (sym same) has)
 table_there old now before entries (inr new) has = (entries, new)
 
+-- a node moved from one shipped path to another, and the table is being written
+recorded_same : (moves : Bool) (from to : Path) (old now : World) → is_ship_text from ≡ true → is_ship_text to ≡ true → KeepsBesideFile diversions_path (moved_if moves from to old) now → (q : Path) → is_below_administration q ≡ true → get_or q 14 0 ≢ 100 → now q ≡ old q
+recorded_same moves from to old now ship_from ship_to rest q below no_d =
+    rest q (λ e. no_d (ap (λ (l : Path). get_or l 14 0) e)) (λ e. no_d (ap (λ (l : Path). get_or l 14 0) e))
+    ∙ moved_away moves from to old q (λ t. own_other q from ship_from (below_not_ship q below)) (λ t. own_other q to ship_to (below_not_ship q below))
+
+-- or it has a second name there
+doubled_other : (moves : Bool) (from to : Path) (w : World) (q : Path) → (q ≢ to) → doubled_if moves from to w q ≡ w q
+doubled_other true from to w q other = put_other w to q (w from) other
+doubled_other false from to w q other = refl
+
+doubled_opens : (h : Held) (moves : Bool) (from to : Path) (old now : World) → IsSound h old → is_ship_text to ≡ true → now ≡ doubled_if moves from to old → IsTableReady now → CanBeOpened now
+doubled_opens h moves from to old now sound ship_to goes ready =
+    let unmoved : (q : Path) → is_ship_text q ≡ false → now q ≡ old q = λ q own. ap (λ w. w q) goes ∙ doubled_other moves from to old q (own_other q to ship_to own) in
+    recording_opens h old now sound (λ q below no_d. unmoved q (below_not_ship q below)) ready h.entries (subst (λ (n : Option Node). HasEntries n h.entries) (sym (unmoved diversions_path refl)) sound.safe.diversions)
+
 pub adding_opens : (h : Held) (d : Diversion) (rename : Bool) (seen : Seen) (old now : World) → IsSound h old → is_ship_text d.path ≡ true → is_ship_text d.target ≡ true → IsAdding h.entries d rename seen old now → CanBeOpened now
 adding_opens h d rename seen old now sound path target (inl still) = subst CanBeOpened (sym still) (sound_opens h old sound)
-adding_opens h d rename seen old now sound path target (inr amid) =
+adding_opens h d rename seen old now sound path target (inr (inl both)) = doubled_opens h (moves_node rename seen.listed (sight_of rename old d.path d.target)) d.path d.target old now sound target both.0 both.1
+adding_opens h d rename seen old now sound path target (inr (inr amid)) =
     let table = table_there old now h.entries (h.entries ++ d ∷ []) amid.table sound.safe.diversions in
-    recording_opens h old now sound (moves_node rename seen.listed (sight_of old d.path d.target)) d.path d.target path target amid.rest amid.ready table.0 table.1
+    recording_opens h old now sound (recorded_same (moves_node rename seen.listed (sight_of rename old d.path d.target)) d.path d.target old now path target amid.rest) amid.ready table.0 table.1
 
 -- a truename is shipped, where the path is
 true_ships : (entries : List Diversion) (path : Path) → IsTable entries → is_ship_text path ≡ true → is_ship_text (truename entries path) ≡ true
@@ -115,7 +127,8 @@ read_table (Some (Link target)) entries has = absurd has
 
 pub removing_opens : (h : Held) (path : Path) (rename : Bool) (old now : World) → IsSound h old → is_ship_text path ≡ true → IsRemoving h.entries path rename old now → CanBeOpened now
 removing_opens h path rename old now sound ships (inl still) = subst CanBeOpened (sym still) (sound_opens h old sound)
-removing_opens h path rename old now sound ships (inr amid) =
+removing_opens h path rename old now sound ships (inr (inl both)) = let target = truename h.entries path in doubled_opens h (moves_node rename false (sight_of rename old target path)) target path old now sound ships both.0 both.1
+removing_opens h path rename old now sound ships (inr (inr amid)) =
     let target = truename h.entries path in
     let table = table_there old now h.entries (without path h.entries) amid.table sound.safe.diversions in
-    recording_opens h old now sound (moves_node rename false (sight_of old target path)) target path (true_ships h.entries path (read_table (old diversions_path) h.entries sound.safe.diversions) ships) ships amid.rest amid.ready table.0 table.1
+    recording_opens h old now sound (recorded_same (moves_node rename false (sight_of rename old target path)) target path old now (true_ships h.entries path (read_table (old diversions_path) h.entries sound.safe.diversions) ships) ships amid.rest) amid.ready table.0 table.1

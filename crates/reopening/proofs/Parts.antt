@@ -105,17 +105,17 @@ abbrev pub AreSafeParts : Path → List Part → Type 0
 AreSafeParts name parts = AllByRecursion (IsSafePart name) parts
 
 module _ (name : Path) (named : is_package_name name ≡ true) where
-  part_done : (part : Part) (rs : List Record) (old new : World) → IsSafePart name part → HasDone name part rs old new → IsCalm old new
-  part_done (Note r) rs old new safe done = calm_noted old new done.rest
-  part_done Forget rs old new safe done = calm_noted old new done.rest
-  part_done (Settle settled) rs old new safe done = calm_below old new (λ q below. done.rest q (below_none settled.items q below))
-  part_done (Remove leaving) rs old new safe done = calm_outside old new (removed_outside false leaving.items old new safe done)
-  part_done (RemoveDirectories leaving) rs old new safe done = calm_outside old new (removed_outside true leaving.items old new safe done)
-  part_done (Clear names) rs old new safe done = calm_outside old new (cleared_outside names.items old new safe done)
-  part_done (Listing paths) rs old new safe done =
+  part_done : (declined : Path → Type 0) (part : Part) (rs : List Record) (old new : World) → IsSafePart name part → HasDone name declined part rs old new → IsCalm old new
+  part_done declined (Note r) rs old new safe done = calm_noted old new done.rest
+  part_done declined Forget rs old new safe done = calm_noted old new done.rest
+  part_done declined (Settle settled) rs old new safe done = calm_below old new (λ q below. done.rest q (below_none settled.items q below))
+  part_done declined (Remove leaving) rs old new safe done = calm_outside old new (removed_outside false leaving.items old new safe declined done)
+  part_done declined (RemoveDirectories leaving) rs old new safe done = calm_outside old new (removed_outside true leaving.items old new safe declined done)
+  part_done declined (Clear names) rs old new safe done = calm_outside old new (cleared_outside names.items old new safe done)
+  part_done declined (Listing paths) rs old new safe done =
       record { quiet = replaced_quiet name named paths safe old new done; tmp = λ q within. (let other = tmp_no_list name q within in done.rest q other.0 other.1) }
-  part_done DropList rs old new safe done = record { quiet = dropped_quiet name named old new done; tmp = λ q within. done.rest q (tmp_no_list name q within).0 }
-  part_done (DropMembers keep_postrm) rs old new safe done = record {
+  part_done declined DropList rs old new safe done = record { quiet = dropped_quiet name named old new done; tmp = λ q within. done.rest q (tmp_no_list name q within).0 }
+  part_done declined (DropMembers keep_postrm) rs old new safe done = record {
     quiet = taken_quiet name named old new (goes done.names keep_postrm) done.taken;
     tmp = λ q within. done.taken.rest q (λ member is. tmp_no_member name q member within);
   }
@@ -139,9 +139,9 @@ module _ (name : Path) (named : is_package_name name ≡ true) where
   part_doing DropList rs old now safe may = record { quiet = dropping_quiet name named old now may; tmp = λ q within. may.rest q (tmp_no_list name q within).0 }
   part_doing (DropMembers keep_postrm) rs old now safe may = may_drop keep_postrm old now may
 
-  pub parts_done : (parts : List Part) (rs : List Record) (old new : World) → AreSafeParts name parts → HaveDone name parts rs old new → IsCalm old new
-  parts_done [] rs old new safe same = calm_still old new same
-  parts_done (part ∷ parts) rs old new safe done = calm_then old done.0 new (part_done part rs old done.0 safe.0 done.1) (parts_done parts (part_records name part rs) done.0 new safe.1 done.2)
+  pub parts_done : (declined : Path → Type 0) (parts : List Part) (rs : List Record) (old new : World) → AreSafeParts name parts → HaveDone name declined parts rs old new → IsCalm old new
+  parts_done declined [] rs old new safe same = calm_still old new same
+  parts_done declined (part ∷ parts) rs old new safe done = calm_then old done.0 new (part_done declined part rs old done.0 safe.0 done.1) (parts_done declined parts (part_records name part rs) done.0 new safe.1 done.2)
 
   safe_split : (front back : List Part) → AreSafeParts name (front ++ back) → AreSafeParts name front × AreSafeParts name back
   safe_split [] back safe = (tt, safe)
@@ -151,10 +151,10 @@ module _ (name : Path) (named : is_package_name name ≡ true) where
   first_doing [] rs old now safe over = calm_still old now over.same
   first_doing (part ∷ parts) rs old now safe doing = part_doing part rs old now safe.0 doing.may
 
-  pub parts_doing : (parts : List Part) (rs : List Record) (old now : World) → AreSafeParts name parts → AreDoing name parts rs old now → IsCalm old now
-  parts_doing parts rs old now safe doing =
+  pub parts_doing : (declined : Path → Type 0) (parts : List Part) (rs : List Record) (old now : World) → AreSafeParts name parts → AreDoing name declined parts rs old now → IsCalm old now
+  parts_doing declined parts rs old now safe doing =
       let both = safe_split doing.front doing.back (subst (AreSafeParts name) doing.are safe) in
-      calm_then old doing.mid now (parts_done doing.front rs old doing.mid both.0 doing.done) (first_doing doing.back (parts_records name doing.front rs) doing.mid now both.1 doing.next)
+      calm_then old doing.mid now (parts_done declined doing.front rs old doing.mid both.0 doing.done) (first_doing doing.back (parts_records name doing.front rs) doing.mid now both.1 doing.next)
 
   -- the first of them are safe too
   pub front_safe : (parts front back : List Part) → parts ≡ front ++ back → AreSafeParts name parts → AreSafeParts name front

@@ -2,8 +2,8 @@
 use Rattle.std.proofs.Common.{◌≡◌, inl, inr, IsTrue, ℕ, true, List, [], ◌∷◌, ◌++◌, Option, Contains, sym, ap, subst, ◌∙◌}
 use Rattle.std.specs.List.{AllByRecursion}
 use Rattle.texts.specs.PackageNames.{is_package_name}
-use Rattle.host_core.specs.Events.{Event, Ran}
-use Rattle.host_core.specs.Host.{Calls, State, finished}
+use Rattle.host_core.specs.Events.{Event, IsDeniedIn, Ran}
+use Rattle.host_core.specs.Host.{Calls, State, WasDenied, finished}
 use Rattle.host_core.specs.Paths.{Path}
 use Rattle.host_core.specs.World.{World}
 use Rattle.host_core.specs.declared.call.Call.{Call}
@@ -39,18 +39,18 @@ module _ (name : Path) (named : is_package_name name ≡ true) (entries : List D
   past_calm (stage ∷ stages) h old so_far now safe past =
       let one = past.past in
       let g = after_parts name stage.parts.items h in
-      calm_then old one.ready now (parts_done name named stage.parts.items h.records old one.ready safe.0.parts one.done)
+      calm_then old one.ready now (parts_done name named (IsDeniedIn one.before) stage.parts.items h.records old one.ready safe.0.parts one.done)
       (calm_then one.ready past.mid now (calm_scripts (places_in entries g.lists) one.ready one.calls past.mid one.scripts) (past_calm stages g past.mid past.more now safe.1 past.further))
 
   calling_calm : (restore : List Part) (h : Holding) (old : World) (so_far : List Event) (now : World) (table : List Record) → AreSafeParts name restore → IsCalling name entries restore h old so_far now table → IsCalm old now
   calling_calm restore h old so_far now table safe (IsCalling.calling scripts is) = calm_scripts (places_in entries h.lists) old so_far now scripts
   calling_calm restore h old so_far now table safe (IsCalling.restoring calls after called are scripts quiet doing noted) =
-      calm_then old called now (calm_scripts (places_in entries h.lists) old calls called scripts) (parts_doing name named restore h.records called now safe doing)
+      calm_then old called now (calm_scripts (places_in entries h.lists) old calls called scripts) (parts_doing name named (IsDeniedIn after) restore h.records called now safe doing)
 
   stage_calm : (stage : Stage) (h : Holding) (old : World) (so_far : List Event) (now : World) (table : List Record) → IsSafeStage name stage → IsInStage name entries stage h old so_far now table → IsCalm old now
-  stage_calm stage h old so_far now table safe (IsInStage.doing quiet doing noted) = parts_doing name named stage.parts.items h.records old now safe.parts doing
+  stage_calm stage h old so_far now table safe (IsInStage.doing quiet doing noted) = parts_doing name named (IsDeniedIn so_far) stage.parts.items h.records old now safe.parts doing
   stage_calm stage h old so_far now table safe (IsInStage.behind before since ready are quiet done called) =
-      calm_then old ready now (parts_done name named stage.parts.items h.records old ready safe.parts done)
+      calm_then old ready now (parts_done name named (IsDeniedIn before) stage.parts.items h.records old ready safe.parts done)
       (calling_calm stage.restore.items (after_parts name stage.parts.items h) ready since now table safe.restore called)
 
   next_calm : (back : List Stage) (h : Holding) (old : World) (so_far : List Event) (now : World) (table : List Record) → AreSafeStages name back → IsInNext name entries back h old so_far now table → IsCalm old now
@@ -103,13 +103,13 @@ module _ (name : Path) (named : is_package_name name ≡ true) (entries : List D
   restored_falls owners restore before after s t (HasRestored.left some same is) honest = subst (λ (x : State). IsTrue x.honest) same honest
 
   restored_calm : (owners : List Owner) (restore : List Part) (before after : Holding) (s t : State) → AreSafeParts name restore → HasRestored name entries owners restore before after s t → IsTrue t.honest → IsCalm s.world t.world
-  restored_calm owners restore before after s t safe (HasRestored.restored none does is) honest = parts_done name named restore before.records s.world t.world safe (does.done honest)
+  restored_calm owners restore before after s t safe (HasRestored.restored none does is) honest = parts_done name named (WasDenied s t) restore before.records s.world t.world safe (does.done honest)
   restored_calm owners restore before after s t safe (HasRestored.left some same is) honest = calm_still s.world t.world (ap (λ (x : State). x.world) same)
 
   passed_calm : (stage : Stage) (h : Holding) (s t : State) (told now : List Called) → IsSafeStage name stage → HasPassed name entries stage h s t told now → IsTrue t.honest → IsCalm s.world t.world
   passed_calm stage h s t told now safe passed honest =
       let made = passed.calls.1 in
-      calm_then s.world passed.ready.world t.world (parts_done name named stage.parts.items h.records s.world passed.ready.world safe.parts (passed.parts.done (made.goes.honest honest)))
+      calm_then s.world passed.ready.world t.world (parts_done name named (WasDenied s passed.ready) stage.parts.items h.records s.world passed.ready.world safe.parts (passed.parts.done (made.goes.honest honest)))
       (calls_calm (after_parts name stage.parts.items h) passed.calls.0 passed.ready t made honest)
 
   failed_calm : (stage : Stage) (failed : Option Call) (before after : Holding) (s t : State) (told now : List Called) → IsSafeStage name stage → HasFailed name entries stage failed before after s t told now → IsTrue t.honest → IsCalm s.world t.world
@@ -120,7 +120,7 @@ module _ (name : Path) (named : is_package_name name ≡ true) (entries : List D
       let undone = restored_falls back.owners stage.restore.items g after back.undone t back.restored honest in
       let tried = back.undo.1.goes.honest undone in
       let ready = fell.calls.1.goes.honest tried in
-      calm_then s.world is.ready.world t.world (parts_done name named stage.parts.items before.records s.world is.ready.world safe.parts (is.parts.done ready))
+      calm_then s.world is.ready.world t.world (parts_done name named (WasDenied s is.ready) stage.parts.items before.records s.world is.ready.world safe.parts (is.parts.done ready))
       (calm_then is.ready.world fell.tried.world t.world (calls_calm g fell.calls.0 is.ready fell.tried fell.calls.1 tried)
       (calm_then fell.tried.world back.undone.world t.world (calls_calm g back.undo.0 fell.tried back.undone back.undo.1 undone)
       (restored_calm back.owners stage.restore.items g after back.undone t safe.restore back.restored honest)))

@@ -3,3 +3,4 @@ pub mod Answered
 pub mod Settled
 pub mod TakingTurns
 pub mod Parted
+pub mod GoingApart

@@ -3,7 +3,7 @@ use Rattle.std.proofs.Common.{◌≡◌, ◌⊎◌, ◌&&◌, inl, inr, ℕ, Boo
 use Rattle.std.proofs.lemmas.Bool.{true≢false}
 use Rattle.host_core.specs.Paths.{Path, is_own}
 use Rattle.host_core.specs.World.{World, Change, changed}
-use Rattle.host_core.specs.Events.{Event, changes_of}
+use Rattle.host_core.specs.Events.{Event, IsDeniedIn, changes_of}
 use Rattle.host_core.specs.Outcome.{script_name}
 use Rattle.host_core.proofs.Scripts.{changed-append, changed_at, changed_kept}
 use Rattle.host_core.specs.declared.call.Call.{Call}
@@ -90,15 +90,15 @@ module _ (name : List ℕ) (s : Script) where
   unchanged v w (inl same) = same
   unchanged v w (inr none) = absurd none
 
-  same_done : (d : Deed) (rs : List Record) (v w : World) → Leaves d → Done name d rs v w → w q ≡ v q
-  same_done d rs v w (inl sets) done = unchanged v w (all_done_keep name q Never (d ∷ []) rs v w (sets, tt) (w, done, refl))
-  same_done d rs v w (inr keeps) done =
-      let dropped = subst (λ (e : Deed). Done name e rs v w) keeps.0 done in
+  same_done : (declined : Path → Type 0) (d : Deed) (rs : List Record) (v w : World) → Leaves d → Done name declined d rs v w → w q ≡ v q
+  same_done declined d rs v w (inl sets) done = unchanged v w (all_done_keep name q Never declined (d ∷ []) rs v w (sets, tt) (w, done, refl))
+  same_done declined d rs v w (inr keeps) done =
+      let dropped = subst (λ (e : Deed). Done name declined e rs v w) keeps.0 done in
       dropped.taken.stands (script_name s) (script_is_member s) ∙ kept_postrm s keeps.1 dropped.names (v q)
 
-  same_at : (d : Deed) (rs : List Record) (v w : World) → Leaves d → IsAt name d rs v w → w q ≡ v q
-  same_at d rs v w (inl sets) at = unchanged v w (amid_keeps name q Never (d ∷ []) rs v w (sets, tt) (inl at))
-  same_at d rs v w (inr keeps) at = by (subst (λ (e : Deed). May name e rs v w) keeps.0 at.may)
+  same_at : (declined : Path → Type 0) (d : Deed) (rs : List Record) (v w : World) → Leaves d → IsAt name declined d rs v w → w q ≡ v q
+  same_at declined d rs v w (inl sets) at = unchanged v w (amid_keeps name q Never declined (d ∷ []) rs v w (sets, tt) (inl at))
+  same_at declined d rs v w (inr keeps) at = by (subst (λ (e : Deed). May name declined e rs v w) keeps.0 at.may)
     where
       by : MayDrop name true v w → w q ≡ v q
       by (inl same) = ap (λ (x : World). x q) same
@@ -107,39 +107,39 @@ module _ (name : List ℕ) (s : Script) where
         | inr taken ↦ taken ∙ kept_postrm s keeps.1 taking.0 (v q)
       ]
 
-  all_same : (ds : List Deed) (rs : List Record) (v w : World) → All Leaves ds → AllDone name ds rs v w → w q ≡ v q
-  all_same [] rs v w leaves same = ap (λ (x : World). x q) same
-  all_same (d ∷ ds) rs v w leaves done = all_same ds (deed_records name d rs) done.0 w leaves.1 done.2 ∙ same_done d rs v done.0 leaves.0 done.1
+  all_same : (declined : Path → Type 0) (ds : List Deed) (rs : List Record) (v w : World) → All Leaves ds → AllDone name declined ds rs v w → w q ≡ v q
+  all_same declined [] rs v w leaves same = ap (λ (x : World). x q) same
+  all_same declined (d ∷ ds) rs v w leaves done = all_same declined ds (deed_records name d rs) done.0 w leaves.1 done.2 ∙ same_done declined d rs v done.0 leaves.0 done.1
 
-  amid_same : (ds : List Deed) (rs : List Record) (v w : World) → All Leaves ds → Amid name ds rs v w → w q ≡ v q
-  amid_same [] rs v w leaves over = ap (λ (x : World). x q) over.same
-  amid_same (d ∷ ds) rs v w leaves (inl at) = same_at d rs v w leaves.0 at
-  amid_same (d ∷ ds) rs v w leaves (inr behind) =
-      amid_same ds (deed_records name d rs) behind.mid w leaves.1 behind.further ∙ same_done d rs v behind.mid leaves.0 behind.done
+  amid_same : (declined : Path → Type 0) (ds : List Deed) (rs : List Record) (v w : World) → All Leaves ds → Amid name declined ds rs v w → w q ≡ v q
+  amid_same declined [] rs v w leaves over = ap (λ (x : World). x q) over.same
+  amid_same declined (d ∷ ds) rs v w leaves (inl at) = same_at declined d rs v w leaves.0 at
+  amid_same declined (d ∷ ds) rs v w leaves (inr behind) =
+      amid_same declined ds (deed_records name d rs) behind.mid w leaves.1 behind.further ∙ same_done declined d rs v behind.mid leaves.0 behind.done
 
   -- script calls alone change what stands there
 
-  before_same : (rs : List Record) (old : World) (change : Change) (now : World) → IsBefore name rs old change now → now q ≡ changed change old q
-  before_same rs old change now is = ap (λ (x : World). x q) is.same ∙ ap (λ c. changed c old q) (sym is.none)
+  before_same : (declined : Path → Type 0) (rs : List Record) (old : World) (change : Change) (now : World) → IsBefore name declined rs old change now → now q ≡ changed change old q
+  before_same declined rs old change now is = ap (λ (x : World). x q) is.same ∙ ap (λ c. changed c old q) (sym is.none)
 
-  called_same : (restore : List Deed) (rs : List Record) (old : World) (change : Change) (now : World) → All Leaves restore → IsCalled name restore rs old change now → now q ≡ changed change old q
-  called_same restore rs old change now leaves (IsCalled.on_calls same has) = ap (λ (x : World). x q) same
-  called_same restore rs old change now leaves (IsCalled.on_restore called same amid) = amid_same restore rs called now leaves amid ∙ ap (λ (x : World). x q) same
+  called_same : (declined : Path → Type 0) (restore : List Deed) (rs : List Record) (old : World) (change : Change) (now : World) → All Leaves restore → IsCalled name declined restore rs old change now → now q ≡ changed change old q
+  called_same declined restore rs old change now leaves (IsCalled.on_calls same has) = ap (λ (x : World). x q) same
+  called_same declined restore rs old change now leaves (IsCalled.on_restore called same amid) = amid_same declined restore rs called now leaves amid ∙ ap (λ (x : World). x q) same
 
-  inside_same : (p : Planned) (rs : List Record) (old : World) (change : Change) (now : World) → All Leaves p.parts → All Leaves p.restore → IsInside name p rs old change now → now q ≡ changed change old q
-  inside_same p rs old change now parts restore (IsInside.in_parts none amid) = amid_same p.parts rs old now parts amid ∙ ap (λ c. changed c old q) (sym none)
-  inside_same p rs old change now parts restore (IsInside.in_calls ready done called) =
-      called_same p.restore (deeds_records name p.parts rs) ready change now restore called
-      ∙ changed_at change ready old q (all_same p.parts rs old ready parts done)
+  inside_same : (declined : Path → Type 0) (p : Planned) (rs : List Record) (old : World) (change : Change) (now : World) → All Leaves p.parts → All Leaves p.restore → IsInside name declined p rs old change now → now q ≡ changed change old q
+  inside_same declined p rs old change now parts restore (IsInside.in_parts none amid) = amid_same declined p.parts rs old now parts amid ∙ ap (λ c. changed c old q) (sym none)
+  inside_same declined p rs old change now parts restore (IsInside.in_calls ready done called) =
+      called_same declined p.restore (deeds_records name p.parts rs) ready change now restore called
+      ∙ changed_at change ready old q (all_same declined p.parts rs old ready parts done)
 
-  stages_same : (ps : List Planned) (rs : List Record) (old : World) (change : Change) (now : World) → AllIn Leaves ps → AmidStages name ps rs old change now → now q ≡ changed change old q
-  stages_same [] rs old change now leaves is = before_same rs old change now is
-  stages_same (p ∷ ps) rs old change now leaves (inl is) = before_same rs old change now is
-  stages_same (p ∷ ps) rs old change now leaves (inr (inl inside)) = inside_same p rs old change now leaves.0.0 leaves.0.1 inside
-  stages_same (p ∷ ps) rs old change now leaves (inr (inr passed)) =
-      stages_same ps (deeds_records name p.parts rs) (changed passed.early passed.ready) passed.late now leaves.1 passed.further
+  stages_same : (declined : Path → Type 0) (ps : List Planned) (rs : List Record) (old : World) (change : Change) (now : World) → AllIn Leaves ps → AmidStages name declined ps rs old change now → now q ≡ changed change old q
+  stages_same declined [] rs old change now leaves is = before_same declined rs old change now is
+  stages_same declined (p ∷ ps) rs old change now leaves (inl is) = before_same declined rs old change now is
+  stages_same declined (p ∷ ps) rs old change now leaves (inr (inl inside)) = inside_same declined p rs old change now leaves.0.0 leaves.0.1 inside
+  stages_same declined (p ∷ ps) rs old change now leaves (inr (inr passed)) =
+      stages_same declined ps (deeds_records name p.parts rs) (changed passed.early passed.ready) passed.late now leaves.1 passed.further
       ∙ ap (λ (x : World). x q) (sym (changed-append passed.early passed.late passed.ready))
-      ∙ changed_at (passed.early ++ passed.late) passed.ready old q (all_same p.parts rs old passed.ready leaves.0.0 passed.done)
+      ∙ changed_at (passed.early ++ passed.late) passed.ready old q (all_same declined p.parts rs old passed.ready leaves.0.0 passed.done)
       ∙ ap (λ c. changed c old q) (sym passed.changes)
 
   -- as long as a call is still to come, the deeds up to it leave the script alone
@@ -185,10 +185,10 @@ module _ (name : List ℕ) (s : Script) where
         by (b ∷ rest) are among =
             let here = up_to stages running b rest are in
             let whole = running.front ++ b ∷ [] in
-            stages_same (map planned whole) h.records old (changes_of so_far) now
+            stages_same (IsDeniedIn so_far) (map planned whole) h.records old (changes_of so_far) now
             (leaves_up_to call running.front b rest among
             (subst (λ (l : List Stage). AreSafe call (map planned l)) (running.are ∙ ap (λ (l : List Stage). running.front ++ l) are) safe))
-            (stages_amid name entries whole h old so_far now here)
+            (stages_amid name (IsDeniedIn so_far) entries whole h old so_far now (λ p is. is) here)
             ∙ changed_kept is_own (changes_of so_far) old (own_avoided name entries whole h old so_far now here) q refl
 
 -- the stages of a removal
@@ -306,7 +306,7 @@ module _ (entries : List Diversion) (lists : List PackageList) (r : Record) (sto
             (
               no_name (waiting_names entries r.name r.pending) (waiting_elsewhere entries r.name r.pending),
               (
-                inl (no_leaving to_come (paths_of lists r.name) r),
+                inl (λ is. absurd (no_leaving to_come (paths_of lists r.name) r is)),
                 (no_name (cleared_names entries lists r) (cleared_elsewhere entries lists r), (listed_off to_come, (noted (without_files r), tt))),
               ),
             ),

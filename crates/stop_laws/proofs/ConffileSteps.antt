@@ -5,7 +5,7 @@ use Rattle.std.proofs.lemmas.Bool.{false_from_ne_true}
 use Rattle.std.proofs.lemmas.List.Elements.{All-contains, Contains-append_cases, Contains-append_right}
 use Rattle.host_core.specs.Paths.{Path, is_below_administration}
 use Rattle.host_core.specs.World.{World, Change, changed}
-use Rattle.host_core.specs.Events.{Event, changes_of}
+use Rattle.host_core.specs.Events.{Event, IsDeniedIn, changes_of}
 use Rattle.host_core.proofs.Scripts.{changed-append, changed_at, no_change}
 use Rattle.host_core.specs.Suffixes.{suffix_text}
 use Rattle.host_core.specs.declared.suffix.Suffix.TheVariants.{New, Old, Dist}
@@ -84,7 +84,7 @@ settling_between list v w settling e has = elim (Contains-append_cases settling.
     first (b ∷ bs) next (zero, lt, is) = subst (λ (x : Settled). IsBetween (files_at v x.path) (settled_files x.decision (files_at v x.path)) (files_at w x.path)) is next.0.files
     first (b ∷ bs) next (suc k, lt, is) = inl (All-contains (IsUntouched v w) bs e next.1 (k, omega (arith, lt), is)).files
 
-module _ (g : Given) (r : Record) (own_named : r.name ≡ g.name) (old : World) (decisions : List Settled) (paths : decided_paths decisions ≡ settling_paths r) (each : All (IsDecidedOf r g.policy old) decisions) where
+module _ (g : Given) (r : Record) (own_named : r.name ≡ g.name) (old : World) (decisions : List Settled) (paths : decided_paths decisions ≡ settling_paths r) (each : All (IsDecidedOf r g.policy old) decisions) (declined : Path → Type 0) where
   -- of each path that is to be settled, by what is decided of it
   by_decided : (P : Path → Type 0) → ((e : Settled) → Contains decisions e → P e.path) → (x : Path) → Contains (settling_paths r) x → P x
   by_decided P all x has =
@@ -137,7 +137,7 @@ module _ (g : Given) (r : Record) (own_named : r.name ≡ g.name) (old : World) 
   recorded_by : (P : Option Record → Type 0) (rs : List Record) (now : World) → HasRecords now rs → P (record_in rs g.name) → IsRecorded g.name P now
   recorded_by P rs now has own = record { table = rs; records = has; own = own }
 
-  noted_same : (c : Record) (rs : List Record) (v w : World) → Done g.name (Deed.Notes c) rs v w → IsSameElsewhere v w
+  noted_same : (c : Record) (rs : List Record) (v w : World) → Done g.name declined (Deed.Notes c) rs v w → IsSameElsewhere v w
   noted_same c rs v w done q out = done.rest q (elsewhere_unnoted q out)
 
   module _ (rs : List Record) (found : record_in rs g.name ≡ Some r) where
@@ -154,7 +154,7 @@ module _ (g : Given) (r : Record) (own_named : r.name ≡ g.name) (old : World) 
     AtStep change now = IsAtStep g r old change now
 
     -- before anything is settled
-    note_amid : (now : World) → Amid g.name (Deed.Notes (half r) ∷ []) rs old now → AtStep [] now
+    note_amid : (now : World) → Amid g.name declined (Deed.Notes (half r) ∷ []) rs old now → AtStep [] now
     note_amid now (inl here) = IsAtStep.waiting refl (elim here.records [
       | inl before ↦ recorded_by (IsWaitingRecord r) rs now before (inl found)
       | inr after ↦ recorded_by (IsWaitingRecord r) halved now after (inr own_halved)
@@ -172,20 +172,20 @@ module _ (g : Given) (r : Record) (own_named : r.name ≡ g.name) (old : World) 
     kept_or_never v w q (inl same) = same
     kept_or_never v w q (inr none) = absurd none
 
-    then_same : (v w : World) → Amid g.name (then_deeds r (paths_of g.before.lists g.name) (going_paths r)) halved v w → IsSameElsewhere v w
-    then_same v w amid q out = kept_or_never v w q (amid_keeps g.name q Never (then_deeds r (paths_of g.before.lists g.name) (going_paths r)) halved v w (then_outside q out) amid)
+    then_same : (v w : World) → Amid g.name declined (then_deeds r (paths_of g.before.lists g.name) (going_paths r)) halved v w → IsSameElsewhere v w
+    then_same v w amid q out = kept_or_never v w q (amid_keeps g.name q Never declined (then_deeds r (paths_of g.before.lists g.name) (going_paths r)) halved v w (then_outside q out) amid)
 
-    done_same : (v w : World) → AllDone g.name (then_deeds r (paths_of g.before.lists g.name) (going_paths r)) halved v w → IsSameElsewhere v w
-    done_same v w done q out = kept_or_never v w q (all_done_keep g.name q Never (then_deeds r (paths_of g.before.lists g.name) (going_paths r)) halved v w (then_outside q out) done)
+    done_same : (v w : World) → AllDone g.name declined (then_deeds r (paths_of g.before.lists g.name) (going_paths r)) halved v w → IsSameElsewhere v w
+    done_same v w done q out = kept_or_never v w q (all_done_keep g.name q Never declined (then_deeds r (paths_of g.before.lists g.name) (going_paths r)) halved v w (then_outside q out) done)
 
     abbrev Either : World → Type 0
     Either now = HasRecords now halved ⊎ HasRecords now (put_record (half (settled r)) halved)
 
-    last_note : (v now : World) → Amid g.name (Deed.Notes (half (settled r)) ∷ []) halved v now → Either now
+    last_note : (v now : World) → Amid g.name declined (Deed.Notes (half (settled r)) ∷ []) halved v now → Either now
     last_note v now (inl here) = here.records
     last_note v now (inr behind) = inr behind.further.records
 
-    then_records : (had going : List Path) (v now : World) → Amid g.name (then_deeds r had going) halved v now → Either now
+    then_records : (had going : List Path) (v now : World) → Amid g.name declined (then_deeds r had going) halved v now → Either now
     then_records had [] v now amid = last_note v now amid
     then_records had (q ∷ going) v now (inl here) = elim here.records [ inl is ↦ inl is | inr is ↦ inl is ]
     then_records had (q ∷ going) v now (inr behind) = last_note behind.mid now behind.further
@@ -195,7 +195,7 @@ module _ (g : Given) (r : Record) (own_named : r.name ≡ g.name) (old : World) 
     then_table had (q ∷ going) = refl
 
     -- conffiles, and what follows them
-    settling_amid : (mid now : World) → IsSameElsewhere old mid → Amid g.name (Deed.Settles decisions ∷ then_deeds r (paths_of g.before.lists g.name) (going_paths r)) halved mid now → AtStep [] now
+    settling_amid : (mid now : World) → IsSameElsewhere old mid → Amid g.name declined (Deed.Settles decisions ∷ then_deeds r (paths_of g.before.lists g.name) (going_paths r)) halved mid now → AtStep [] now
     settling_amid mid now same (inl here) =
         IsAtStep.settling refl (elim here.records [ inl is ↦ recorded_by (IsHalfRecord r) halved now is own_halved | inr is ↦ recorded_by (IsHalfRecord r) halved now is own_halved ]) (settling_each mid now same here.may) (others_settling mid now same here.may)
     settling_amid mid now same (inr behind) =
@@ -205,12 +205,12 @@ module _ (g : Given) (r : Record) (own_named : r.name ≡ g.name) (old : World) 
           | inr after ↦ IsAtStep.settled_then (recorded_by (IsSettledRecord r) (put_record (half (settled r)) halved) now after own_settled) behind.mid (settled_each mid behind.mid same behind.done) (others_settled mid behind.mid same behind.done) since
         ]
 
-    first_amid : (list : List Settled) → list ≡ decisions → (now : World) → Amid g.name (first_deeds r (paths_of g.before.lists g.name) list) rs old now → AtStep [] now
+    first_amid : (list : List Settled) → list ≡ decisions → (now : World) → Amid g.name declined (first_deeds r (paths_of g.before.lists g.name) list) rs old now → AtStep [] now
     first_amid [] is now amid = note_amid now amid
     first_amid (e ∷ es) is now (inl here) = note_amid now (inl here)
     first_amid (e ∷ es) is now (inr behind) =
         settling_amid behind.mid now (noted_same (half r) rs old behind.mid behind.done)
-        (subst (λ (l : List Settled). Amid g.name (Deed.Settles l ∷ then_deeds r (paths_of g.before.lists g.name) (going_paths r)) halved behind.mid now) is behind.further)
+        (subst (λ (l : List Settled). Amid g.name declined (Deed.Settles l ∷ then_deeds r (paths_of g.before.lists g.name) (going_paths r)) halved behind.mid now) is behind.further)
 
     -- all done before the call
     record IsReady (table : List Record) (ready : World) : Type 0 where
@@ -223,7 +223,7 @@ module _ (g : Given) (r : Record) (own_named : r.name ≡ g.name) (old : World) 
     none_in : {X : Type 0} (x : Path) → [] ≡ decisions → Contains (settling_paths r) x → X
     none_in x is has = let none = subst (λ (l : List Path). Contains l x) (sym (ap decided_paths is ∙ paths)) has in absurd (omega (arith, none.1))
 
-    first_done : (list : List Settled) → list ≡ decisions → (ready : World) → AllDone g.name (first_deeds r (paths_of g.before.lists g.name) list) rs old ready → IsReady (deeds_records g.name (first_deeds r (paths_of g.before.lists g.name) list) rs) ready
+    first_done : (list : List Settled) → list ≡ decisions → (ready : World) → AllDone g.name declined (first_deeds r (paths_of g.before.lists g.name) list) rs old ready → IsReady (deeds_records g.name (first_deeds r (paths_of g.before.lists g.name) list) rs) ready
     first_done [] is ready done = record {
       done = ready;
       all = λ x has. none_in x is has;
@@ -248,7 +248,7 @@ module _ (g : Given) (r : Record) (own_named : r.name ≡ g.name) (old : World) 
     ready_step : (ready now : World) (change : Change) → IsReady first_table ready → IsRecorded g.name (IsSettledRecord r) now → IsScriptedElsewhere change ready now → AtStep change now
     ready_step ready now change is recorded then = IsAtStep.settled_then recorded is.done is.all is.others (elsewhere_then [] change is.done ready now is.since then)
 
-    inside_step : (row : Row) (change : Change) (now : World) → IsInside g.name (stage_with (first_deeds r (paths_of g.before.lists g.name) decisions) row) rs old change now → AtStep change now
+    inside_step : (row : Row) (change : Change) (now : World) → IsInside g.name declined (stage_with (first_deeds r (paths_of g.before.lists g.name) decisions) row) rs old change now → AtStep change now
     inside_step row change now (IsInside.in_parts none amid) = subst (λ (c : Change). AtStep c now) (sym none) (first_amid decisions refl now amid)
     inside_step row change now (IsInside.in_calls ready done (IsCalled.on_calls same has)) =
         let is = first_done decisions refl ready done in
@@ -258,21 +258,21 @@ module _ (g : Given) (r : Record) (own_named : r.name ≡ g.name) (old : World) 
         ready_step ready now change is (recorded_by (IsSettledRecord r) first_table now over.records is.own) (λ q out. ap (λ (w : World). w q) (over.same ∙ same))
 
     -- behind the call
-    last_same : (row : Row) (table : List Record) (start : World) (late : Change) (now : World) → AmidStages g.name (stage_with (last_deeds r) row ∷ []) table start late now → IsScriptedElsewhere late start now
+    last_same : (row : Row) (table : List Record) (start : World) (late : Change) (now : World) → AmidStages g.name declined (stage_with (last_deeds r) row ∷ []) table start late now → IsScriptedElsewhere late start now
     last_same row table start late now amid q out =
-        by (stages_set g.name q Never (stage_with (last_deeds r) row ∷ []) table start late now (((elsewhere_unnoted q out, tt), tt), tt) amid)
+        by (stages_set g.name q Never declined (stage_with (last_deeds r) row ∷ []) table start late now (((elsewhere_unnoted q out, tt), tt), tt) amid)
       where
         by : IsSet g.name q Never late start now → now q ≡ changed late start q
         by (IsSet.stood is) = is
         by (IsSet.left early more are mid has is) = absurd has
 
-    stages_step : (first second : Row) (change : Change) (now : World) → AmidStages g.name (stage_with (first_deeds r (paths_of g.before.lists g.name) decisions) first ∷ stage_with (last_deeds r) second ∷ []) rs old change now → AtStep change now
+    stages_step : (first second : Row) (change : Change) (now : World) → AmidStages g.name declined (stage_with (first_deeds r (paths_of g.before.lists g.name) decisions) first ∷ stage_with (last_deeds r) second ∷ []) rs old change now → AtStep change now
     stages_step first second change now (inl before) =
         IsAtStep.waiting before.none (recorded_by (IsWaitingRecord r) rs now before.records (inl found)) (λ q out. ap (λ (w : World). w q) before.same)
     stages_step first second change now (inr (inl inside)) = inside_step first change now inside
     stages_step first second change now (inr (inr passed)) =
         let is = first_done decisions refl passed.ready passed.done in
-        let standing = stages_good g.name first_table (IsSettledRecord r) (stage_with (last_deeds r) second ∷ []) first_table (changed passed.early passed.ready) passed.late now ((((own_named, IsSettledRecord.installed refl), tt), tt), tt) (record { own = is.own; others = λ q other. refl }) passed.further in
+        let standing = stages_good g.name first_table (IsSettledRecord r) declined (stage_with (last_deeds r) second ∷ []) first_table (changed passed.early passed.ready) passed.late now ((((own_named, IsSettledRecord.installed refl), tt), tt), tt) (record { own = is.own; others = λ q other. refl }) passed.further in
         ready_step passed.ready now change is
         (record { table = standing.table; records = standing.records; own = standing.good.own })
         (subst (λ (c : Change). IsScriptedElsewhere c passed.ready now) (sym passed.changes)
@@ -299,12 +299,12 @@ module _ (g : Given) (r : Record) (found : record_in g.before.records g.name ≡
 
     step_amid : IsAtStep g r old (changes_of so_far) now
     step_amid =
-        stages_step g r (named g r found) old (decisions_then g r found old now so_far amid) (paths_then g r found old now so_far amid) each_decided g.before.records found
+        stages_step g r (named g r found) old (decisions_then g r found old now so_far amid) (paths_then g r found old now so_far amid) each_decided (IsDeniedIn so_far) g.before.records found
         amid.plan.plan.stages_are.first.row amid.plan.plan.stages_are.second.row (changes_of so_far) now (amid_at g r found old now so_far amid)
 
     conffiles_amid : changes_of so_far ≡ [] → (x : Path) → Contains (settling_paths r) x → IsConffileAmid g r old now x
     conffiles_amid none =
-        each_amid g r (named g r found) old (decisions_then g r found old now so_far amid) (paths_then g r found old now so_far amid) each_decided now (subst (λ (c : Change). IsAtStep g r old c now) none step_amid)
+        each_amid g r (named g r found) old (decisions_then g r found old now so_far amid) (paths_then g r found old now so_far amid) each_decided (IsDeniedIn so_far) now (subst (λ (c : Change). IsAtStep g r old c now) none step_amid)
 
   pub configure_steps : (d : Recorded) → IsInOrder d g.before.lists old → d.records ≡ g.before.records → IsAmidUnit g old so_far now → IsAtStep g r old (changes_of so_far) now
   configure_steps d order same (inl looks) =

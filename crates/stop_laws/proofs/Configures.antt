@@ -4,7 +4,7 @@ use Rattle.std.specs.List.{list_any}
 use Rattle.std.proofs.lemmas.Bool.{false_from_ne_true, true≢false}
 use Rattle.host_core.specs.Paths.{Path, is_below_administration, is_own}
 use Rattle.host_core.specs.World.{World, Avoids, changed}
-use Rattle.host_core.specs.Events.{Event, changes_of}
+use Rattle.host_core.specs.Events.{Event, IsDeniedIn, changes_of}
 use Rattle.host_core.proofs.Scripts.{changed_kept, no_change}
 use Rattle.host_core.specs.declared.node.Node.{Node}
 use Rattle.administration.specs.Places.{diversions_path, list_path, temporary}
@@ -84,8 +84,8 @@ module _ (g : Given) (r : Record) (found : record_in g.before.records g.name ≡
         stages_deeds amid.plan.entry listed decisions_then amid.plan.plan.stored amid.stages amid.plan.plan.stages_are
         ∙ ap (λ (e : Record). stage_with (first_deeds e listed decisions_then) amid.plan.plan.stages_are.first.row ∷ stage_with (last_deeds e) amid.plan.plan.stages_are.second.row ∷ []) entry_is
 
-    pub amid_at : AmidStages g.name stages_then g.before.records old (changes_of so_far) now
-    amid_at = subst (λ (ps : List Planned). AmidStages g.name ps g.before.records old (changes_of so_far) now) deeds_are (stages_amid g.name g.entries amid.stages g.before old so_far now amid.running)
+    pub amid_at : AmidStages g.name (IsDeniedIn so_far) stages_then g.before.records old (changes_of so_far) now
+    amid_at = subst (λ (ps : List Planned). AmidStages g.name (IsDeniedIn so_far) ps g.before.records old (changes_of so_far) now) deeds_are (stages_amid g.name (IsDeniedIn so_far) g.entries amid.stages g.before old so_far now (λ p is. is) amid.running)
 
     avoided : Avoids is_own (changes_of so_far)
     avoided = own_avoided g.name g.entries amid.stages g.before old so_far now amid.running
@@ -106,7 +106,7 @@ module _ (g : Given) (r : Record) (found : record_in g.before.records g.name ≡
 
     records_amid : HasRecordsAmid g r now
     records_amid =
-        let standing = stages_good g.name g.before.records IsNoted stages_then g.before.records old (changes_of so_far) now all_noted (record { own = inl (inl found); others = λ q other. refl }) amid_at in
+        let standing = stages_good g.name g.before.records IsNoted (IsDeniedIn so_far) stages_then g.before.records old (changes_of so_far) now all_noted (record { own = inl (inl found); others = λ q other. refl }) amid_at in
         record { table = standing.table; records = standing.records; opens = amid.running.opens.opens; own = standing.good.own; others = standing.good.others }
 
     -- names of conffiles that are settled
@@ -116,7 +116,7 @@ module _ (g : Given) (r : Record) (found : record_in g.before.records g.name ≡
 
     paths_amid : (q : Path) → is_below_administration q ≡ false → is_settling_name r q ≡ false → now q ≡ changed (changes_of so_far) old q
     paths_amid q out none =
-        by (stages_set g.name q Never stages_then g.before.records old (changes_of so_far) now
+        by (stages_set g.name q Never (IsDeniedIn so_far) stages_then g.before.records old (changes_of so_far) now
         (stages_all (Sets g.name q Never) r listed decisions_then amid.plan.plan.stages_are.first.row amid.plan.plan.stages_are.second.row
         (elsewhere_unnoted q out)
         (record {
@@ -137,7 +137,7 @@ module _ (g : Given) (r : Record) (found : record_in g.before.records g.name ≡
       value_amid : Sets g.name q V (Deed.Lists (listed_without (going_paths r) listed)) → (now q ≡ old q) ⊎ V (now q)
       value_amid lists =
           by (set_kept g.name q V is_own mine (changes_of so_far) old now avoided
-          (stages_set g.name q V stages_then g.before.records old (changes_of so_far) now
+          (stages_set g.name q V (IsDeniedIn so_far) stages_then g.before.records old (changes_of so_far) now
           (stages_all (Sets g.name q V) r listed decisions_then amid.plan.plan.stages_are.first.row amid.plan.plan.stages_are.second.row unnoted
           (record { settles = below_none decisions_then q below; lists = lists; notes = unnoted }) unnoted)
           amid_at))

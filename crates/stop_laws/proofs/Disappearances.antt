@@ -4,7 +4,7 @@ use Rattle.std.proofs.lemmas.Bool.{true≢false}
 use Rattle.std.proofs.lemmas.List.{append_cancel_left}
 use Rattle.host_core.specs.Paths.{Path, is_below_administration, is_own}
 use Rattle.host_core.specs.World.{World, Avoids, Change, changed}
-use Rattle.host_core.specs.Events.{Event, changes_of}
+use Rattle.host_core.specs.Events.{Event, IsDeniedIn, changes_of}
 use Rattle.host_core.specs.Host.{State}
 use Rattle.host_core.proofs.Scripts.{Avoids-append, changed-append, changed_at, changed_kept, changes_of-append, no_change}
 use Rattle.administration.specs.Places.{diversions_path, list_path}
@@ -65,11 +65,11 @@ module _ (entries : List Diversion) (name : List ℕ) (h : Holding) (row : Row) 
           quiet_ran name entries kept h keeps stage (no_deeds stage.parts.items (ap (λ (p : Planned). p.parts) one)) (no_deeds stage.restore.items (ap (λ (p : Planned). p.restore) one)) is.failed h s is.mid is.told is.more run is.honest
       by (stage ∷ other ∷ more) are run = not_two (planned stage) (planned other) (map planned more) are
 
-  calling_at : AreRunning name entries call h s.world so_far now → AmidStages name (before ∷ []) h.records s.world (changes_of so_far) now
-  calling_at running = subst (λ (ps : List Planned). AmidStages name ps h.records s.world (changes_of so_far) now) plan.calls (stages_amid name entries call h s.world so_far now running)
+  calling_at : AreRunning name entries call h s.world so_far now → AmidStages name (IsDeniedIn so_far) (before ∷ []) h.records s.world (changes_of so_far) now
+  calling_at running = subst (λ (ps : List Planned). AmidStages name (IsDeniedIn so_far) ps h.records s.world (changes_of so_far) now) plan.calls (stages_amid name (IsDeniedIn so_far) entries call h s.world so_far now (λ p is. is) running)
 
-  behind_at : (is : IsBehindCall name entries call gone h s so_far now) → AmidStages name (behind ∷ []) h.records is.mid.world (changes_of is.rest) now
-  behind_at is = subst (λ (ps : List Planned). AmidStages name ps h.records is.mid.world (changes_of is.rest) now) plan.goes (stages_amid name entries gone h is.mid.world is.rest now is.running)
+  behind_at : (is : IsBehindCall name entries call gone h s so_far now) → AmidStages name (IsDeniedIn is.rest) (behind ∷ []) h.records is.mid.world (changes_of is.rest) now
+  behind_at is = subst (λ (ps : List Planned). AmidStages name (IsDeniedIn is.rest) ps h.records is.mid.world (changes_of is.rest) now) plan.goes (stages_amid name (IsDeniedIn is.rest) entries gone h is.mid.world is.rest now (λ p has. has) is.running)
 
   front_is : (kept : Path → Bool) (is : IsBehindCall name entries call gone h s so_far now) (ran : RanScripts kept s is.mid) → ran.added ≡ is.front
   front_is kept is ran = append_cancel_left s.events ran.added is.front (sym ran.events ∙ is.events)
@@ -85,11 +85,11 @@ module _ (entries : List Diversion) (name : List ℕ) (h : Holding) (row : Row) 
     scripted_rest mid change (IsSet.left early late are m has is) = absurd has
 
     path_amid : IsRunningBoth name entries call gone h s so_far now → now q ≡ changed (changes_of so_far) s.world q
-    path_amid (IsRunningBoth.calling running) = scripted (stages_set name q Never (before ∷ []) h.records s.world (changes_of so_far) now ((tt, tt), tt) (calling_at running))
+    path_amid (IsRunningBoth.calling running) = scripted (stages_set name q Never (IsDeniedIn so_far) (before ∷ []) h.records s.world (changes_of so_far) now ((tt, tt), tt) (calling_at running))
     path_amid (IsRunningBoth.behind is) =
         let ran = call_ran is_own (λ p own. own_kept entries h.lists p own) is in
         let first : is.mid.world q ≡ changed (changes_of is.front) s.world q = ap (λ (w : World). w q) ran.world ∙ ap (λ (l : List Event). changed (changes_of l) s.world q) (front_is is_own is ran) in
-        scripted_rest is.mid.world (changes_of is.rest) (stages_set name q Never (behind ∷ []) h.records is.mid.world (changes_of is.rest) now ((sets, tt), tt) (behind_at is))
+        scripted_rest is.mid.world (changes_of is.rest) (stages_set name q Never (IsDeniedIn is.rest) (behind ∷ []) h.records is.mid.world (changes_of is.rest) now ((sets, tt), tt) (behind_at is))
         ∙ changed_at (changes_of is.rest) is.mid.world (changed (changes_of is.front) s.world) q first
         ∙ ap (λ (w : World). w q) (sym (changed-append (changes_of is.front) (changes_of is.rest) s.world))
         ∙ ap (λ (c : Change). changed c s.world q) (sym (ap changes_of is.split ∙ changes_of-append is.front is.rest))
@@ -151,9 +151,9 @@ module _ (entries : List Diversion) (name : List ℕ) (h : Holding) (row : Row) 
   good_first = record { own = inl refl; others = λ q other. refl }
 
   standing : IsRunningBoth name entries call gone h s so_far now → StandGood name h.records Own now
-  standing (IsRunningBoth.calling running) = stages_good name h.records Own (before ∷ []) h.records s.world (changes_of so_far) now ((tt, tt), tt) good_first (calling_at running)
+  standing (IsRunningBoth.calling running) = stages_good name h.records Own (IsDeniedIn so_far) (before ∷ []) h.records s.world (changes_of so_far) now ((tt, tt), tt) good_first (calling_at running)
   standing (IsRunningBoth.behind is) =
-      stages_good name h.records Own (behind ∷ []) h.records is.mid.world (changes_of is.rest) now ((((tt, tt), ((tt, tt), ((tt, tt), ((tt, inr refl), tt)))), tt), tt) good_first (behind_at is)
+      stages_good name h.records Own (IsDeniedIn is.rest) (behind ∷ []) h.records is.mid.world (changes_of is.rest) now ((((tt, tt), ((tt, tt), ((tt, tt), ((tt, inr refl), tt)))), tt), tt) good_first (behind_at is)
 
 -- at each moment of one package
 

@@ -2,7 +2,9 @@
 use Rattle.std.proofs.Common.{◌≡◌, ◌⊎◌, inl, inr, ℕ, List, [], ◌∷◌, ◌++◌, map, sym, ap, subst, ◌∙◌, append_assoc}
 use Rattle.std.proofs.lemmas.List.{append-nil}
 use Rattle.host_core.specs.World.{World, Change, changed}
-use Rattle.host_core.specs.Events.{Event, changes_of}
+use Rattle.host_core.specs.Paths.{Path}
+use Rattle.host_core.specs.Events.{Event, IsDeniedIn, changes_of}
+use Rattle.host_core.proofs.Denials.{denied_behind, denied_front}
 use Rattle.host_core.proofs.Scripts.{changes_of-append, no_change}
 use Rattle.administration.specs.Files.{IsDropped, IsDropping, IsReplaced, IsReplacing}
 use Rattle.administration.specs.Places.{list_path}
@@ -22,6 +24,7 @@ use Rattle.unit_stages.specs.declared.part.Part.TheVariants.{Note, Forget, Settl
 use Rattle.unit_stages.specs.Holding.{Holding, after_parts, after_stages}
 use Rattle.unit_stages.specs.Running.{ArePast, AreRunning, IsCalling, IsInNext, IsInStage, IsOpenable}
 use Rattle.unit_stages.specs.declared.stage.Stage.{Stage}
+use Rattle.unit_stages.proofs.Denied.{doing_wider, parts_wider}
 use Rattle.removal_engine.specs.Stages.{Deed, Planned, deed, planned}
 use Rattle.removal_engine.proofs.Deeds.{all_same_records, deed_records, deeds_records, same_records}
 
@@ -34,14 +37,15 @@ abbrev pub AllIn : (Deed → Type 0) → List Planned → Type 0
 AllIn P [] = Unit {0}
 AllIn P (p ∷ ps) = (All P p.parts × All P p.restore) × AllIn P ps
 
-module _ (name : List ℕ) where
+-- of a run in which steps at these paths were declined
+module _ (name : List ℕ) (declined : Path → Type 0) where
   -- a deed is done
   abbrev pub Done : Deed → List Record → World → World → Type 0
   Done (Deed.Notes r) rs old new = HasNoted (put_record r rs) old new
   Done Deed.Forgets rs old new = HasNoted (drop_record name rs) old new
   Done (Deed.Settles conffiles) rs old new = AreSettled conffiles old new
-  Done (Deed.Removes leaving) rs old new = Removed leaving old new
-  Done (Deed.RemovesDirectories leaving) rs old new = RemovedDirectories leaving old new
+  Done (Deed.Removes leaving) rs old new = Removed declined leaving old new
+  Done (Deed.RemovesDirectories leaving) rs old new = RemovedDirectories declined leaving old new
   Done (Deed.Clears names) rs old new = Cleared names old new
   Done (Deed.Lists paths) rs old new = IsReplaced (list_path name) (list_file paths) old new
   Done Deed.DropsList rs old new = IsDropped (list_path name) old new
@@ -59,7 +63,7 @@ module _ (name : List ℕ) where
   May Deed.DropsList rs old now = IsDropping (list_path name) old now
   May (Deed.DropsMembers keep_postrm) rs old now = MayDrop name keep_postrm old now
 
-  done_deed : (part : Part) (rs : List Record) (v w : World) → HasDone name part rs v w → Done (deed part) rs v w
+  done_deed : (part : Part) (rs : List Record) (v w : World) → HasDone name declined part rs v w → Done (deed part) rs v w
   done_deed (Note r) rs v w is = is
   done_deed Forget rs v w is = is
   done_deed (Settle conffiles) rs v w is = is
@@ -139,7 +143,7 @@ module _ (name : List ℕ) where
 
   -- so it is of parts
 
-  all_done : (parts : List Part) (rs : List Record) (v w : World) → HaveDone name parts rs v w → AllDone (map deed parts) rs v w
+  all_done : (parts : List Part) (rs : List Record) (v w : World) → HaveDone name declined parts rs v w → AllDone (map deed parts) rs v w
   all_done [] rs v w same = same
   all_done (part ∷ parts) rs v w done =
       (done.0, done_deed part rs v done.0 done.1, subst (λ (l : List Record). AllDone (map deed parts) l done.0 w) (same_records name part rs) (all_done parts (part_records name part rs) done.0 w done.2))
@@ -151,7 +155,7 @@ module _ (name : List ℕ) where
     records = elim doing.records [ inl is ↦ inl is | inr is ↦ inr (subst (HasRecords w) (same_records name part rs) is) ];
   })
 
-  parts_amid : (front back : List Part) (rs : List Record) (v mid w : World) → HaveDone name front rs v mid → IsFirstDoing name back (parts_records name front rs) mid w → Amid (map deed (front ++ back)) rs v w
+  parts_amid : (front back : List Part) (rs : List Record) (v mid w : World) → HaveDone name declined front rs v mid → IsFirstDoing name back (parts_records name front rs) mid w → Amid (map deed (front ++ back)) rs v w
   parts_amid [] back rs v mid w same next = first_at back rs v w (subst (λ (x : World). IsFirstDoing name back rs x w) same next)
   parts_amid (part ∷ front) back rs v mid w done next = inr (record {
     mid = done.0;
@@ -159,52 +163,68 @@ module _ (name : List ℕ) where
     further = subst (λ (l : List Record). Amid (map deed (front ++ back)) l done.0 w) (same_records name part rs) (parts_amid front back (part_records name part rs) done.0 mid w done.2 next);
   })
 
-  doing_amid : (parts : List Part) (rs : List Record) (v w : World) → AreDoing name parts rs v w → Amid (map deed parts) rs v w
+  doing_amid : (parts : List Part) (rs : List Record) (v w : World) → AreDoing name declined parts rs v w → Amid (map deed parts) rs v w
   doing_amid parts rs v w doing =
       subst (λ (l : List Part). Amid (map deed l) rs v w) (sym doing.are) (parts_amid doing.front doing.back rs v doing.mid w doing.done doing.next)
 
   -- and of stages
   module _ (entries : List Diversion) where
-    calling_amid : (restore : List Part) (h : Holding) (old : World) (so_far : List Event) (now : World) (table : List Record) → IsCalling name entries restore h old so_far now table → IsOpenable table now
+    -- steps at these paths were declined among these events
+    abbrev pub AreDeclined : List Event → Type 0
+    AreDeclined so_far = (p : Path) → IsDeniedIn so_far p → declined p
+
+    own_denied : (own more since before : List Event) (p : Path) → before ≡ own ++ more → AreDeclined (before ++ since) → IsDeniedIn own p → declined p
+    own_denied own more since before p are so is = so p (subst (λ (es : List Event). IsDeniedIn (es ++ since) p) (sym are) (denied_front (own ++ more) since p (denied_front own more p is)))
+
+    later_denied : (own more since before : List Event) (p : Path) → before ≡ own ++ more → AreDeclined (before ++ since) → IsDeniedIn (more ++ since) p → declined p
+    later_denied own more since before p are so is =
+        so p (subst (λ (es : List Event). IsDeniedIn (es ++ since) p) (sym are) (subst (λ es. IsDeniedIn es p) (sym (append_assoc own more since)) (denied_behind own (more ++ since) p is)))
+
+    calling_amid : (restore : List Part) (h : Holding) (old : World) (so_far : List Event) (now : World) (table : List Record) → AreDeclined so_far → IsCalling name entries restore h old so_far now table → IsOpenable table now
         → IsCalled (map deed restore) h.records old (changes_of so_far) now
-    calling_amid restore h old so_far now table (IsCalling.calling scripts is) opens = IsCalled.on_calls scripts.world (subst (HasRecords now) is opens.records)
-    calling_amid restore h old so_far now table (IsCalling.restoring calls after called are scripts quiet doing noted) opens =
+    calling_amid restore h old so_far now table so (IsCalling.calling scripts is) opens = IsCalled.on_calls scripts.world (subst (HasRecords now) is opens.records)
+    calling_amid restore h old so_far now table so (IsCalling.restoring calls after called are scripts quiet doing noted) opens =
         IsCalled.on_restore called
         (scripts.world
         ∙ ap (λ c. changed c old) (sym (ap changes_of are ∙ changes_of-append calls after ∙ ap (λ (c : Change). changes_of calls ++ c) (no_change after quiet) ∙ append-nil (changes_of calls))))
-        (doing_amid restore h.records called now doing)
+        (doing_amid restore h.records called now
+        (doing_wider name (IsDeniedIn after) declined (λ p is. so p (subst (λ es. IsDeniedIn es p) (sym are) (denied_behind calls after p is))) restore h.records called now doing))
 
-    inside_amid : (stage : Stage) (h : Holding) (old : World) (so_far : List Event) (now : World) (table : List Record) → IsInStage name entries stage h old so_far now table → IsOpenable table now
+    inside_amid : (stage : Stage) (h : Holding) (old : World) (so_far : List Event) (now : World) (table : List Record) → AreDeclined so_far → IsInStage name entries stage h old so_far now table → IsOpenable table now
         → IsInside (planned stage) h.records old (changes_of so_far) now
-    inside_amid stage h old so_far now table (IsInStage.doing quiet doing noted) opens = IsInside.in_parts (no_change so_far quiet) (doing_amid stage.parts.items h.records old now doing)
-    inside_amid stage h old so_far now table (IsInStage.behind before since ready are quiet done called) opens =
-        IsInside.in_calls ready (all_done stage.parts.items h.records old ready done)
+    inside_amid stage h old so_far now table so (IsInStage.doing quiet doing noted) opens =
+        IsInside.in_parts (no_change so_far quiet) (doing_amid stage.parts.items h.records old now (doing_wider name (IsDeniedIn so_far) declined so stage.parts.items h.records old now doing))
+    inside_amid stage h old so_far now table so (IsInStage.behind before since ready are quiet done called) opens =
+        IsInside.in_calls ready
+        (all_done stage.parts.items h.records old ready
+        (parts_wider name (IsDeniedIn before) declined (λ p is. so p (subst (λ es. IsDeniedIn es p) (sym are) (denied_front before since p is))) stage.parts.items h.records old ready done))
         (subst (λ (l : List Record). IsCalled (map deed stage.restore.items) l ready (changes_of so_far) now) (all_same_records name stage.parts.items h.records)
         (subst (λ (c : Change). IsCalled (map deed stage.restore.items) (parts_records name stage.parts.items h.records) ready c now)
         (sym (ap changes_of are ∙ changes_of-append before since ∙ ap (λ (c : Change). c ++ changes_of since) (no_change before quiet)))
-        (calling_amid stage.restore.items (after_parts name stage.parts.items h) ready since now table called opens)))
+        (calling_amid stage.restore.items (after_parts name stage.parts.items h) ready since now table (λ p is. so p (subst (λ es. IsDeniedIn es p) (sym are) (denied_behind before since p is))) called opens)))
 
     not_none : {X : Type 0} (stage : Stage) (rest : List Stage) → [] ≡ stage ∷ rest → X
     not_none stage rest e = absurd (let same : ◌≡◌ {A = List Stage} [] (stage ∷ rest) = e in cc)
 
-    next_amid : (back : List Stage) (h : Holding) (old : World) (so_far : List Event) (now : World) (table : List Record) → IsInNext name entries back h old so_far now table → IsOpenable table now
+    next_amid : (back : List Stage) (h : Holding) (old : World) (so_far : List Event) (now : World) (table : List Record) → AreDeclined so_far → IsInNext name entries back h old so_far now table → IsOpenable table now
         → AmidStages (map planned back) h.records old (changes_of so_far) now
-    next_amid [] h old so_far now table (IsInNext.between none same is) opens = record { none = ap changes_of none; same = same; records = subst (HasRecords now) is opens.records }
-    next_amid [] h old so_far now table (IsInNext.inside stage rest is amid) opens = not_none stage rest is
-    next_amid (s ∷ back) h old so_far now table (IsInNext.between none same is) opens = inl (record { none = ap changes_of none; same = same; records = subst (HasRecords now) is opens.records })
-    next_amid (s ∷ back) h old so_far now table (IsInNext.inside stage rest is amid) opens =
-        subst (λ (l : List Stage). AmidStages (map planned l) h.records old (changes_of so_far) now) (sym is) (inr (inl (inside_amid stage h old so_far now table amid opens)))
+    next_amid [] h old so_far now table so (IsInNext.between none same is) opens = record { none = ap changes_of none; same = same; records = subst (HasRecords now) is opens.records }
+    next_amid [] h old so_far now table so (IsInNext.inside stage rest is amid) opens = not_none stage rest is
+    next_amid (s ∷ back) h old so_far now table so (IsInNext.between none same is) opens = inl (record { none = ap changes_of none; same = same; records = subst (HasRecords now) is opens.records })
+    next_amid (s ∷ back) h old so_far now table so (IsInNext.inside stage rest is amid) opens =
+        subst (λ (l : List Stage). AmidStages (map planned l) h.records old (changes_of so_far) now) (sym is) (inr (inl (inside_amid stage h old so_far now table so amid opens)))
 
-    run_amid : (front back : List Stage) (h : Holding) (old : World) (before since : List Event) (reached now : World) (table : List Record) → ArePast name entries front h old before reached
+    run_amid : (front back : List Stage) (h : Holding) (old : World) (before since : List Event) (reached now : World) (table : List Record) → AreDeclined (before ++ since) → ArePast name entries front h old before reached
         → IsInNext name entries back (after_stages name front h) reached since now table → IsOpenable table now → AmidStages (map planned (front ++ back)) h.records old (changes_of (before ++ since)) now
-    run_amid [] back h old before since reached now table past next opens =
+    run_amid [] back h old before since reached now table so past next opens =
         subst (λ (c : List Event). AmidStages (map planned back) h.records old (changes_of (c ++ since)) now) (sym past.0)
-        (next_amid back h old since now table (subst (λ (x : World). IsInNext name entries back h x since now table) past.1 next) opens)
-    run_amid (s ∷ front) back h old before since reached now table past next opens =
+        (next_amid back h old since now table (λ p is. so p (denied_behind before since p is)) (subst (λ (x : World). IsInNext name entries back h x since now table) past.1 next) opens)
+    run_amid (s ∷ front) back h old before since reached now table so past next opens =
         let one = past.past in
         inr (inr (record {
           ready = one.ready;
-          done = all_done s.parts.items h.records old one.ready one.done;
+          done = all_done s.parts.items h.records old one.ready
+              (parts_wider name (IsDeniedIn one.before) declined (λ p is. own_denied past.own past.more since before p past.events so (subst (λ es. IsDeniedIn es p) (sym one.events) (denied_front one.before one.calls p is))) s.parts.items h.records old one.ready one.done);
           early = changes_of one.calls;
           late = changes_of (past.more ++ since);
           changes = ap (λ (l : List Event). changes_of (l ++ since)) past.events
@@ -215,12 +235,12 @@ module _ (name : List ℕ) where
               ∙ ap (λ (c : Change). changes_of one.calls ++ c) (sym (changes_of-append past.more since));
           further = subst (λ (x : World). AmidStages (map planned (front ++ back)) (deeds_records name (map deed s.parts.items) h.records) x (changes_of (past.more ++ since)) now) one.scripts.world
               (subst (λ (l : List Record). AmidStages (map planned (front ++ back)) l past.mid (changes_of (past.more ++ since)) now) (all_same_records name s.parts.items h.records)
-              (run_amid front back (after_parts name s.parts.items h) past.mid past.more since reached now table past.further next opens));
+              (run_amid front back (after_parts name s.parts.items h) past.mid past.more since reached now table (λ p is. later_denied past.own past.more since before p past.events so is) past.further next opens));
         }))
 
     -- at each moment of a run
-    pub stages_amid : (stages : List Stage) (h : Holding) (old : World) (so_far : List Event) (now : World) → AreRunning name entries stages h old so_far now → AmidStages (map planned stages) h.records old (changes_of so_far) now
-    stages_amid stages h old so_far now running =
+    pub stages_amid : (stages : List Stage) (h : Holding) (old : World) (so_far : List Event) (now : World) → AreDeclined so_far → AreRunning name entries stages h old so_far now → AmidStages (map planned stages) h.records old (changes_of so_far) now
+    stages_amid stages h old so_far now so running =
         subst (λ (l : List Stage). AmidStages (map planned l) h.records old (changes_of so_far) now) (sym running.are)
         (subst (λ (l : List Event). AmidStages (map planned (running.front ++ running.back)) h.records old (changes_of l) now) (sym running.events)
-        (run_amid running.front running.back h old running.before running.since running.reached now running.table running.past running.next running.opens))
+        (run_amid running.front running.back h old running.before running.since running.reached now running.table (λ p is. so p (subst (λ es. IsDeniedIn es p) (sym running.events) is)) running.past running.next running.opens))

@@ -1,5 +1,6 @@
 -- The records that the next opening finds, at each moment of stages.
 use Rattle.std.proofs.Common.{◌≡◌, ◌≢◌, inl, inr, ℕ, List, [], ◌∷◌, Option, Some, None, sym, subst, ◌∙◌}
+use Rattle.host_core.specs.Paths.{Path}
 use Rattle.host_core.specs.World.{World, Change, changed}
 use Rattle.status_db.specs.Held.{HasRecords}
 use Rattle.status_records.specs.Records.{record_in}
@@ -56,27 +57,27 @@ module _ (name : List ℕ) (first : List Record) (P : Option Record → Type 0) 
   stand : (rs : List Record) (now : World) → HasRecords now rs → IsGood rs → StandGood now
   stand rs now has good = record { table = rs; records = has; good = good }
 
-  pub amid_good : (ds : List Deed) (rs : List Record) (v w : World) → All NotesOwn ds → IsGood rs → Amid name ds rs v w → StandGood w
-  amid_good [] rs v w notes good over = stand rs w over.records good
-  amid_good (d ∷ ds) rs v w notes good (inl at) = elim at.records [
+  pub amid_good : (declined : Path → Type 0) (ds : List Deed) (rs : List Record) (v w : World) → All NotesOwn ds → IsGood rs → Amid name declined ds rs v w → StandGood w
+  amid_good declined [] rs v w notes good over = stand rs w over.records good
+  amid_good declined (d ∷ ds) rs v w notes good (inl at) = elim at.records [
     | inl before ↦ stand rs w before good
     | inr after ↦ stand (deed_records name d rs) w after (one_good d rs notes.0 good)
   ]
-  amid_good (d ∷ ds) rs v w notes good (inr behind) =
-      amid_good ds (deed_records name d rs) behind.mid w notes.1 (one_good d rs notes.0 good) behind.further
+  amid_good declined (d ∷ ds) rs v w notes good (inr behind) =
+      amid_good declined ds (deed_records name d rs) behind.mid w notes.1 (one_good d rs notes.0 good) behind.further
 
-  called_good : (restore : List Deed) (rs : List Record) (old : World) (change : Change) (now : World) → All NotesOwn restore → IsGood rs → IsCalled name restore rs old change now → StandGood now
-  called_good restore rs old change now notes good (IsCalled.on_calls same has) = stand rs now has good
-  called_good restore rs old change now notes good (IsCalled.on_restore called same amid) = amid_good restore rs called now notes good amid
+  called_good : (declined : Path → Type 0) (restore : List Deed) (rs : List Record) (old : World) (change : Change) (now : World) → All NotesOwn restore → IsGood rs → IsCalled name declined restore rs old change now → StandGood now
+  called_good declined restore rs old change now notes good (IsCalled.on_calls same has) = stand rs now has good
+  called_good declined restore rs old change now notes good (IsCalled.on_restore called same amid) = amid_good declined restore rs called now notes good amid
 
-  pub inside_good : (p : Planned) (rs : List Record) (old : World) (change : Change) (now : World) → All NotesOwn p.parts → All NotesOwn p.restore → IsGood rs → IsInside name p rs old change now → StandGood now
-  inside_good p rs old change now notes notes_then good (IsInside.in_parts none amid) = amid_good p.parts rs old now notes good amid
-  inside_good p rs old change now notes notes_then good (IsInside.in_calls ready done called) =
-      called_good p.restore (deeds_records name p.parts rs) ready change now notes_then (all_good p.parts rs notes good) called
+  pub inside_good : (declined : Path → Type 0) (p : Planned) (rs : List Record) (old : World) (change : Change) (now : World) → All NotesOwn p.parts → All NotesOwn p.restore → IsGood rs → IsInside name declined p rs old change now → StandGood now
+  inside_good declined p rs old change now notes notes_then good (IsInside.in_parts none amid) = amid_good declined p.parts rs old now notes good amid
+  inside_good declined p rs old change now notes notes_then good (IsInside.in_calls ready done called) =
+      called_good declined p.restore (deeds_records name p.parts rs) ready change now notes_then (all_good p.parts rs notes good) called
 
-  pub stages_good : (ps : List Planned) (rs : List Record) (old : World) (change : Change) (now : World) → AllIn NotesOwn ps → IsGood rs → AmidStages name ps rs old change now → StandGood now
-  stages_good [] rs old change now notes good is = stand rs now is.records good
-  stages_good (p ∷ ps) rs old change now notes good (inl is) = stand rs now is.records good
-  stages_good (p ∷ ps) rs old change now notes good (inr (inl inside)) = inside_good p rs old change now notes.0.0 notes.0.1 good inside
-  stages_good (p ∷ ps) rs old change now notes good (inr (inr passed)) =
-      stages_good ps (deeds_records name p.parts rs) (changed passed.early passed.ready) passed.late now notes.1 (all_good p.parts rs notes.0.0 good) passed.further
+  pub stages_good : (declined : Path → Type 0) (ps : List Planned) (rs : List Record) (old : World) (change : Change) (now : World) → AllIn NotesOwn ps → IsGood rs → AmidStages name declined ps rs old change now → StandGood now
+  stages_good declined [] rs old change now notes good is = stand rs now is.records good
+  stages_good declined (p ∷ ps) rs old change now notes good (inl is) = stand rs now is.records good
+  stages_good declined (p ∷ ps) rs old change now notes good (inr (inl inside)) = inside_good declined p rs old change now notes.0.0 notes.0.1 good inside
+  stages_good declined (p ∷ ps) rs old change now notes good (inr (inr passed)) =
+      stages_good declined ps (deeds_records name p.parts rs) (changed passed.early passed.ready) passed.late now notes.1 (all_good p.parts rs notes.0.0 good) passed.further

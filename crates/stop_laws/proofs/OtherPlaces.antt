@@ -29,8 +29,8 @@ use Rattle.removal_engine.specs.Records.{entry_paths}
 use Rattle.removal_engine.specs.Scripts.{stored_in}
 use Rattle.removal_engine.specs.Units.{Given, IsAmidUnit, IsRemovable}
 use Rattle.removal_engine.specs.declared.scripts.Stored.{Stored}
-use Rattle.stop_laws.specs.Left.{IsLeft}
-use Rattle.stop_laws.specs.Removing.{GoesWithFiles, GoesWithPurge, IsPurgedFrom, MayGo}
+use Rattle.stop_laws.specs.Left.{IsLeft, IsLeftOrGoing}
+use Rattle.stop_laws.specs.Removing.{GoesWithFiles, GoesWithPurge, IsListed, IsPurgedFrom, MayGo}
 use Rattle.stop_laws.proofs.Others.{others_avoided}
 use Rattle.stop_laws.proofs.Removals.{own_named, removal_left}
 
@@ -143,9 +143,10 @@ module _ (g : Given) (removable : IsRemovable g.extent g.before.records g.name) 
     never_goes (MayGo.with_purge purges c listed from (GoesWithPurge.directory is)) = not_leaving_of c (purged_named c listed from) [] (entry_paths c.conffiles) listed is
 
   module _ (out : is_within home_path q ≡ false) (old now : World) (so_far : List Event) where
-    scripted : IsLeft q (MayGo g removable.entry (stored_in g.name old) q) (changes_of so_far) old now → now q ≡ changed (changes_of so_far) old q
-    scripted (IsLeft.stood is) = is
-    scripted (IsLeft.went may early late are gone none is) = absurd (never_goes (stored_in g.name old) may)
+    scripted : IsLeftOrGoing q (MayGo g removable.entry (stored_in g.name old) q) (IsListed g removable.entry (stored_in g.name old) q) (changes_of so_far) old now → now q ≡ changed (changes_of so_far) old q
+    scripted (inl (IsLeft.stood is)) = is
+    scripted (inl (IsLeft.went may early late are gone none is)) = absurd (never_goes (stored_in g.name old) may)
+    scripted (inr (listed, going)) = absurd (never_goes (stored_in g.name old) (MayGo.with_files (GoesWithFiles.listed listed.0 listed.1 listed.2)))
 
     pub removal_keeps : IsAmidUnit g old so_far now → now q ≡ old q
     removal_keeps (inl looks) = ap (λ (w : World). w q) looks.0

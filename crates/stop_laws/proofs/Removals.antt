@@ -3,7 +3,7 @@ use Rattle.std.proofs.Common.{◌≡◌, ◌≢◌, ◌⊎◌, inl, inr, ℕ, Bo
 use Rattle.std.proofs.lemmas.Bool.{true≢false}
 use Rattle.host_core.specs.Paths.{Path, is_own}
 use Rattle.host_core.specs.World.{World, Avoids, changed}
-use Rattle.host_core.specs.Events.{Event, changes_of}
+use Rattle.host_core.specs.Events.{Event, IsDeniedIn, changes_of}
 use Rattle.host_core.proofs.Scripts.{no_change}
 use Rattle.host_core.specs.declared.node.Node.{Node}
 use Rattle.administration.specs.Places.{diversions_path, home_path, is_within, list_path}
@@ -35,14 +35,14 @@ use Rattle.removal_engine.specs.declared.scripts.Stored.{Stored}
 use Rattle.removal_engine.proofs.Elsewhere.{cleared_elsewhere, purged_elsewhere, waiting_elsewhere}
 use Rattle.removal_engine.proofs.Sparing.{leaving_spares}
 use Rattle.removal_engine.proofs.Tables.{is_named, one_record}
-use Rattle.stop_laws.specs.Left.{IsLeft}
-use Rattle.stop_laws.specs.Removing.{GoesWithFiles, GoesWithPurge, HasRecordsAmid, IsOwnList, IsOwnMember, IsOwnRecord, IsPurgedFrom, MayGo}
+use Rattle.stop_laws.specs.Left.{IsLeft, IsLeftOrGoing}
+use Rattle.stop_laws.specs.Removing.{GoesWithFiles, GoesWithPurge, HasRecordsAmid, IsListed, IsOwnList, IsOwnMember, IsOwnRecord, IsPurgedFrom, MayGo}
 use Rattle.stop_laws.proofs.Avoiding.{own_avoided}
 use Rattle.stop_laws.proofs.Moments.{AllIn, AmidStages, stages_amid}
 use Rattle.stop_laws.proofs.Noted.{NotesOwn, stages_good}
 use Rattle.stop_laws.proofs.Places.{beside_list, beside_member, beside_spare, outside_list, outside_member, outside_records, outside_spare, set_kept}
 use Rattle.stop_laws.proofs.RemovalStages.{OfEnds, OfFiles, OfPrerm, OfPurge, removal_all}
-use Rattle.stop_laws.proofs.Taken.{IsSet, Sets, stages_set}
+use Rattle.stop_laws.proofs.Taken.{IsSet, IsSetOrGoing, Sets, SetsOr, stages_going, stages_set}
 
 -- the scripts that are stored in a world are those
 are_those : (name : List ℕ) (w : World) (stored : Stored) → AreStored name w stored → stored ≡ stored_in name w
@@ -89,19 +89,22 @@ module _ (g : Given) (removable : IsRemovable g.extent g.before.records g.name) 
       abbrev Went : Option Node → Type 0
       Went there = MayGo g own stored q × (there ≡ None)
 
-      outside_listing : (paths : List Path) → Sets g.name q Went (Deed.Lists paths)
+      abbrev Lowers : Type 0
+      Lowers = IsListed g own stored q
+
+      outside_listing : (paths : List Path) → SetsOr g.name q Went Lowers (Deed.Lists paths)
       outside_listing paths = (outside_spare q out g.name, λ is. absurd (outside_list q out g.name is))
 
-      pub all_outside : AllIn (Sets g.name q Went) (stages_by stored to_come)
+      pub all_outside : AllIn (SetsOr g.name q Went Lowers) (stages_by stored to_come)
       all_outside =
           let unnoted = outside_records q out in
           let off = outside_list q out g.name in
-          of_each (Sets g.name q Went) stored to_come comes
+          of_each (SetsOr g.name q Went Lowers) stored to_come comes
           (record { left = unnoted; members = λ keep. inl (λ member is. outside_member q out g.name member); bare = outside_listing []; unlisted = λ is. absurd (off is); forgotten = unnoted })
           (record {
             losing = unnoted;
             waiting = λ is. (MayGo.with_files (GoesWithFiles.waiting is), refl);
-            files = λ is. (MayGo.with_files (GoesWithFiles.listed to_come comes is), refl);
+            files = λ is. ((MayGo.with_files (GoesWithFiles.listed to_come comes is), refl), (to_come, comes, is));
             names = λ is. (MayGo.with_files (GoesWithFiles.beside is), refl);
             listed = outside_listing to_come;
             lost = unnoted;
@@ -115,8 +118,8 @@ module _ (g : Given) (removable : IsRemovable g.extent g.before.records g.name) 
 
     -- places of the administration's directory: no path goes from there, no name is cleared
     module _ (q : Path) (V : Option Node → Type 0) (within : is_within home_path q ≡ true) (unnoted : is_record_place q ≡ false) where
-      no_leaving : (listed to_stay : List Path) (c : Record) → is_leaving_place (leaving_of g.entries g.before.lists c.name to_stay (entry_paths c.conffiles) listed) q ≡ true → V None
-      no_leaving listed to_stay c is =
+      no_leaving : (X : Type 0) (listed to_stay : List Path) (c : Record) → is_leaving_place (leaving_of g.entries g.before.lists c.name to_stay (entry_paths c.conffiles) listed) q ≡ true → X
+      no_leaving X listed to_stay c is =
           absurd (true≢false (sym is ∙ no_leaving_place (leaving_of g.entries g.before.lists c.name to_stay (entry_paths c.conffiles) listed) q (leaving_spares g.entries g.before.lists c.name to_stay (entry_paths c.conffiles) listed) within))
 
       no_name : (names : List Path) → AreElsewhere names → is_among names q ≡ true → V None
@@ -129,7 +132,7 @@ module _ (g : Given) (removable : IsRemovable g.extent g.before.records g.name) 
           (record {
             losing = unnoted;
             waiting = no_name (waiting_names g.entries own.name own.pending) (waiting_elsewhere g.entries own.name own.pending);
-            files = no_leaving (paths_of g.before.lists own.name) to_come own;
+            files = no_leaving (V None × ⊥) (paths_of g.before.lists own.name) to_come own;
             names = no_name (cleared_names g.entries g.before.lists own) (cleared_elsewhere g.entries g.before.lists own);
             listed = listing to_come (inr comes);
             lost = unnoted;
@@ -138,7 +141,7 @@ module _ (g : Given) (removable : IsRemovable g.extent g.before.records g.name) 
           (λ purges c listed from. record {
             noted = unnoted;
             names = no_name (purged_names g.entries g.before.lists c) (purged_elsewhere g.entries g.before.lists c);
-            directories = no_leaving listed [] c;
+            directories = no_leaving (V None) listed [] c;
           })
 
   -- at each moment of a planned unit
@@ -158,32 +161,37 @@ module _ (g : Given) (removable : IsRemovable g.extent g.before.records g.name) 
     pub comes_then : IsToCome own stored_then list_then
     comes_then = subst (λ (s : Stored). IsToCome own s list_then) stored_is (subst (λ (e : Record). IsToCome e amid.plan.plan.stored list_then) entry_is amid.plan.plan.comes)
 
-    pub amid_at : AmidStages g.name (stages_by stored_then list_then) g.before.records old (changes_of so_far) now
-    amid_at = subst (λ (ps : List Planned). AmidStages g.name ps g.before.records old (changes_of so_far) now)
+    pub amid_at : AmidStages g.name (IsDeniedIn so_far) (stages_by stored_then list_then) g.before.records old (changes_of so_far) now
+    amid_at = subst (λ (ps : List Planned). AmidStages g.name (IsDeniedIn so_far) ps g.before.records old (changes_of so_far) now)
         (amid.plan.plan.are ∙ ap (λ (e : Record). removal_stages g.entries g.before.lists g.extent e amid.plan.plan.stored list_then) entry_is
         ∙ ap (λ (s : Stored). stages_by s list_then) stored_is)
-        (stages_amid g.name g.entries amid.stages g.before old so_far now amid.running)
+        (stages_amid g.name (IsDeniedIn so_far) g.entries amid.stages g.before old so_far now (λ p is. is) amid.running)
 
     pub avoided : Avoids is_own (changes_of so_far)
     avoided = own_avoided g.name g.entries amid.stages g.before old so_far now amid.running
 
     records_amid : HasRecordsAmid g own stored_then now
     records_amid =
-        let standing = stages_good g.name g.before.records (IsOwnRecord g own stored_then) (stages_by stored_then list_then) g.before.records old (changes_of so_far) now
+        let standing = stages_good g.name g.before.records (IsOwnRecord g own stored_then) (IsDeniedIn so_far) (stages_by stored_then list_then) g.before.records old (changes_of so_far) now
         (all_noted stored_then list_then comes_then) (record { own = IsOwnRecord.stayed removable.found; others = λ q other. refl }) amid_at in
         record { table = standing.table; records = standing.records; opens = amid.running.opens.opens; own = standing.good.own; others = standing.good.others }
 
-    left_amid : (q : Path) → is_within home_path q ≡ false → IsLeft q (MayGo g own stored_then q) (changes_of so_far) old now
-    left_amid q out = by (stages_set g.name q (Went stored_then list_then comes_then q out) (stages_by stored_then list_then) g.before.records old (changes_of so_far) now (all_outside stored_then list_then comes_then q out) amid_at)
+    left_amid : (q : Path) → is_within home_path q ≡ false → IsLeftOrGoing q (MayGo g own stored_then q) (IsListed g own stored_then q) (changes_of so_far) old now
+    left_amid q out = so (stages_going g.name q (Went stored_then list_then comes_then q out) (IsListed g own stored_then q) (IsDeniedIn so_far) (stages_by stored_then list_then) g.before.records old (changes_of so_far) now (all_outside stored_then list_then comes_then q out) amid_at)
       where
-        by : IsSet g.name q (Went stored_then list_then comes_then q out) (changes_of so_far) old now → IsLeft q (MayGo g own stored_then q) (changes_of so_far) old now
-        by (IsSet.stood is) = IsLeft.stood is
-        by (IsSet.left early late are mid has is) = IsLeft.went has.0 early late are mid has.1 is
+        by : (w : World) → IsSet g.name q (Went stored_then list_then comes_then q out) (changes_of so_far) old w → IsLeft q (MayGo g own stored_then q) (changes_of so_far) old w
+        by w (IsSet.stood is) = IsLeft.stood is
+        by w (IsSet.left early late are mid has is) = IsLeft.went has.0 early late are mid has.1 is
+
+        so : IsSetOrGoing g.name q (Went stored_then list_then comes_then q out) (IsListed g own stored_then q) (changes_of so_far) old now
+            → IsLeftOrGoing q (MayGo g own stored_then q) (IsListed g own stored_then q) (changes_of so_far) old now
+        so (inl is) = inl (by now is)
+        so (inr going) = inr (going.0, (going.1.0, by going.1.0 going.1.1, going.1.2))
 
     -- a place of the administration that scripts leave alone
     module _ (q : Path) (V : Option Node → Type 0) (mine : is_own q ≡ true) where
       by_deeds : AllIn (Sets g.name q V) (stages_by stored_then list_then) → (now q ≡ old q) ⊎ ((mid : World) × V (mid q) × (now q ≡ mid q))
-      by_deeds sets = set_kept g.name q V is_own mine (changes_of so_far) old now avoided (stages_set g.name q V (stages_by stored_then list_then) g.before.records old (changes_of so_far) now sets amid_at)
+      by_deeds sets = set_kept g.name q V is_own mine (changes_of so_far) old now avoided (stages_set g.name q V (IsDeniedIn so_far) (stages_by stored_then list_then) g.before.records old (changes_of so_far) now sets amid_at)
 
       pub value_amid : AllIn (Sets g.name q V) (stages_by stored_then list_then) → (now q ≡ old q) ⊎ V (now q)
       value_amid sets = elim (by_deeds sets) [ inl same ↦ inl same | inr is ↦ inr (subst V (sym is.2) is.1) ]
@@ -261,8 +269,8 @@ module _ (g : Given) (removable : IsRemovable g.extent g.before.records g.name) 
     })
     removal_records d order same (inr amid) = records_amid old now so_far amid
 
-    pub removal_left : (q : Path) → is_within home_path q ≡ false → IsAmidUnit g old so_far now → IsLeft q (MayGo g own (stored_in g.name old) q) (changes_of so_far) old now
-    removal_left q out (inl looks) = IsLeft.stood (ap (λ (w : World). w q) looks.0 ∙ ap (λ c. changed c old q) (sym (no_change so_far looks.1)))
+    pub removal_left : (q : Path) → is_within home_path q ≡ false → IsAmidUnit g old so_far now → IsLeftOrGoing q (MayGo g own (stored_in g.name old) q) (IsListed g own (stored_in g.name old) q) (changes_of so_far) old now
+    removal_left q out (inl looks) = inl (IsLeft.stood (ap (λ (w : World). w q) looks.0 ∙ ap (λ c. changed c old q) (sym (no_change so_far looks.1))))
     removal_left q out (inr amid) = left_amid old now so_far amid q out
 
     pub removal_other_list : (q : List ℕ) → q ≢ g.name → IsAmidUnit g old so_far now → now (list_path q) ≡ old (list_path q)

@@ -2,7 +2,7 @@
 -- administration's directory (Policy 6.8).
 use Rattle.std.specs.Prelude.{◌≡◌, ◌⊎◌, false, List, ◌++◌, Option, Some, None}
 use Rattle.host_core.specs.Paths.{Path}
-use Rattle.host_core.specs.World.{World, Change, changed}
+use Rattle.host_core.specs.World.{World, Change, changed, lowered}
 use Rattle.administration.specs.Places.{home_path, is_within}
 use Rattle.file_lists.specs.Owners.{paths_of}
 use Rattle.file_removal.specs.Clearing.{Cleared}
@@ -16,7 +16,7 @@ use Rattle.removal_engine.specs.Units.{Given}
 use Rattle.removal_engine.specs.declared.extent.Extent.TheVariants.{Purge}
 use Rattle.removal_engine.specs.declared.scripts.Stored.{Stored}
 use Rattle.stop_laws.specs.Left.{IsLeft, IsRecorded, IsScripted}
-use Rattle.stop_laws.specs.Removing.{GoesWithFiles, GoesWithPurge}
+use Rattle.stop_laws.specs.Removing.{GoesWithFiles, GoesWithPurge, IsListed}
 
 -- the record as it was found, or as the prerm left it
 abbrev pub IsFirstRecord : Record → Option Record → Type 0
@@ -34,15 +34,17 @@ IsLostRecord r o = (o ≡ Some (without_files r)) ⊎ ((o ≡ Some (config_files
 abbrev pub IsPurgedRecord : Record → Option Record → Type 0
 IsPurgedRecord c o = (o ≡ Some (purged c)) ⊎ (o ≡ None)
 
-module _ (g : Given) (r : Record) (stored : Stored) where
-  -- the package's files have gone from a world: what waits to be settled, the listed paths, and then the names beside them
+-- of a unit in which steps at these paths were declined so far
+module _ (g : Given) (r : Record) (stored : Stored) (declined : Path → Type 0) where
+  -- The package's files have gone from a world: what waits to be settled, the listed paths, and then the names beside them. A directory
+  -- stayed only where its removal was declined, or something was left below it.
   pub record HaveGone (before gone : World) : Type 0 where
     pub to_come : List Path
     pub comes : IsToCome r stored to_come
     pub first : World
     pub waiting : Cleared (waiting_names g.entries r.name r.pending) before first
     pub mid : World
-    pub removed : Removed (leaving_files g.entries g.before.lists r to_come) first mid
+    pub removed : Removed declined (leaving_files g.entries g.before.lists r to_come) first mid
     pub cleared : Cleared (cleared_names g.entries g.before.lists r) mid gone
 
   module _ (old : World) where
@@ -63,9 +65,11 @@ module _ (g : Given) (r : Record) (stored : Stored) where
       found : r.state ≡ ConfigFiles → c ≡ r → listed ≡ paths_of g.before.lists r.name → IsScripted change old begun → HasBegunPurge c listed change begun
       left : c ≡ config_files r → IsToCome r stored listed → HasLost change begun → HasBegunPurge c listed change begun
 
-    -- what stands there while files go: what scripts made of what stood there, or nothing where something goes with the files
+    -- what stands there while files go: what scripts made of what stood there, or nothing where something goes with the files; or, of a
+    -- listed path, the same file lending no rights any more
     abbrev pub IsLosing : Change → World → Type 0
-    IsLosing change now = (q : Path) → is_within home_path q ≡ false → (now q ≡ changed change old q) ⊎ (GoesWithFiles g r stored q × (now q ≡ None))
+    IsLosing change now = (q : Path) → is_within home_path q ≡ false → (now q ≡ changed change old q)
+        ⊎ ((GoesWithFiles g r stored q × (now q ≡ None)) ⊎ (IsListed g r stored q × (now q ≡ lowered (changed change old q))))
 
     -- Nothing has gone; or files are going, and the package is marked; or they are gone; or a purge takes conffiles and directories away,
     -- until the record goes.

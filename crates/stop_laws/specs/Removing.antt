@@ -28,6 +28,10 @@ module _ (g : Given) (r : Record) (stored : Stored) where
     beside : is_among (cleared_names g.entries g.before.lists r) q ≡ true → GoesWithFiles q
     waiting : is_among (waiting_names g.entries r.name r.pending) q ≡ true → GoesWithFiles q
 
+  -- a listed path that goes with the files
+  abbrev pub IsListed : Path → Type 0
+  IsListed q = (to_come : List Path) × IsToCome r stored to_come × (is_leaving_place (leaving_files g.entries g.before.lists r to_come) q ≡ true)
+
   -- with which record and list a purge begins: those that it finds of a removed package, or those that the removal left
   pub data IsPurgedFrom (c : Record) (listed : List Path) : Type 0 where
     found : r.state ≡ ConfigFiles → c ≡ r → listed ≡ paths_of g.before.lists r.name → IsPurgedFrom c listed

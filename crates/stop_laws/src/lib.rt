@@ -7,9 +7,10 @@
 //! Of each path what may stand there at a moment of configuring, of a removal or a purge, and of a
 //! disappearance, as it follows from the clause `any_moment` of the engines: the records that the
 //! next opening finds, the package's own list and control files, those of other packages, and what
-//! stands anywhere else. Each script that configuring, a removal or a purge calls was stored with
-//! the package when the unit began, and its file is as it was then as long as the unit is to call
-//! it.
+//! stands anywhere else; a file that a removal takes away lends no rights before it goes, and a
+//! directory stays where its removal was declined. Each script that configuring, a removal or a
+//! purge calls was stored with the package when the unit began, and its file is as it was then as
+//! long as the unit is to call it.
 #![tactic(auto)]
 
 mod called;

@@ -1,2 +1,3 @@
 pub mod Rearranged
 pub mod Answered
+pub mod Nowhere

@@ -91,6 +91,16 @@ pub(crate) fn denied_last(host: &MemoryHost) -> Option<&RootPath> {
     }
 }
 
+// Where the first step was declined, if one was.
+pub(crate) fn denied_first(host: &MemoryHost) -> Result<Option<RootPath>, AllocError> {
+    for done in host.events() {
+        if let Done::Denied(path) = done {
+            return Ok(Some(path.copy()?));
+        }
+    }
+    Ok(None)
+}
+
 // Whether the device has failed once, and nothing was done after that.
 pub(crate) fn ends_with_fault(host: &MemoryHost) -> bool {
     match host.events().split_last() {

@@ -15,7 +15,7 @@ use crate::unpacking::unpack_files;
 use diversions::Diversions;
 use file_check::{check, shipped_work};
 use file_lists::FileLists;
-use file_removal::{Leaving, clear_names, remove_directories, remove_owned};
+use file_removal::{Leaving, clear_names, remove_directories, remove_owned, retire_names};
 use host_core::{HostFault, Node, RootPath, ShipPath};
 use host_memory::MemoryHost;
 use package_files::{Work, put_back_files};
@@ -46,13 +46,14 @@ pub(crate) struct Removal {
     pub(crate) names: &'static [&'static str],
 }
 
-// What is done: files are written, or written whole and then put back; paths go, and then names; or names, and then
-// directories.
+// What is done: files are written, or written whole and then put back; paths go, and then names; names, and then
+// directories; or old paths, and then backups.
 pub(crate) enum Act {
     Write(&'static Package),
     PutBack(&'static Package),
     Remove(&'static Removal),
     Purge(&'static Removal),
+    Commit(&'static Removal),
 }
 
 #[derive(Drop)]
@@ -272,6 +273,14 @@ fn purge(alloc: Global, host: &mut MemoryHost, removal: &Removal) -> Result<(), 
     remove_directories(host, leaving.as_slice())
 }
 
+// The paths that may go, and then what stands at the names of backups.
+fn commit(alloc: Global, host: &mut MemoryHost, removal: &Removal) -> Result<(), HostFault> {
+    let leaving = leaving_of(alloc, removal.paths)?;
+    let names = paths_of(alloc, removal.names)?;
+    remove_owned(host, leaving.as_slice())?;
+    retire_names(host, names.as_slice())
+}
+
 // Does it, broken off so. The answer is the step fault, if the files have one.
 pub(crate) fn perform(
     alloc: Global,
@@ -290,6 +299,11 @@ pub(crate) fn perform(
         Act::Purge(removal) => {
             plan(host, how)?;
             purge(alloc, host, removal)?;
+            Ok(None)
+        }
+        Act::Commit(removal) => {
+            plan(host, how)?;
+            commit(alloc, host, removal)?;
             Ok(None)
         }
     }

@@ -1,7 +1,8 @@
 // The files of a package are written, put back or taken away, which is broken off at each step in turn, and what is found then
 // is judged.
 use crate::breaking::{
-    Break, EFFECTS, FILLS, LIMIT, Loss, Ran, denied_last, ends_with_fault, how_it_ran, recovered,
+    Break, EFFECTS, FILLS, LIMIT, Loss, Ran, denied_first, denied_last, ends_with_fault,
+    how_it_ran, recovered,
 };
 use crate::file_acts::{Act, perform};
 use crate::root::{Thing, judge_things, root_of, text_at};
@@ -62,15 +63,25 @@ pub(crate) fn judge_pairs(
     Ok(())
 }
 
-// Adds a line where a fault or a denial isn't told, or one is that didn't come, or something was done after it.
+// Whether the step that was declined is the removal of a directory, which stays: all else is done.
+fn is_directory_kept(alloc: Global, host: &mut MemoryHost) -> Result<bool, AllocError> {
+    match denied_first(host)? {
+        Some(path) => Ok(text_at(alloc, host, path.as_str())?.as_str() == "/"),
+        None => Ok(false),
+    }
+}
+
+// Adds a line where a fault or a denial isn't told, but that of a directory's removal, or one is that didn't come, or something
+// was done after it.
 fn judge_answer(
-    host: &MemoryHost,
+    alloc: Global,
+    host: &mut MemoryHost,
     answer: &Result<Option<StepFault>, HostFault>,
     met: bool,
     text: &mut String,
 ) -> Result<(), AllocError> {
     let as_it_is = match answer {
-        Ok(None) => !met,
+        Ok(None) => !met || is_directory_kept(alloc, host)?,
         Ok(Some(_)) => false,
         Err(HostFault::Device) => met && ends_with_fault(host),
         Err(HostFault::Declined) => met && denied_last(host).is_some(),
@@ -119,7 +130,7 @@ fn run(
     let mut host = root_of(alloc, row.there)?;
     let answer = perform(alloc, &mut host, &row.act, how);
     let ran = how_it_ran(&host);
-    judge_answer(&host, &answer, ran.met, text)?;
+    judge_answer(alloc, &mut host, &answer, ran.met, text)?;
     let mut host = recovered(host, loss)?;
     judge(alloc, &mut host, row, ran.met || loss.is_some(), text)?;
     Ok(ran)

@@ -6,6 +6,7 @@ ghost use Rattle.host_core.specs.Paths.{is_path};
 ghost use Rattle.host_core.specs.World.{IsDirectory, IsFile};
 ghost use Rattle.administration.specs.Files.{NoDirectory};
 ghost use Rattle.administration.specs.Places.{temporary};
+ghost use Rattle.tests_steps.specs.Nowhere.{nowhere, nowhere_own};
 ghost use Rattle.undo_rows.specs.Place.{is_declined};
 ghost use Rattle.undo_rows.specs.Stops.{AtEachStop};
 
@@ -193,6 +194,10 @@ impl<H: Host> Around<H> for Noting {
     ghost file_step_fault = { λ t ts fault. Unit {0} };
 
     ghost stops = { λ t es w. Unit {0} };
+
+    ghost area = { nowhere };
+
+    ghost own = { nowhere_own };
 
     ghost at = { λ a s p. Unit {0} };
 

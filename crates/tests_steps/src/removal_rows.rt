@@ -1,9 +1,11 @@
 // The files of a removal and of the purge behind it, broken off at each step (Policy 6.8).
-use crate::file_acts::{Act, Package, Removal, Ships};
+use crate::breaking::Break;
+use crate::file_acts::{Act, Package, Removal, Ships, perform};
 use crate::file_breaking::{
     Found, Row, break_at_each_step, decline_each_step, fail_at_each_read, lose_at_each_step,
 };
-use crate::root::Thing;
+use crate::root::{Thing, judge_things, root_of};
+use std::alloc::{AllocError, Global};
 use std::test::Fail;
 
 const INSTALLED: &[Thing] = &[
@@ -141,6 +143,67 @@ const OF_BACKUP: Row = Row {
     left_again: &[("/usr", "/"), ("/usr/x", "new"), ("/usr.dpkg-tmp", "")],
 };
 
+// A file that lends its owner's rights lends none any more before it goes, and the directories above it go behind it.
+const LENDING: Removal = Removal {
+    paths: &[("/opt", true), ("/opt/z", true), ("/opt/z/su", true)],
+    names: &[],
+};
+
+const OF_LENDING: Row = Row {
+    there: &[("/opt/z/su", "!s"), ("/srv/su", "!t")],
+    act: Act::Remove(&LENDING),
+    left: &[
+        ("/opt", ""),
+        ("/opt/z", ""),
+        ("/opt/z/su", ""),
+        ("/srv/su", "!t"),
+    ],
+    found: &[
+        (
+            ("/opt/z", "/opt/z/su"),
+            &[("/", "!s"), ("/", "s"), ("/", ""), ("", "")],
+        ),
+        (("/opt", "/srv/su"), &[("/", "!t"), ("", "!t")]),
+    ],
+    again: Act::Remove(&LENDING),
+    left_again: &[
+        ("/opt", ""),
+        ("/opt/z", ""),
+        ("/opt/z/su", ""),
+        ("/srv/su", "!t"),
+    ],
+};
+
+// Of backups that lend rights the same is found; a directory at such a name stays.
+const BACKUPS: Removal = Removal {
+    paths: &[],
+    names: &["/usr/su.dpkg-tmp", "/usr/d.dpkg-tmp"],
+};
+
+const OF_BACKUPS: Row = Row {
+    there: &[
+        ("/usr/su", "!new"),
+        ("/usr/su.dpkg-tmp", "!old"),
+        ("/usr/d.dpkg-tmp", "/"),
+    ],
+    act: Act::Commit(&BACKUPS),
+    left: &[
+        ("/usr/su", "!new"),
+        ("/usr/su.dpkg-tmp", ""),
+        ("/usr/d.dpkg-tmp", "/"),
+    ],
+    found: &[(
+        ("/usr/su", "/usr/su.dpkg-tmp"),
+        &[("!new", "!old"), ("!new", "old"), ("!new", "")],
+    )],
+    again: Act::Commit(&BACKUPS),
+    left_again: &[
+        ("/usr/su", "!new"),
+        ("/usr/su.dpkg-tmp", ""),
+        ("/usr/d.dpkg-tmp", "/"),
+    ],
+};
+
 fn break_off(rt: &(impl std::process::Abort + AllocGlobal), row: &Row) -> Result<(), Fail> {
     break_at_each_step(rt, row)?;
     decline_each_step(rt, row)?;
@@ -161,4 +224,35 @@ fn breaks_within_a_purge(rt: HostRuntime) -> Result<(), Fail> {
 #[test]
 fn breaks_within_the_end_of_a_backup(rt: HostRuntime) -> Result<(), Fail> {
     break_off(&rt, &OF_BACKUP)
+}
+
+#[test]
+fn breaks_within_the_removal_of_a_file_that_lends_rights(rt: HostRuntime) -> Result<(), Fail> {
+    break_off(&rt, &OF_LENDING)
+}
+
+#[test]
+fn breaks_within_the_end_of_backups_that_lend_rights(rt: HostRuntime) -> Result<(), Fail> {
+    break_off(&rt, &OF_BACKUPS)
+}
+
+// Only the directory whose removal is declined stays, and what is above it.
+fn judge_kept(alloc: Global, row: &Row) -> Result<String, AllocError> {
+    let mut host = root_of(alloc, row.there)?;
+    let mut text = String::new(alloc);
+    match perform(alloc, &mut host, &row.act, Break::Decline(2)) {
+        Ok(None) if host.denials() == 1 => {}
+        _ => text.push_str("another answer\n")?,
+    }
+    judge_things(alloc, &mut host, KEPT, &mut text)?;
+    Ok(text)
+}
+
+const KEPT: &[Thing] = &[("/opt", "/"), ("/opt/z", "/"), ("/opt/z/su", "")];
+
+#[test]
+fn a_directory_whose_removal_is_declined_stays(rt: HostRuntime) -> Result<(), Fail> {
+    let text = judge_kept(rt.alloc(), &OF_LENDING)?;
+    assert!(rt; text.is_empty(), "{text}");
+    Ok(())
 }

@@ -8,8 +8,8 @@ use std::alloc::{AllocError, Global};
 use std::str;
 use texts::Text;
 
-// A path, and what stands there: a file by what it holds, a directory as `/`, a link as `@` with its target, and the empty
-// text where nothing stands.
+// A path, and what stands there: a file by what it holds, behind a `!` if it lends its owner's rights, a directory as `/`, a
+// link as `@` with its target, and the empty text where nothing stands.
 pub(crate) type Thing = (&'static str, &'static str);
 
 pub(crate) fn path_of(alloc: Global, text: &str) -> Result<RootPath, AllocError> {
@@ -34,6 +34,13 @@ pub(crate) fn file(alloc: Global, text: &str) -> Result<Node, AllocError>
     Ok(Node::File { bytes, access })
 }
 
+// A file that lends its owner's rights.
+fn lending(alloc: Global, text: &str) -> Result<Node, AllocError> {
+    let bytes = Content::from_slice(alloc, text.as_bytes())?;
+    let access = Access::own(0o4755);
+    Ok(Node::File { bytes, access })
+}
+
 pub(crate) fn directory() -> Node {
     let access = Access::own(0o755);
     Node::Dir { access }
@@ -48,8 +55,11 @@ fn node_of(alloc: Global, text: &str) -> Result<Node, AllocError> {
     if text == "/" {
         return Ok(directory());
     }
-    match text.strip_prefix("@") {
-        Some(target) => link(alloc, target),
+    if let Some(target) = text.strip_prefix("@") {
+        return link(alloc, target);
+    }
+    match text.strip_prefix("!") {
+        Some(text) => lending(alloc, text),
         None => file(alloc, text),
     }
 }
@@ -67,6 +77,15 @@ fn text_of(bytes: &[u8]) -> &str {
     str::from_utf8(bytes).unwrap_or("bytes that are no text")
 }
 
+fn filed(alloc: Global, text: &str, access: Access) -> Result<String, AllocError> {
+    let mut filed = String::new(alloc);
+    if access.mode & 0o6000 != 0 {
+        filed.push_str("!")?;
+    }
+    filed.push_str(text)?;
+    Ok(filed)
+}
+
 fn linked(alloc: Global, target: &str) -> Result<String, AllocError> {
     let mut text = String::from_str(alloc, "@")?;
     text.push_str(target)?;
@@ -80,7 +99,9 @@ pub(crate) fn text_at(
     path: &str,
 ) -> Result<String, AllocError> {
     match host.node(&path_of(alloc, path)?) {
-        Ok(Some(Node::File { bytes, .. })) => String::from_str(alloc, text_of(bytes.as_slice())),
+        Ok(Some(Node::File { bytes, access })) => {
+            filed(alloc, text_of(bytes.as_slice()), access)
+        }
         Ok(Some(Node::Dir { .. })) => String::from_str(alloc, "/"),
         Ok(Some(Node::Link { target })) => linked(alloc, target.as_str()),
         Ok(None) => Ok(String::new(alloc)),

@@ -65,6 +65,7 @@ fn step(
         "remove" => host.remove(one),
         "remove_dir" => host.remove_dir(one),
         "sync" => host.sync(one),
+        "lower" => host.lower(one),
         _ => host.barrier(),
     }
 }

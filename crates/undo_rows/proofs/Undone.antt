@@ -4,7 +4,7 @@ use Rattle.std.proofs.lemmas.List.Elements.{Contains-append_cases, Contains-appe
 use Rattle.std.proofs.lemmas.Slice.Eq.{bytes_eq-Decides}
 use Rattle.std.proofs.lemmas.Bool.{true≢false}
 use Rattle.std.proofs.lemmas.Bool.Decides.{eqb_tells}
-use Rattle.std.proofs.lemmas.List.{append-nil, length-take-le, take-append-drop}
+use Rattle.std.proofs.lemmas.List.{append-nil, drop_all, length-take-le, take-append-drop}
 use Rattle.std.specs.Str.{bytes_eq}
 use Rattle.std.proofs.Math.Seq.{drop-cons}
 use Rattle.std.proofs.Math.Numerals.{add-one}
@@ -120,3 +120,7 @@ pub may_unwind : (rows : List Row) → (ts : List Ran) × MayUnwind rows ts
 may_unwind rows =
     let all = undoes_front 0 rows [] [] [] (refl, refl) in
     (all.0, (all.1, subst (λ l. UndoesAll 0 l all.0 all.1) (append-nil rows) all.2))
+
+-- none of them is undone yet
+pub none_undone : (rows : List Row) (failed : List Failed) → failed ≡ [] → UndoesAll (length rows) (drop (length rows) rows) [] failed
+none_undone rows failed none = subst (λ (l : List Row). UndoesAll (length rows) l [] failed) (sym (drop_all (length rows) rows (omega arith))) (refl, none)

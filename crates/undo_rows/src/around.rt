@@ -1,9 +1,10 @@
 // What is done beside the calls of rows.
-ghost use Rattle.std.specs.Prelude.{◌≡◌, ◌≢◌, ℕ, ◌+◌, List, ◌++◌, Option, IfOk, OnOk, IsTrue};
-ghost use Rattle.host_core.specs.Paths.{Path};
+ghost use Rattle.std.specs.Prelude.{◌≡◌, ◌≢◌, ℕ, ◌+◌, Bool, true, List, ◌++◌, Option, IfOk, OnOk, IsTrue};
+ghost use Rattle.host_core.specs.Paths.{Path, is_own};
 ghost use Rattle.host_core.specs.World.{World, is_kept};
 ghost use Rattle.host_core.specs.Events.{Event, Ran};
 ghost use Rattle.host_core.specs.Host.{Calls, Counts, OnlyScripts, Silent, State, calls};
+ghost use Rattle.scattered_losses.specs.Apart.{WorksApart};
 ghost use Rattle.undo_rows.specs.declared.rows.Row.{Row};
 ghost use Rattle.undo_rows.specs.declared.rows.Owner.TheVariants.{Files};
 ghost use Rattle.undo_rows.specs.declared.fall.StepFault.{StepFault};
@@ -42,6 +43,10 @@ pub trait Around<H: Host> {
     /// What holds at a place of the run.
     ghost at: { Self → State → Place → Type 0 };
 
+    /// The names that change apart from all others, between two barriers the ones or the others:
+    /// those of what is noted.
+    ghost area: { Path → Bool };
+
     fn places(&self) -> &Places
         ensures { result.now ≡ kept self.now };
 
@@ -55,6 +60,7 @@ pub trait Around<H: Host> {
             (H.state host.new) }
         ensures task { task self.new ≡ task self.old }
         ensures reference { reference self.new ≡ reference self.old }
+        ensures apart { WorksApart result area (H.state host.old) (H.state host.new) }
         ensures silent { Silent (H.state host.old) (H.state host.new) }
         ensures counts { Counts (H.state host.old) (H.state host.new) result };
 
@@ -74,6 +80,7 @@ pub trait Around<H: Host> {
             (H.state host.new) }
         ensures task { task self.new ≡ task self.old }
         ensures reference { reference self.new ≡ reference self.old }
+        ensures apart { WorksApart result area (H.state host.old) (H.state host.new) }
         ensures silent { Silent (H.state host.old) (H.state host.new) }
         ensures counts { Counts (H.state host.old) (H.state host.new) result };
 
@@ -97,6 +104,7 @@ pub trait Around<H: Host> {
             (H.state host.new) }
         ensures task { task self.new ≡ task self.old }
         ensures reference { reference self.new ≡ reference self.old }
+        ensures apart { WorksApart result area (H.state host.old) (H.state host.new) }
         ensures silent { Silent (H.state host.old) (H.state host.new) }
         ensures counts { Counts (H.state host.old) (H.state host.new) result };
 
@@ -120,6 +128,7 @@ pub trait Around<H: Host> {
             (H.state host.new) }
         ensures task { task self.new ≡ task self.old }
         ensures reference { reference self.new ≡ reference self.old }
+        ensures apart { WorksApart result area (H.state host.old) (H.state host.new) }
         ensures silent { Silent (H.state host.old) (H.state host.new) }
         ensures counts { Counts (H.state host.old) (H.state host.new) result };
 
@@ -141,8 +150,12 @@ pub trait Around<H: Host> {
             (H.state host.new) }
         ensures task { task self.new ≡ task self.old }
         ensures reference { reference self.new ≡ reference self.old }
+        ensures apart { WorksApart result area (H.state host.old) (H.state host.new) }
         ensures silent { Silent (H.state host.old) (H.state host.new) }
         ensures counts { Counts (H.state host.old) (H.state host.new) result };
+
+    /// Scripts leave these names alone.
+    ghost own: { (q : Path) → area q ≡ true → is_own q ≡ true };
 
     /// Script calls lead to no other place.
     ghost stays: { (a : Self) (s t : State) (p : Place) (ts : List Ran) → at a s p

@@ -14,6 +14,10 @@
 //! another and an unwind are a legal run (`steps_and_an_unwind_are_a_run`), and what is broken off
 //! has made the first calls of one (`what_is_broken_off_begins_a_run`).
 //!
+//! The names of an area of the engine's own (`Around::area`: those of what it notes) change apart
+//! from all others through steps and unwinding, if each of its parts keeps to that (`apart`:
+//! `WorksApart`).
+//!
 //! `run_rows` steps through a whole list of rows over any `Around` and undoes them where one fails:
 //! the calls are a legal run of the rows (`calls`), and where it failed, for which forward call or
 //! step fault (`cause`).

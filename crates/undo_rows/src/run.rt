@@ -1,6 +1,7 @@
 // A run of rows: forward, and back where one fails.
 ghost use Rattle.std.specs.Prelude.{◌≡◌, [], IfOk, IfSome, IsSome, None, Some, length};
 ghost use Rattle.host_core.specs.Host.{Counts};
+ghost use Rattle.scattered_losses.specs.Apart.{WorksApart};
 ghost use Rattle.undo_rows.specs.Faults.{OnlyIfDeclined};
 ghost use Rattle.undo_rows.specs.Place.{Back, Fit, Forward};
 ghost use Rattle.undo_rows.specs.Stops.{AtEachStop};
@@ -54,6 +55,7 @@ fn step_rows<H: Host, A: Around<H>>(
         (λ one. OnlyIfDeclined one.fall.fault (H.state host.old) (H.state host.new))) }
     ensures any_moment { AtEachStop (A.stops (A.task around.old)) (H.state host.old)
         (H.state host.new) }
+    ensures apart { WorksApart result A.area (H.state host.old) (H.state host.new) }
     ensures task { A.task around.new ≡ A.task around.old }
     ensures reference { A.reference around.new ≡ A.reference around.old }
     ensures counts { Counts (H.state host.old) (H.state host.new) result }
@@ -110,6 +112,7 @@ fn unwind_rows<H: Host, A: Around<H>>(
         (λ u. A.at around.new (H.state host.new) (Back 0 stopped.fall u.failed.items)) }
     ensures any_moment { AtEachStop (A.stops (A.task around.old)) (H.state host.old)
         (H.state host.new) }
+    ensures apart { WorksApart result A.area (H.state host.old) (H.state host.new) }
     ensures task { A.task around.new ≡ A.task around.old }
     ensures reference { A.reference around.new ≡ A.reference around.old }
     ensures counts { Counts (H.state host.old) (H.state host.new) result }
@@ -146,6 +149,7 @@ fn run_on<H: Host, A: Around<H>>(
         (λ u. A.at around.new (H.state host.new) (end_place (length rows.items) u)) }
     ensures any_moment { AtEachStop (A.stops (A.task around.old)) (H.state host.old)
         (H.state host.new) }
+    ensures apart { WorksApart result A.area (H.state host.old) (H.state host.new) }
     ensures task { A.task around.new ≡ A.task around.old }
     ensures reference { A.reference around.new ≡ A.reference around.old }
     ensures counts { Counts (H.state host.old) (H.state host.new) result }
@@ -182,6 +186,7 @@ pub fn run_rows<H: Host, A: Around<H>>(
         (λ u. A.at around.new (H.state host.new) (end_place (length rows.items) u)) }
     ensures any_moment { AtEachStop (A.stops (A.task around.old)) (H.state host.old)
         (H.state host.new) }
+    ensures apart { WorksApart result A.area (H.state host.old) (H.state host.new) }
     ensures task { A.task around.new ≡ A.task around.old }
     ensures reference { A.reference around.new ≡ A.reference around.old }
     ensures counts { Counts (H.state host.old) (H.state host.new) result }

@@ -1,6 +1,7 @@
 // The cleanup stack.
 ghost use Rattle.std.specs.Prelude.{◌≡◌, ◌++◌, ◌∷◌, List, [], IfOk, IfSome, OnOk, OnErr, length};
 ghost use Rattle.host_core.specs.Host.{Counts};
+ghost use Rattle.scattered_losses.specs.Apart.{WorksApart};
 ghost use Rattle.undo_rows.specs.declared.rows.Row.{Row};
 ghost use Rattle.undo_rows.specs.Faults.{OnlyIfDeclined};
 ghost use Rattle.undo_rows.specs.Place.{Back, Fit, Forward, leads};
@@ -63,6 +64,7 @@ impl Stack {
             (λ fall. A.at around.new (H.state host.new) (leads (length self.old) fall)) }
         ensures any_moment { AtEachStop (A.stops (A.task around.old)) (H.state host.old)
             (H.state host.new) }
+        ensures apart { WorksApart result A.area (H.state host.old) (H.state host.new) }
         ensures task { A.task around.new ≡ A.task around.old }
         ensures reference { A.reference around.new ≡ A.reference around.old }
         ensures counts { Counts (H.state host.old) (H.state host.new) result }
@@ -101,6 +103,7 @@ impl Stack {
             (λ failed. A.at around.new (H.state host.new) (Back 0 fall.now failed.items)) }
         ensures any_moment { AtEachStop (A.stops (A.task around.old)) (H.state host.old)
             (H.state host.new) }
+        ensures apart { WorksApart result A.area (H.state host.old) (H.state host.new) }
         ensures task { A.task around.new ≡ A.task around.old }
         ensures reference { A.reference around.new ≡ A.reference around.old }
         ensures counts { Counts (H.state host.old) (H.state host.new) result }

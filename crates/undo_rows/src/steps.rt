@@ -2,6 +2,7 @@
 ghost use Rattle.std.specs.Prelude.{◌≡◌, ◌≢◌, ◌+◌, [], IfOk, IfSome, OnOk, IsTrue, ◌↔◌, length};
 ghost use Rattle.host_core.specs.World.{is_kept};
 ghost use Rattle.host_core.specs.Host.{AtEachMomentOf, Counts, OnlyScripts};
+ghost use Rattle.scattered_losses.specs.Apart.{WorksApart};
 ghost use Rattle.undo_rows.specs.declared.rows.Owner.TheVariants.{Files};
 ghost use Rattle.undo_rows.specs.Transcript.{Begins, Makes, Tries, TriesRow};
 ghost use Rattle.undo_rows.specs.Faults.{OnlyIfDeclined};
@@ -47,6 +48,7 @@ fn step_calls<H: Host, A: Around<H>>(
     ensures place { IfOk result (λ ok. A.at around.new (H.state host.new) (called index ok)) }
     ensures any_moment { AtEachStop (A.stops (A.task around.old)) (H.state host.old)
         (H.state host.new) }
+    ensures apart { WorksApart result A.area (H.state host.old) (H.state host.new) }
     ensures task { A.task around.new ≡ A.task around.old }
     ensures reference { A.reference around.new ≡ A.reference around.old }
     ensures counts { Counts (H.state host.old) (H.state host.new) result }
@@ -82,6 +84,7 @@ pub(crate) fn step<H: Host, A: Around<H>>(
     ensures place { IfOk result (λ fall. A.at around.new (H.state host.new) (leads index fall)) }
     ensures any_moment { AtEachStop (A.stops (A.task around.old)) (H.state host.old)
         (H.state host.new) }
+    ensures apart { WorksApart result A.area (H.state host.old) (H.state host.new) }
     ensures task { A.task around.new ≡ A.task around.old }
     ensures reference { A.reference around.new ≡ A.reference around.old }
     ensures counts { Counts (H.state host.old) (H.state host.new) result }
@@ -157,6 +160,7 @@ fn undo_calls<H: Host, A: Around<H>>(
         (Back index fall.now (blamed fails index row.now.owner failed.now))) }
     ensures any_moment { AtEachStop (A.stops (A.task around.old)) (H.state host.old)
         (H.state host.new) }
+    ensures apart { WorksApart result A.area (H.state host.old) (H.state host.new) }
     ensures task { A.task around.new ≡ A.task around.old }
     ensures reference { A.reference around.new ≡ A.reference around.old }
     ensures counts { Counts (H.state host.old) (H.state host.new) result }
@@ -192,6 +196,7 @@ fn undo<H: Host, A: Around<H>>(
         (A.at around.new (H.state host.new) (Back index fall.now failed.new.items)) }
     ensures any_moment { AtEachStop (A.stops (A.task around.old)) (H.state host.old)
         (H.state host.new) }
+    ensures apart { WorksApart result A.area (H.state host.old) (H.state host.new) }
     ensures task { A.task around.new ≡ A.task around.old }
     ensures reference { A.reference around.new ≡ A.reference around.old }
     ensures counts { Counts (H.state host.old) (H.state host.new) result }
@@ -236,6 +241,7 @@ pub(crate) fn unwind<H: Host, A: Around<H>>(
         (A.at around.new (H.state host.new) (Back 0 fall.now failed.new.items)) }
     ensures any_moment { AtEachStop (A.stops (A.task around.old)) (H.state host.old)
         (H.state host.new) }
+    ensures apart { WorksApart result A.area (H.state host.old) (H.state host.new) }
     ensures task { A.task around.new ≡ A.task around.old }
     ensures reference { A.reference around.new ≡ A.reference around.old }
     ensures counts { Counts (H.state host.old) (H.state host.new) result }

@@ -2,8 +2,8 @@
 use Rattle.std.proofs.Common.{◌≡◌, inl, inr, IsTrue, ℕ, Bool, true, List, [], ◌∷◌, ◌++◌, Option, ap, subst, ◌∙◌}
 use Rattle.host_core.specs.Paths.{Path, is_own}
 use Rattle.host_core.specs.World.{World}
-use Rattle.host_core.specs.Events.{Event, Ran, changes_of}
-use Rattle.host_core.specs.Host.{State, Calls, OnlyScripts, finished}
+use Rattle.host_core.specs.Events.{Event, IsDeniedIn, Ran, changes_of}
+use Rattle.host_core.specs.Host.{State, Calls, OnlyScripts, WasDenied, finished}
 use Rattle.host_core.proofs.Scripts.{changed_kept, only_kept}
 use Rattle.host_core.specs.declared.call.Call.{Call}
 use Rattle.undo_rows.specs.declared.rows.Called.{Called}
@@ -36,10 +36,10 @@ module _ (name : List ℕ) (q : Path) (own : is_own q ≡ true) (aside : IsAside
   passed_aside stage h s t told now passed fit honest =
       let made = passed.calls.1 in
       calls_aside (kept_by entries (after_parts name stage.parts.items h)) passed.calls.0 passed.ready t q made honest (kept_at (after_parts name stage.parts.items h))
-      ∙ parts_keep name q aside stage.parts.items h.records h.lists s.world passed.ready.world fit.parts (passed.parts.done (made.goes.honest honest))
+      ∙ parts_keep name q aside (WasDenied s passed.ready) stage.parts.items h.records h.lists s.world passed.ready.world fit.parts (passed.parts.done (made.goes.honest honest))
 
   restored_aside : (owners : List Owner) (restore : List Part) (before after : Holding) (s t : State) → HasRestored name entries owners restore before after s t → AreFit name restore before.records before.lists → IsTrue t.honest → t.world q ≡ s.world q
-  restored_aside owners restore before after s t (HasRestored.restored none does is) fit honest = parts_keep name q aside restore before.records before.lists s.world t.world fit (does.done honest)
+  restored_aside owners restore before after s t (HasRestored.restored none does is) fit honest = parts_keep name q aside (WasDenied s t) restore before.records before.lists s.world t.world fit (does.done honest)
   restored_aside owners restore before after s t (HasRestored.left some same is) fit honest = ap (λ (x : State). x.world q) same
 
   restored_falls : (owners : List Owner) (restore : List Part) (before after : Holding) (s t : State) → HasRestored name entries owners restore before after s t → IsTrue t.honest → IsTrue s.honest
@@ -70,7 +70,7 @@ module _ (name : List ℕ) (q : Path) (own : is_own q ≡ true) (aside : IsAside
       let g = after_parts name stage.parts.items before in
       let tried = (undone_later name entries stage.row stage.restore.items g after fell.tried t fell.so_far now fell.undo).honest honest in
       fallen_aside stage.row stage.restore.items failed g after failing.ready t told now fell fit.0.restore honest
-      ∙ parts_keep name q aside stage.parts.items before.records before.lists s.world failing.ready.world fit.0.parts (failing.parts.done (fell.calls.1.goes.honest tried))
+      ∙ parts_keep name q aside (WasDenied s failing.ready) stage.parts.items before.records before.lists s.world failing.ready.world fit.0.parts (failing.parts.done (fell.calls.1.goes.honest tried))
 
   -- at each moment
 
@@ -83,18 +83,18 @@ module _ (name : List ℕ) (q : Path) (own : is_own q ≡ true) (aside : IsAside
       let one = past.past in
       past_aside stages (after_parts name stage.parts.items h) past.mid past.more now past.further fit.1
       ∙ scripts_aside (after_parts name stage.parts.items h) one.ready past.mid one.calls one.scripts
-      ∙ parts_keep name q aside stage.parts.items h.records h.lists old one.ready fit.0.parts one.done
+      ∙ parts_keep name q aside (IsDeniedIn one.before) stage.parts.items h.records h.lists old one.ready fit.0.parts one.done
 
   calling_aside : (restore : List Part) (h : Holding) (old : World) (so_far : List Event) (now : World) (table : List Record) → IsCalling name entries restore h old so_far now table → AreFit name restore h.records h.lists → now q ≡ old q
   calling_aside restore h old so_far now table (IsCalling.calling scripts is) fit = scripts_aside h old now so_far scripts
   calling_aside restore h old so_far now table (IsCalling.restoring calls after called are scripts quiet doing noted) fit =
-      parts_keep_amid name q aside restore h.records h.lists called now fit doing ∙ scripts_aside h old called calls scripts
+      parts_keep_amid name q aside (IsDeniedIn after) restore h.records h.lists called now fit doing ∙ scripts_aside h old called calls scripts
 
   stage_aside : (stage : Stage) (h : Holding) (old : World) (so_far : List Event) (now : World) (table : List Record) → IsInStage name entries stage h old so_far now table → IsStageFit name stage h.records h.lists → now q ≡ old q
-  stage_aside stage h old so_far now table (IsInStage.doing quiet doing noted) fit = parts_keep_amid name q aside stage.parts.items h.records h.lists old now fit.parts doing
+  stage_aside stage h old so_far now table (IsInStage.doing quiet doing noted) fit = parts_keep_amid name q aside (IsDeniedIn so_far) stage.parts.items h.records h.lists old now fit.parts doing
   stage_aside stage h old so_far now table (IsInStage.behind before since ready are quiet done called) fit =
       calling_aside stage.restore.items (after_parts name stage.parts.items h) ready since now table called fit.restore
-      ∙ parts_keep name q aside stage.parts.items h.records h.lists old ready fit.parts done
+      ∙ parts_keep name q aside (IsDeniedIn before) stage.parts.items h.records h.lists old ready fit.parts done
 
   next_aside : (front back : List Stage) (h : Holding) (old : World) (so_far : List Event) (now : World) (table : List Record) → IsInNext name entries back (after_stages name front h) old so_far now table
       → AreStagesFit name (front ++ back) h.records h.lists → now q ≡ old q

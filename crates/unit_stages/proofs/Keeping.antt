@@ -47,7 +47,7 @@ own_note q below = true_or (bytes_eq q (codes "/var/lib/dpkg")) (list_any (is_ow
     or_first true b is = refl
     or_first false b is = absurd (true≢false (sym is))
 
-own_record : (q : Path) → is_record_place q ≡ true → is_own q ≡ true
+pub own_record : (q : Path) → is_record_place q ≡ true → is_own q ≡ true
 own_record q = or_cases (bytes_eq q status_path) _ (is_own q) (own_is status_path q refl)
     (or_cases (bytes_eq q (temporary status_path)) _ (is_own q) (own_is (temporary status_path) q refl) (own_note q))
 

@@ -9,6 +9,7 @@ pub mod Settling
 pub mod Discarding
 pub mod PartsInTurn
 pub mod PartKeeping
+pub mod Denied
 pub mod Keeping
 pub mod Callings
 pub mod Tellings
@@ -16,3 +17,4 @@ pub mod RunLaws
 pub mod Moments
 pub mod RunMoments
 pub mod Asides
+pub mod Apart

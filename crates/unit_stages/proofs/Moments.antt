@@ -2,15 +2,15 @@
 use Rattle.std.proofs.Common.{◌≡◌, inl, inr, ℕ, Bool, List, [], ◌∷◌, ◌++◌, refl, sym, ap, subst, ◌∙◌, append_assoc}
 use Rattle.host_core.specs.Paths.{Path}
 use Rattle.host_core.specs.World.{World, Avoids, changed}
-use Rattle.host_core.specs.Events.{Event, changes_of, scripts_of}
-use Rattle.host_core.specs.Host.{State, Needs, Silent, AtEachMoment, AtEachMomentOf, OnlyScripts}
+use Rattle.host_core.specs.Events.{Event, IsDeniedIn, changes_of, scripts_of}
+use Rattle.host_core.specs.Host.{State, Needs, Silent, AtEachMomentOf, OnlyScripts, WasDenied}
 use Rattle.host_core.proofs.Moments.{Throughout-weaker, since_now, since_then, since_weaker, since_weaker_if}
 use Rattle.host_core.proofs.Scripts.{Avoids-append, changed-append, changes_of-append, only_kept, since_silent, silent_added}
 use Rattle.diversions.specs.declared.entry.Diversion.{Diversion}
 use Rattle.file_lists.specs.Filed.{Filed}
 use Rattle.status_db.specs.Recorded.{Recorded}
 use Rattle.status_records.specs.declared.record.Record.{Record}
-use Rattle.unit_stages.specs.Doing.{AreDoing, IsFirstDoing}
+use Rattle.unit_stages.specs.Doing.{AreAmid, AreDoing, IsFirstDoing}
 use Rattle.held_administration.specs.Order.{IsInOrder}
 use Rattle.unit_stages.specs.Parts.{part_records, parts_records}
 use Rattle.unit_stages.specs.declared.part.Part.{Part}
@@ -18,6 +18,7 @@ use Rattle.unit_stages.specs.Holding.{Holding, after_parts, holding}
 use Rattle.unit_stages.specs.Running.{AreCalled, IsAmidStage, IsCalling, IsInStage, IsNotedBy, IsOpenable}
 use Rattle.unit_stages.specs.Runs.{DoesParts, kept_by}
 use Rattle.unit_stages.specs.declared.stage.Stage.{Stage}
+use Rattle.unit_stages.proofs.Denied.{denied_in, parts_wider}
 use Rattle.unit_stages.proofs.Keeping.{order_kept, order_opens}
 
 -- while parts are under way some of them are noted
@@ -49,8 +50,8 @@ module _ (name : List ℕ) (parts : List Part) (rs : List Record) (now : World) 
     )
   ]
 
-  pub doing_table : (old : World) → AreDoing name parts rs old now → HasTable
-  doing_table old doing = table_of doing.front doing.back doing.are doing.mid doing.next
+  pub doing_table : (declined : Path → Type 0) (old : World) → AreDoing name declined parts rs old now → HasTable
+  doing_table declined old doing = table_of doing.front doing.back doing.are doing.mid doing.next
 
 -- script calls behind others
 only_on : (kept : Path → Bool) (old w now : World) (x y : List Event) → OnlyScripts kept old x w → OnlyScripts kept w y now → OnlyScripts kept old (x ++ y) now
@@ -77,18 +78,18 @@ module _ (name : List ℕ) (entries : List Diversion) where
 
   -- parts behind them
   restoring_by : (h : Holding) (restore : List Part) (old called now : World) (calls so_far : List Event) → OnlyScripts (kept_by entries h) old calls called → scripts_of so_far ≡ []
-      → AreDoing name restore h.records called now → AreCalled name entries restore h old (calls ++ so_far) now
+      → AreAmid name restore h.records called so_far now → AreCalled name entries restore h old (calls ++ so_far) now
   restoring_by h restore old called now calls so_far only quiet doing =
-      let has = doing_table name restore h.records now called doing in
+      let has = doing_table name restore h.records now (IsDeniedIn so_far) called doing in
       (has.0, IsCalling.restoring calls so_far called refl only quiet doing has.1, has.2)
 
   pub since_restored : (d : Recorded) (f : Filed) (restore : List Part) (a b c : State) → Needs a (IsInOrder d f.lists) → AtEachMomentOf (OnlyScripts (kept_by entries (holding d f))) a b
-      → Silent b c → AtEachMoment (AreDoing name restore d.records) b c → AtEachMomentOf (AreCalled name entries restore (holding d f)) a c
+      → Silent b c → AtEachMomentOf (AreAmid name restore d.records) b c → AtEachMomentOf (AreCalled name entries restore (holding d f)) a c
   since_restored d f restore a b c order first silent second =
       since_then (AreCalled name entries restore (holding d f) a.world) a b c (since_called d f restore a b order first)
-      (since_weaker_if (λ so_far w. AreDoing name restore d.records b.world w × (scripts_of so_far ≡ [])) (λ so_far. AreCalled name entries restore (holding d f) a.world (first.added ++ so_far)) b c
+      (since_weaker_if (λ so_far w. AreAmid name restore d.records b.world so_far w × (scripts_of so_far ≡ [])) (λ so_far. AreCalled name entries restore (holding d f) a.world (first.added ++ so_far)) b c
       (λ h so_far w is. restoring_by (holding d f) restore a.world b.world w first.added so_far (since_now (OnlyScripts (kept_by entries (holding d f)) a.world) a b first (second.honest h)) is.1 is.0)
-      (since_silent (λ so_far. AreDoing name restore d.records b.world) b c silent second))
+      (since_silent (AreAmid name restore d.records b.world) b c silent second))
 
   -- the undo behind the call
   calling_on : (h : Holding) (restore : List Part) (old mid now : World) (x y : List Event) (table : List Record) → OnlyScripts (kept_by entries h) old x mid → IsCalling name entries restore h mid y now table → IsCalling name entries restore h old (x ++ y) now table
@@ -104,14 +105,14 @@ module _ (name : List ℕ) (entries : List Diversion) where
       (λ h so_far w is. (is.0, calling_on (holding d f) restore a.world b.world w first.added so_far is.0 (since_now (OnlyScripts (kept_by entries (holding d f)) a.world) a b first (second.honest h)) is.1, is.2)) second)
 
   -- the parts of a stage
-  pub since_parts : (stage : Stage) (h : Holding) (a b : State) → Silent a b → AtEachMoment (AreDoing name stage.parts.items h.records) a b → AtEachMomentOf (IsAmidStage name entries stage h) a b
+  pub since_parts : (stage : Stage) (h : Holding) (a b : State) → Silent a b → AtEachMomentOf (AreAmid name stage.parts.items h.records) a b → AtEachMomentOf (IsAmidStage name entries stage h) a b
   since_parts stage h a b silent since =
-      since_weaker (λ so_far w. AreDoing name stage.parts.items h.records a.world w × (scripts_of so_far ≡ [])) (IsAmidStage name entries stage h a.world) a b
-      (λ so_far w is. let has = doing_table name stage.parts.items h.records w a.world is.0 in (has.0, IsInStage.doing is.1 is.0 has.1, has.2))
-      (since_silent (λ so_far. AreDoing name stage.parts.items h.records a.world) a b silent since)
+      since_weaker (λ so_far w. AreAmid name stage.parts.items h.records a.world so_far w × (scripts_of so_far ≡ [])) (IsAmidStage name entries stage h a.world) a b
+      (λ so_far w is. let has = doing_table name stage.parts.items h.records w (IsDeniedIn so_far) a.world is.0 in (has.0, IsInStage.doing is.1 is.0 has.1, has.2))
+      (since_silent (AreAmid name stage.parts.items h.records a.world) a b silent since)
 
   -- and its calls behind them
-  pub since_stage : (stage : Stage) (h mid : Holding) (a b c : State) → mid ≡ after_parts name stage.parts.items h → DoesParts name stage.parts.items h a b → AtEachMoment (AreDoing name stage.parts.items h.records) a b
+  pub since_stage : (stage : Stage) (h mid : Holding) (a b c : State) → mid ≡ after_parts name stage.parts.items h → DoesParts name stage.parts.items h a b → AtEachMomentOf (AreAmid name stage.parts.items h.records) a b
       → AtEachMomentOf (AreCalled name entries stage.restore.items mid) b c → AtEachMomentOf (IsAmidStage name entries stage h) a c
   since_stage stage h mid a b c is parts first second =
       let begun = since_parts stage h a b parts.silent first in
@@ -119,7 +120,8 @@ module _ (name : List ℕ) (entries : List Diversion) where
       (since_weaker_if (AreCalled name entries stage.restore.items mid b.world) (λ so_far. IsAmidStage name entries stage h a.world (begun.added ++ so_far)) b c
       (λ honest so_far w at. (
         at.0,
-        IsInStage.behind begun.added so_far b.world refl (silent_added a b begun.added parts.silent begun.events) (parts.done (second.honest honest))
+        IsInStage.behind begun.added so_far b.world refl (silent_added a b begun.added parts.silent begun.events)
+            (parts_wider name (WasDenied a b) (IsDeniedIn begun.added) (λ p is. denied_in a b begun.added p begun.events is) stage.parts.items h.records a.world b.world (parts.done (second.honest honest)))
             (subst (λ g. IsCalling name entries stage.restore.items g b.world so_far w at.0) is at.1),
         at.2,
       )) second)

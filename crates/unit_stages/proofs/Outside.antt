@@ -9,7 +9,7 @@ use Rattle.administration.specs.Places.{home_path, is_within}
 use Rattle.conffiles.specs.Settling.{AreSettled, AreSettling, CanSettle}
 use Rattle.conffiles.specs.declared.entries.Settled.{Settled}
 use Rattle.file_removal.specs.Clearing.{cleared, Cleared, IsClearing}
-use Rattle.file_removal.specs.Removal.{GoesBy, IsRemovingBy, RemovedBy}
+use Rattle.file_removal.specs.Removal.{GoesBy, IsRemovingBy, RemovedUnless, Staying, none_stays}
 use Rattle.file_removal.specs.declared.leaving.Leaving.{Leaving}
 use Rattle.listed_files.specs.Closing.{SparesAdministration}
 use Rattle.listed_files.specs.Concluding.{AreElsewhere}
@@ -21,22 +21,22 @@ IsOutside v w = (q : Path) → is_within home_path q ≡ true → w q ≡ v q
 
 -- listed paths
 
-none_goes : (d : Bool) (v : World) (xs : List Leaving) (q : Path) → SparesAdministration xs → is_within home_path q ≡ true → GoesBy d v xs q → ⊥
-none_goes d v [] q spares within goes = goes
-none_goes d v (x ∷ xs) q spares within (inl later) = none_goes d v xs q (λ y has goes. spares y (Contains-append_right (x ∷ []) xs y has) goes) within later
-none_goes d v (x ∷ xs) q spares within (inr here) = true≢false (sym within ∙ ap (is_within home_path) (sym here.0) ∙ spares x (zero, omega arith, refl) here.1)
+none_goes : (stays : Staying) (d : Bool) (v : World) (xs : List Leaving) (q : Path) → SparesAdministration xs → is_within home_path q ≡ true → GoesBy stays d v xs q → ⊥
+none_goes stays d v [] q spares within goes = goes
+none_goes stays d v (x ∷ xs) q spares within (inl later) = none_goes stays d v xs q (λ y has goes. spares y (Contains-append_right (x ∷ []) xs y has) goes) within later
+none_goes stays d v (x ∷ xs) q spares within (inr here) = true≢false (sym within ∙ ap (is_within home_path) (sym here.0) ∙ spares x (zero, omega arith, refl) here.1)
 
 module _ (d : Bool) (xs : List Leaving) (v w : World) (spares : SparesAdministration xs) where
-  pub removed_outside : RemovedBy d xs v w → IsOutside v w
-  removed_outside removed q within = elim (removed.each q) [
-    | inl gone ↦ absurd (none_goes d v xs q spares within gone.0)
+  pub removed_outside : (declined : Path → Type 0) → RemovedUnless declined d xs v w → IsOutside v w
+  removed_outside declined removed q within = elim (removed.2.each q) [
+    | inl gone ↦ absurd (none_goes removed.0 d v xs q spares within gone.0)
     | inr kept ↦ kept.1
   ]
 
   pub removing_outside : IsRemovingBy d xs v w → IsOutside v w
   removing_outside removing q within = elim (removing.each q) [
     | inl same ↦ same
-    | inr gone ↦ absurd (none_goes d v xs q spares within gone.0)
+    | inr gone ↦ absurd (none_goes none_stays d v xs q spares within gone.0)
   ]
 
 -- names that are cleared

@@ -22,16 +22,16 @@ module _ (name : List ℕ) (q : Path) (aside : IsAside name q) where
   within : is_within home_path q ≡ true
   within = below_is_within q aside.below
 
-  part_keeps : (part : Part) (rs : List Record) (ls : List PackageList) (old new : World) → IsFit name part rs ls → HasDone name part rs old new → new q ≡ old q
-  part_keeps (Note r) rs ls old new fit done = done.rest q aside.unnoted
-  part_keeps Forget rs ls old new fit done = done.rest q aside.unnoted
-  part_keeps (Settle settled) rs ls old new fit done = done.rest q (below_none settled.items q aside.below)
-  part_keeps (Remove leaving) rs ls old new fit done = removed_outside false leaving.items old new fit done q within
-  part_keeps (RemoveDirectories leaving) rs ls old new fit done = removed_outside true leaving.items old new fit done q within
-  part_keeps (Clear names) rs ls old new fit done = cleared_outside names.items old new fit done q within
-  part_keeps (Listing paths) rs ls old new fit done = done.rest q aside.unlisted.0 aside.unlisted.1
-  part_keeps DropList rs ls old new fit done = done.rest q aside.unlisted.0
-  part_keeps (DropMembers keep) rs ls old new fit done = done.taken.rest q aside.no_member
+  part_keeps : (declined : Path → Type 0) (part : Part) (rs : List Record) (ls : List PackageList) (old new : World) → IsFit name part rs ls → HasDone name declined part rs old new → new q ≡ old q
+  part_keeps declined (Note r) rs ls old new fit done = done.rest q aside.unnoted
+  part_keeps declined Forget rs ls old new fit done = done.rest q aside.unnoted
+  part_keeps declined (Settle settled) rs ls old new fit done = done.rest q (below_none settled.items q aside.below)
+  part_keeps declined (Remove leaving) rs ls old new fit done = removed_outside false leaving.items old new fit declined done q within
+  part_keeps declined (RemoveDirectories leaving) rs ls old new fit done = removed_outside true leaving.items old new fit declined done q within
+  part_keeps declined (Clear names) rs ls old new fit done = cleared_outside names.items old new fit done q within
+  part_keeps declined (Listing paths) rs ls old new fit done = done.rest q aside.unlisted.0 aside.unlisted.1
+  part_keeps declined DropList rs ls old new fit done = done.rest q aside.unlisted.0
+  part_keeps declined (DropMembers keep) rs ls old new fit done = done.taken.rest q aside.no_member
 
   dropping_keeps : (keep : Bool) (old now : World) → MayDrop name keep old now → now q ≡ old q
   dropping_keeps keep old now (inl same) = ap (λ w. w q) same
@@ -48,10 +48,10 @@ module _ (name : List ℕ) (q : Path) (aside : IsAside name q) where
   part_keeps_amid DropList rs ls old now fit may = may.rest q aside.unlisted.0
   part_keeps_amid (DropMembers keep) rs ls old now fit may = dropping_keeps keep old now may
 
-  pub parts_keep : (parts : List Part) (rs : List Record) (ls : List PackageList) (old new : World) → AreFit name parts rs ls → HaveDone name parts rs old new → new q ≡ old q
-  parts_keep [] rs ls old new fit same = ap (λ w. w q) same
-  parts_keep (part ∷ parts) rs ls old new fit done =
-      parts_keep parts (part_records name part rs) (part_lists name part ls) done.0 new fit.1 done.2 ∙ part_keeps part rs ls old done.0 fit.0 done.1
+  pub parts_keep : (declined : Path → Type 0) (parts : List Part) (rs : List Record) (ls : List PackageList) (old new : World) → AreFit name parts rs ls → HaveDone name declined parts rs old new → new q ≡ old q
+  parts_keep declined [] rs ls old new fit same = ap (λ w. w q) same
+  parts_keep declined (part ∷ parts) rs ls old new fit done =
+      parts_keep declined parts (part_records name part rs) (part_lists name part ls) done.0 new fit.1 done.2 ∙ part_keeps declined part rs ls old done.0 fit.0 done.1
 
   fit_first : (front back : List Part) (rs : List Record) (ls : List PackageList) → AreFit name (front ++ back) rs ls → AreFit name front rs ls × AreFit name back (parts_records name front rs) (parts_lists name front ls)
   fit_first [] back rs ls fit = (tt, fit)
@@ -61,8 +61,8 @@ module _ (name : List ℕ) (q : Path) (aside : IsAside name q) where
   first_keeps [] rs ls old now fit over = ap (λ w. w q) over.same
   first_keeps (part ∷ parts) rs ls old now fit doing = part_keeps_amid part rs ls old now fit.0 doing.may
 
-  pub parts_keep_amid : (parts : List Part) (rs : List Record) (ls : List PackageList) (old now : World) → AreFit name parts rs ls → AreDoing name parts rs old now → now q ≡ old q
-  parts_keep_amid parts rs ls old now fit doing =
+  pub parts_keep_amid : (declined : Path → Type 0) (parts : List Part) (rs : List Record) (ls : List PackageList) (old now : World) → AreFit name parts rs ls → AreDoing name declined parts rs old now → now q ≡ old q
+  parts_keep_amid declined parts rs ls old now fit doing =
       let fits = fit_first doing.front doing.back rs ls (subst (λ ps. AreFit name ps rs ls) doing.are fit) in
       first_keeps doing.back (parts_records name doing.front rs) (parts_lists name doing.front ls) doing.mid now fits.1 doing.next
-      ∙ parts_keep doing.front rs ls old doing.mid fits.0 doing.done
+      ∙ parts_keep declined doing.front rs ls old doing.mid fits.0 doing.done

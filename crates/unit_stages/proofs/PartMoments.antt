@@ -1,9 +1,11 @@
 -- What holds at each moment of a part: it is under way, the records can be opened, and no entry of `info` is a directory.
-use Rattle.std.proofs.Common.{◌≡◌, inl, inr, ℕ, Bool, true, List, [], ◌∷◌, IsTrue, refl, sym, subst, arith}
+use Rattle.std.proofs.Common.{◌≡◌, inl, inr, ℕ, Bool, true, List, [], ◌∷◌, ◌∙◌, IsTrue, refl, sym, subst, arith}
 use Rattle.texts.specs.PackageNames.{is_package_name}
 use Rattle.host_core.specs.Host.{State, AtEachMoment, Needs}
 use Rattle.host_core.proofs.Moments.{since_weaker_if}
-use Rattle.host_core.specs.World.{World}
+use Rattle.host_core.specs.World.{World, IsDirectory}
+use Rattle.host_core.specs.declared.node.Node.{Node}
+use Rattle.host_core.specs.declared.node.Node.TheVariants.{Dir}
 use Rattle.conffiles.specs.Settling.{AreSettling, CanSettle, HasSettled, IsFirstSettling}
 use Rattle.conffiles.specs.declared.entries.Settled.{Settled}
 use Rattle.std.proofs.lemmas.List.Elements.{All-nil}
@@ -12,7 +14,7 @@ use Rattle.file_lists.specs.declared.paths.PackageList.{PackageList}
 use Rattle.status_db.specs.Held.{IsKept}
 use Rattle.status_db.specs.Recorded.{Recorded}
 use Rattle.std.specs.List.{All}
-use Rattle.std.specs.Prelude.{Result, Ok, Err, OnOk}
+use Rattle.std.specs.Prelude.{Option, Some, None, Result, Ok, Err, OnOk}
 use Rattle.unit_stages.specs.Doing.{IsDoing, IsFirstDoing, MayDo, MayDrop}
 use Rattle.unit_stages.specs.PartFitting.{AreSettleable}
 use Rattle.held_administration.specs.Order.{IsInOrder}
@@ -21,6 +23,13 @@ use Rattle.unit_stages.specs.declared.part.Part.TheVariants.{Note, Forget, Settl
 use Rattle.unit_stages.proofs.Order.{home_there, outside_order, own_list, taking_kept, taking_loose}
 use Rattle.unit_stages.proofs.Outside.{IsOutside, settling_outside}
 use Rattle.unit_stages.proofs.Places.{kept_opens}
+
+-- where a directory stands is something
+none_some : (n : Node) → None ≡ Some n → ⊥
+none_some n same = cc
+
+never_none : (there : Option Node) → IsDirectory there → there ≡ None → ⊥
+never_none there is none = none_some (Dir is.0) (sym none ∙ is.1)
 
 -- the first of some parts can be done alone
 pub settle_first : (part : Part) (parts : List Part) (w : World) → AreSettleable (part ∷ parts) w → AreSettleable (part ∷ []) w
@@ -60,8 +69,8 @@ module _ (name : List ℕ) (d : Recorded) (ls : List PackageList) (v : World) (o
   may_start named (Note r) can = record { records = inl order.kept.holds; opens = kept_opens d v order.kept; rest = λ q out. refl }
   may_start named Forget can = record { records = inl order.kept.holds; opens = kept_opens d v order.kept; rest = λ q out. refl }
   may_start named (Settle settled) can = settling_start settled.items can.0
-  may_start named (Remove leaving) can = record { each = λ p. inl refl }
-  may_start named (RemoveDirectories leaving) can = record { each = λ p. inl refl }
+  may_start named (Remove leaving) can = record { each = λ p. inl refl; below = λ p is none. absurd (never_none (v p) is none) }
+  may_start named (RemoveDirectories leaving) can = record { each = λ p. inl refl; below = λ p is none. absurd (never_none (v p) is none) }
   may_start named (Clear names) can = record { each = λ p. inl refl }
   may_start named (Listing paths) can = record { target = inl refl; spare = (own_list d ls v order name named).spare; rest = λ q ne spare. refl }
   may_start named DropList can = record { target = inl refl; rest = λ q ne. refl }

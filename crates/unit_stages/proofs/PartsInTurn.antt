@@ -1,27 +1,31 @@
 -- Parts that are done one after another.
 use Rattle.std.proofs.Common.{◌≡◌, ◌<◌, ◌+◌, ℕ, suc, List, [], ◌∷◌, ◌++◌, IsTrue, true, add-one, drop, get_or, length, take, refl, sym, ap, subst, ◌∙◌}
 use Rattle.std.proofs.Math.Seq.{drop-cons}
-use Rattle.std.proofs.lemmas.List.{take-append-drop}
-use Rattle.host_core.specs.Host.{State, AtEachMoment, Needs}
+use Rattle.std.proofs.lemmas.List.{append-nil, take-append-drop}
+use Rattle.host_core.specs.Paths.{Path}
+use Rattle.host_core.specs.Events.{IsDeniedIn}
+use Rattle.host_core.specs.Host.{State, AtEachMoment, AtEachMomentOf, Needs, WasDenied}
+use Rattle.host_core.specs.Loss.{IsLater}
+use Rattle.host_core.proofs.Denials.{denied_first, denied_front, denied_later}
 use Rattle.host_core.proofs.Moments.{since_then, since_weaker_if}
 use Rattle.host_core.specs.World.{World}
 use Rattle.administration.proofs.Within.{taken_more}
 use Rattle.file_lists.specs.declared.paths.PackageList.{PackageList}
-use Rattle.file_lists.proofs.TakingAll.{since_start_if}
 use Rattle.status_db.specs.Recorded.{Recorded}
 use Rattle.status_records.specs.declared.record.Record.{Record}
 use Rattle.texts.specs.PackageNames.{is_package_name}
-use Rattle.unit_stages.specs.Doing.{AreDoing, IsDoing, IsFirstDoing}
+use Rattle.unit_stages.specs.Doing.{AreAmid, AreDoing, IsDoing, IsFirstDoing}
 use Rattle.unit_stages.specs.PartFitting.{AreFit, AreSettleable, IsFit}
 use Rattle.held_administration.specs.Order.{IsInOrder}
 use Rattle.unit_stages.specs.Parts.{HasDone, HaveDone, part_lists, part_records, parts_lists, parts_records}
 use Rattle.unit_stages.specs.declared.part.Part.{Part}
+use Rattle.unit_stages.proofs.Denied.{denied_in, part_wider, parts_wider}
 use Rattle.unit_stages.proofs.PartMoments.{first_doing}
 
 module _ (name : List ℕ) where
-  done_last : (front : List Part) (part : Part) (rs : List Record) (old mid new : World) → HaveDone name front rs old mid → HasDone name part (parts_records name front rs) mid new → HaveDone name (front ++ part ∷ []) rs old new
-  done_last [] part rs old mid new same done = (new, subst (λ w. HasDone name part rs w new) same done, refl)
-  done_last (p ∷ front) part rs old mid new before done = (before.0, before.1, done_last front part (part_records name p rs) before.0 mid new before.2 done)
+  done_last : (declined : Path → Type 0) (front : List Part) (part : Part) (rs : List Record) (old mid new : World) → HaveDone name declined front rs old mid → HasDone name declined part (parts_records name front rs) mid new → HaveDone name declined (front ++ part ∷ []) rs old new
+  done_last declined [] part rs old mid new same done = (new, subst (λ w. HasDone name declined part rs w new) same done, refl)
+  done_last declined (p ∷ front) part rs old mid new before done = (before.0, before.1, done_last declined front part (part_records name p rs) before.0 mid new before.2 done)
 
   records_last : (front : List Part) (part : Part) (rs : List Record) → parts_records name (front ++ part ∷ []) rs ≡ part_records name part (parts_records name front rs)
   records_last [] part rs = refl
@@ -32,15 +36,21 @@ module _ (name : List ℕ) where
   lists_last (p ∷ front) part ls = lists_last front part (part_lists name p ls)
 
   -- before the first
-  pub doing_start : (parts : List Part) (d : Recorded) (ls : List PackageList) (s : State) → is_package_name name ≡ true → Needs s (IsInOrder d ls) → Needs s (AreSettleable parts) → AtEachMoment (AreDoing name parts d.records) s s
-  doing_start parts d ls s named order can = since_start_if (λ now. AreDoing name parts d.records s.world now) s (λ h. record {
-    front = [];
-    back = parts;
-    are = refl;
-    mid = s.world;
-    done = refl;
-    next = first_doing name d ls s.world (order h) named parts (can h);
-  })
+  pub doing_start : (parts : List Part) (d : Recorded) (ls : List PackageList) (s : State) → is_package_name name ≡ true → Needs s (IsInOrder d ls) → Needs s (AreSettleable parts) → AtEachMomentOf (AreAmid name parts d.records) s s
+  doing_start parts d ls s named order can = record {
+    added = [];
+    events = sym (append-nil s.events);
+    honest = λ h. h;
+    world = refl;
+    each = λ h. record {
+      front = [];
+      back = parts;
+      are = refl;
+      mid = s.world;
+      done = refl;
+      next = first_doing name d ls s.world (order h) named parts (can h);
+    };
+  }
 
   -- one more of them
   module _ (parts : List Part) (i : ℕ) (part : Part) (lt : i < length parts) (at : part ≡ get_or parts i part) where
@@ -66,12 +76,12 @@ module _ (name : List ℕ) where
     lists_more ls = ap (λ ps. parts_lists name ps ls) (taken_more parts i part lt at) ∙ lists_last (take i parts) part ls
 
     module _ (rs table : List Record) (is : table ≡ parts_records name (take i parts) rs) where
-      pub done_more : (old mid new : World) → HaveDone name (take i parts) rs old mid → HasDone name part table mid new → HaveDone name (take (i + 1) parts) rs old new
-      done_more old mid new before done =
-          subst (λ ps. HaveDone name ps rs old new) (sym (taken_more parts i part lt at)) (done_last (take i parts) part rs old mid new before (subst (λ t. HasDone name part t mid new) is done))
+      pub done_more : (declined : Path → Type 0) (old mid new : World) → HaveDone name declined (take i parts) rs old mid → HasDone name declined part table mid new → HaveDone name declined (take (i + 1) parts) rs old new
+      done_more declined old mid new before done =
+          subst (λ ps. HaveDone name declined ps rs old new) (sym (taken_more parts i part lt at)) (done_last declined (take i parts) part rs old mid new before (subst (λ t. HasDone name declined part t mid new) is done))
 
-      doing_more : (old mid now : World) → HaveDone name (take i parts) rs old mid → IsDoing name part table mid now → AreDoing name parts rs old now
-      doing_more old mid now before doing = record {
+      doing_more : (declined : Path → Type 0) (old mid now : World) → HaveDone name declined (take i parts) rs old mid → IsDoing name part table mid now → AreDoing name declined parts rs old now
+      doing_more declined old mid now before doing = record {
         front = take i parts;
         back = drop i parts;
         are = sym (take-append-drop i parts);
@@ -80,8 +90,17 @@ module _ (name : List ℕ) where
         next = subst (λ ps. IsFirstDoing name ps (parts_records name (take i parts) rs) mid now) (sym from_here) (subst (λ t. IsDoing name part t mid now) is doing);
       }
 
-      pub since_more : (a b c : State) → (IsTrue b.honest → HaveDone name (take i parts) rs a.world b.world) → AtEachMoment (AreDoing name parts rs) a b → AtEachMoment (IsDoing name part table) b c → AtEachMoment (AreDoing name parts rs) a c
+      -- what is done of the parts between three states
+      pub done_then : (a b c : State) → IsLater a b → IsLater b c → HaveDone name (WasDenied a b) (take i parts) rs a.world b.world → HasDone name (WasDenied b c) part table b.world c.world
+          → HaveDone name (WasDenied a c) (take (i + 1) parts) rs a.world c.world
+      done_then a b c first second before done =
+          done_more (WasDenied a c) a.world b.world c.world
+          (parts_wider name (WasDenied a b) (WasDenied a c) (λ p is. denied_first a b c p is second) (take i parts) rs a.world b.world before)
+          (part_wider name (WasDenied b c) (WasDenied a c) (λ p is. denied_later a b c p first is) part table b.world c.world done)
+
+      pub since_more : (a b c : State) → (IsTrue b.honest → HaveDone name (WasDenied a b) (take i parts) rs a.world b.world) → AtEachMomentOf (AreAmid name parts rs) a b → AtEachMoment (IsDoing name part table) b c → AtEachMomentOf (AreAmid name parts rs) a c
       since_more a b c before first second =
-          since_then (λ so_far. AreDoing name parts rs a.world) a b c first
-          (since_weaker_if (λ so_far. IsDoing name part table b.world) (λ so_far. AreDoing name parts rs a.world) b c
-          (λ h so_far now doing. doing_more a.world b.world now (before (second.honest h)) doing) second)
+          since_then (AreAmid name parts rs a.world) a b c first
+          (since_weaker_if (λ so_far. IsDoing name part table b.world) (λ so_far. AreAmid name parts rs a.world (first.added ++ so_far)) b c
+          (λ h so_far now doing. doing_more (IsDeniedIn (first.added ++ so_far)) a.world b.world now
+          (parts_wider name (WasDenied a b) (IsDeniedIn (first.added ++ so_far)) (λ p is. denied_front first.added so_far p (denied_in a b first.added p first.events is)) (take i parts) rs a.world b.world (before (second.honest h))) doing) second)

@@ -28,7 +28,7 @@ byte p = get_or p 14 0
 pub record Stays (old now : World) : Type 0 where
   pub same : (q : Path) → is_within home_path q ≡ true → (byte q ≡ 105 → ⊥) → now q ≡ old q
 
-record_within : (q : Path) → is_record_place q ≡ true → (is_within home_path q ≡ true) × (byte q ≡ 105 → ⊥)
+pub record_within : (q : Path) → is_record_place q ≡ true → (is_within home_path q ≡ true) × (byte q ≡ 105 → ⊥)
 record_within q is = elim (or_cases (bytes_eq q status_path) (bytes_eq q (temporary status_path) || starts_with nat_eq q (updates_path ++ codes "/")) is) [
   | inl e ↦ at status_path ((bytes_eq-Decides q status_path).0 e) refl (λ b. absurd (omega (arith, b)))
   | inr more ↦ elim (or_cases (bytes_eq q (temporary status_path)) (starts_with nat_eq q (updates_path ++ codes "/")) more) [

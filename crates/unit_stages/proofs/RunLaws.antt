@@ -4,8 +4,8 @@ use Rattle.std.specs.Prelude.{Result, Ok, Err, IfOk}
 use Rattle.std.proofs.lemmas.List.{append-nil}
 use Rattle.host_core.specs.Paths.{Path}
 use Rattle.host_core.specs.World.{World, changed}
-use Rattle.host_core.specs.Events.{Event, Ran, changes_of, follow, follow_all}
-use Rattle.host_core.specs.Host.{State, Silent, Since, Throughout, Calls, finished}
+use Rattle.host_core.specs.Events.{Event, IsDeniedIn, Ran, changes_of, follow, follow_all}
+use Rattle.host_core.specs.Host.{State, Silent, Since, Throughout, Calls, WasDenied, finished}
 use Rattle.host_core.specs.Loss.{IsLater}
 use Rattle.host_core.proofs.Moments.{since_start, since_then, since_weaker}
 use Rattle.host_core.proofs.Scripts.{calls_of-finished, changed-append, silent_added}
@@ -25,6 +25,7 @@ use Rattle.unit_stages.specs.Running.{ArePast, IsPast}
 use Rattle.unit_stages.specs.Runs.{DoesParts, HasCalled, HasFallen, HasPassed, HasRestored, HasUndone, HaveRun, kept_by}
 use Rattle.unit_stages.specs.declared.stage.Stage.{Stage}
 use Rattle.unit_stages.proofs.Callings.{failed_call}
+use Rattle.unit_stages.proofs.Denied.{denied_in, parts_wider}
 use Rattle.unit_stages.proofs.Tellings.{nothing_done}
 
 none_some : (call : Call) → None ≡ Some call → ⊥
@@ -196,7 +197,8 @@ module _ (name : List ℕ) (entries : List Diversion) where
         events = refl;
         quiet = silent_added s passed.ready passed.parts.later.added passed.parts.silent passed.parts.later.events;
         ready = passed.ready.world;
-        done = passed.parts.done (made.goes.honest honest);
+        done = parts_wider name (WasDenied s passed.ready) (IsDeniedIn passed.parts.later.added) (λ p is. denied_in s passed.ready passed.parts.later.added p passed.parts.later.events is)
+            stage.parts.items h.records s.world passed.ready.world (passed.parts.done (made.goes.honest honest));
         scripts = record { world = made.goes.world ∙ follow_finished ts passed.ready.world; avoids = made.avoids honest };
         passes = subst (λ l. Tries stage.row l true) (sym (calls_of-finished ts)) passed.calls.2.0;
       }

@@ -71,13 +71,13 @@ no_settle (DropList ∷ parts) w none = no_settle parts w none.1
 no_settle (DropMembers keep ∷ parts) w none = no_settle parts w none.1
 
 -- behind a part the others can be done
-pub settle_rest : (name : List ℕ) (part : Part) (parts : List Part) (rs : List Record) (v w : World) → AreSettleable (part ∷ parts) v → HasDone name part rs v w → AreSettleable parts w
-settle_rest name (Note r) parts rs v w can done = settleable_on v w (noting_inside v w done.rest) parts can
-settle_rest name Forget parts rs v w can done = settleable_on v w (noting_inside v w done.rest) parts can
-settle_rest name (Settle settled) parts rs v w can done = no_settle parts w can.1
-settle_rest name (Remove leaving) parts rs v w can done = no_settle parts w can
-settle_rest name (RemoveDirectories leaving) parts rs v w can done = no_settle parts w can
-settle_rest name (Clear names) parts rs v w can done = no_settle parts w can
-settle_rest name (Listing paths) parts rs v w can done = settleable_on v w (λ q out. (let a = list_apart name q out in done.rest q a.0 a.1)) parts can
-settle_rest name DropList parts rs v w can done = settleable_on v w (λ q out. done.rest q (list_apart name q out).0) parts can
-settle_rest name (DropMembers keep) parts rs v w can done = settleable_on v w (λ q out. done.taken.rest q (λ member is. member_apart name member q out)) parts can
+pub settle_rest : (name : List ℕ) (declined : Path → Type 0) (part : Part) (parts : List Part) (rs : List Record) (v w : World) → AreSettleable (part ∷ parts) v → HasDone name declined part rs v w → AreSettleable parts w
+settle_rest name declined (Note r) parts rs v w can done = settleable_on v w (noting_inside v w done.rest) parts can
+settle_rest name declined Forget parts rs v w can done = settleable_on v w (noting_inside v w done.rest) parts can
+settle_rest name declined (Settle settled) parts rs v w can done = no_settle parts w can.1
+settle_rest name declined (Remove leaving) parts rs v w can done = no_settle parts w can
+settle_rest name declined (RemoveDirectories leaving) parts rs v w can done = no_settle parts w can
+settle_rest name declined (Clear names) parts rs v w can done = no_settle parts w can
+settle_rest name declined (Listing paths) parts rs v w can done = settleable_on v w (λ q out. (let a = list_apart name q out in done.rest q a.0 a.1)) parts can
+settle_rest name declined DropList parts rs v w can done = settleable_on v w (λ q out. done.rest q (list_apart name q out).0) parts can
+settle_rest name declined (DropMembers keep) parts rs v w can done = settleable_on v w (λ q out. done.taken.rest q (λ member is. member_apart name member q out)) parts can

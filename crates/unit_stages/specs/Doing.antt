@@ -2,6 +2,7 @@
 use Rattle.std.specs.Prelude.{◌≡◌, ◌⊎◌, ℕ, Bool, List, [], ◌∷◌, ◌++◌}
 use Rattle.host_core.specs.Paths.{Path}
 use Rattle.host_core.specs.World.{World}
+use Rattle.host_core.specs.Events.{Event, IsDeniedIn}
 use Rattle.administration.specs.Files.{IsDropping, IsReplacing}
 use Rattle.administration.specs.Places.{list_path}
 use Rattle.conffiles.specs.Settling.{AreSettling}
@@ -56,10 +57,14 @@ module _ (name : List ℕ) where
   IsFirstDoing (part ∷ parts) rs old now = IsDoing part rs old now
 
   -- At each moment of parts: some are done, and the next is under way.
-  pub record AreDoing (parts : List Part) (rs : List Record) (old now : World) : Type 0 where
+  pub record AreDoing (declined : Path → Type 0) (parts : List Part) (rs : List Record) (old now : World) : Type 0 where
     pub front : List Part
     pub back : List Part
     pub are : parts ≡ front ++ back
     pub mid : World
-    pub done : HaveDone name front rs old mid
+    pub done : HaveDone name declined front rs old mid
     pub next : IsFirstDoing back (parts_records name front rs) mid now
+
+  -- the same, where only directories whose removal was declined so far may have stayed
+  abbrev pub AreAmid : List Part → List Record → World → List Event → World → Type 0
+  AreAmid parts rs old so_far now = AreDoing (IsDeniedIn so_far) parts rs old now

@@ -52,17 +52,17 @@ module _ (name : List ℕ) where
   part_lists DropList ls = ls
   part_lists (DropMembers keep_postrm) ls = ls
 
-  -- a part is done
-  abbrev pub HasDone : Part → List Record → World → World → Type 0
-  HasDone (Note r) rs old new = HasNoted (put_record r rs) old new
-  HasDone Forget rs old new = HasNoted (drop_record name rs) old new
-  HasDone (Settle settled) rs old new = AreSettled settled.items old new
-  HasDone (Remove leaving) rs old new = Removed leaving.items old new
-  HasDone (RemoveDirectories leaving) rs old new = RemovedDirectories leaving.items old new
-  HasDone (Clear names) rs old new = Cleared names.items old new
-  HasDone (Listing paths) rs old new = IsReplaced (list_path name) (list_file paths) old new
-  HasDone DropList rs old new = IsDropped (list_path name) old new
-  HasDone (DropMembers keep_postrm) rs old new = HasDropped name keep_postrm old new
+  -- A part is done. Of the directories that it was to take away those whose removal was declined may stay.
+  abbrev pub HasDone : (declined : Path → Type 0) → Part → List Record → World → World → Type 0
+  HasDone declined (Note r) rs old new = HasNoted (put_record r rs) old new
+  HasDone declined Forget rs old new = HasNoted (drop_record name rs) old new
+  HasDone declined (Settle settled) rs old new = AreSettled settled.items old new
+  HasDone declined (Remove leaving) rs old new = Removed declined leaving.items old new
+  HasDone declined (RemoveDirectories leaving) rs old new = RemovedDirectories declined leaving.items old new
+  HasDone declined (Clear names) rs old new = Cleared names.items old new
+  HasDone declined (Listing paths) rs old new = IsReplaced (list_path name) (list_file paths) old new
+  HasDone declined DropList rs old new = IsDropped (list_path name) old new
+  HasDone declined (DropMembers keep_postrm) rs old new = HasDropped name keep_postrm old new
 
   -- the records after parts, the first of them first
   abbrev pub parts_records : List Part → List Record → List Record
@@ -75,6 +75,6 @@ module _ (name : List ℕ) where
   parts_lists (part ∷ parts) ls = parts_lists parts (part_lists part ls)
 
   -- parts are done, one after another, by the worlds between them
-  abbrev pub HaveDone : List Part → List Record → World → World → Type 0
-  HaveDone [] rs old new = new ≡ old
-  HaveDone (part ∷ parts) rs old new = (mid : World) × HasDone part rs old mid × HaveDone parts (part_records part rs) mid new
+  abbrev pub HaveDone : (declined : Path → Type 0) → List Part → List Record → World → World → Type 0
+  HaveDone declined [] rs old new = new ≡ old
+  HaveDone declined (part ∷ parts) rs old new = (mid : World) × HasDone declined part rs old mid × HaveDone declined parts (part_records part rs) mid new

@@ -1,14 +1,14 @@
 -- What holds at each moment of a run of stages.
 use Rattle.std.specs.Prelude.{◌≡◌, ℕ, true, List, [], ◌∷◌, ◌++◌}
 use Rattle.host_core.specs.World.{World}
-use Rattle.host_core.specs.Events.{Event, calls_of, scripts_of}
+use Rattle.host_core.specs.Events.{Event, IsDeniedIn, calls_of, scripts_of}
 use Rattle.host_core.specs.Host.{OnlyScripts}
 use Rattle.undo_rows.specs.Transcript.{Tries}
 use Rattle.diversions.specs.declared.entry.Diversion.{Diversion}
 use Rattle.file_lists.specs.Info.{AreLoose}
 use Rattle.status_db.specs.Held.{CanOpenRecords, HasRecords}
 use Rattle.status_records.specs.declared.record.Record.{Record}
-use Rattle.unit_stages.specs.Doing.{AreDoing}
+use Rattle.unit_stages.specs.Doing.{AreAmid}
 use Rattle.unit_stages.specs.Parts.{HaveDone, parts_records}
 use Rattle.unit_stages.specs.declared.part.Part.{Part}
 use Rattle.unit_stages.specs.Holding.{Holding, after_parts, after_stages}
@@ -34,12 +34,12 @@ module _ (name : List ℕ) (entries : List Diversion) where
   pub data IsCalling (restore : List Part) (h : Holding) (old : World) (so_far : List Event) (now : World) (table : List Record) : Type 0 where
     calling : OnlyScripts (kept_by entries h) old so_far now → table ≡ h.records → IsCalling restore h old so_far now table
     restoring : (calls after : List Event) (called : World) → so_far ≡ calls ++ after → OnlyScripts (kept_by entries h) old calls called → scripts_of after ≡ []
-        → AreDoing name restore h.records called now → IsNotedBy name restore h.records table → IsCalling restore h old so_far now table
+        → AreAmid name restore h.records called after now → IsNotedBy name restore h.records table → IsCalling restore h old so_far now table
 
   -- How far a stage is: its parts are under way, or they are done and its calls are.
   pub data IsInStage (stage : Stage) (h : Holding) (old : World) (so_far : List Event) (now : World) (table : List Record) : Type 0 where
-    doing : scripts_of so_far ≡ [] → AreDoing name stage.parts.items h.records old now → IsNotedBy name stage.parts.items h.records table → IsInStage stage h old so_far now table
-    behind : (before since : List Event) (ready : World) → so_far ≡ before ++ since → scripts_of before ≡ [] → HaveDone name stage.parts.items h.records old ready
+    doing : scripts_of so_far ≡ [] → AreAmid name stage.parts.items h.records old so_far now → IsNotedBy name stage.parts.items h.records table → IsInStage stage h old so_far now table
+    behind : (before since : List Event) (ready : World) → so_far ≡ before ++ since → scripts_of before ≡ [] → HaveDone name (IsDeniedIn before) stage.parts.items h.records old ready
         → IsCalling stage.restore.items (after_parts name stage.parts.items h) ready since now table → IsInStage stage h old so_far now table
 
   -- at each moment of the calls of a stage
@@ -57,7 +57,7 @@ module _ (name : List ℕ) (entries : List Diversion) where
     pub events : so_far ≡ before ++ calls
     pub quiet : scripts_of before ≡ []
     pub ready : World
-    pub done : HaveDone name stage.parts.items h.records old ready
+    pub done : HaveDone name (IsDeniedIn before) stage.parts.items h.records old ready
     pub scripts : OnlyScripts (kept_by entries (after_parts name stage.parts.items h)) ready calls now
     pub passes : Tries stage.row (calls_of calls) true
 

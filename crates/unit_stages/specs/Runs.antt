@@ -2,7 +2,7 @@
 use Rattle.std.specs.Prelude.{◌≡◌, ◌≢◌, ◌⊎◌, ℕ, Bool, true, false, IsTrue, List, [], ◌∷◌, Option, Some, None}
 use Rattle.host_core.specs.Paths.{Path}
 use Rattle.host_core.specs.World.{is_kept}
-use Rattle.host_core.specs.Host.{State, Silent}
+use Rattle.host_core.specs.Host.{State, Silent, WasDenied}
 use Rattle.host_core.specs.Loss.{IsLater}
 use Rattle.host_core.specs.declared.call.Call.{Call}
 use Rattle.undo_rows.specs.Transcript.{Makes, Tries, UndoesRow}
@@ -16,11 +16,11 @@ use Rattle.unit_stages.specs.declared.part.Part.{Part}
 use Rattle.unit_stages.specs.Holding.{Holding, after_parts}
 use Rattle.unit_stages.specs.declared.stage.Stage.{Stage}
 
--- Parts were done, without a script call.
+-- Parts were done, without a script call. A directory whose removal was declined in between may have stayed.
 pub record DoesParts (name : List ℕ) (parts : List Part) (h : Holding) (s t : State) : Type 0 where
   pub silent : Silent s t
   pub later : IsLater s t
-  pub done : IsTrue t.honest → HaveDone name parts h.records s.world t.world
+  pub done : IsTrue t.honest → HaveDone name (WasDenied s t) parts h.records s.world t.world
 
 -- what scripts leave alone while these lists stand
 abbrev pub kept_by : List Diversion → Holding → Path → Bool

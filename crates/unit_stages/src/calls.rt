@@ -13,6 +13,8 @@ ghost use Rattle.unit_stages.specs.Calls.{MayCallRow};
 ghost use Rattle.unit_stages.specs.Holding.{holding_of};
 ghost use Rattle.unit_stages.specs.Running.{AreCalled};
 ghost use Rattle.unit_stages.specs.Runs.{HasCalled, HasUndone};
+ghost use Rattle.scattered_losses.specs.Apart.{WorksApart};
+ghost use Rattle.status_db.specs.Held.{is_record_place};
 
 use crate::part::Part;
 use crate::parts::do_and_keep;
@@ -99,6 +101,7 @@ fn undo_stage<H: Host>(
     ensures any_moment { AtEachMomentOf
         (AreCalled name.now diversions.now.entries restore.items (holding_of administration.old))
         (H.state host.old) (H.state host.new) }
+    ensures apart { WorksApart result is_record_place (H.state host.old) (H.state host.new) }
     ensures counts { Counts (H.state host.old) (H.state host.new) result }
 {
     let alloc = administration.alloc;
@@ -139,6 +142,7 @@ pub(crate) fn call_stage<H: Host>(
     ensures any_moment { AtEachMomentOf
         (AreCalled name.now diversions.now.entries restore.items (holding_of administration.old))
         (H.state host.old) (H.state host.new) }
+    ensures apart { WorksApart result is_record_place (H.state host.old) (H.state host.new) }
     ensures counts { Counts (H.state host.old) (H.state host.new) result }
 {
     match try_call(host, &administration.places, &row, told) {

@@ -1,11 +1,13 @@
 // Parts are done, one after another.
-ghost use Rattle.std.specs.Prelude.{◌≡◌, OnOk, true, false};
-ghost use Rattle.host_core.specs.Host.{AtEachMoment, Counts, Leaves, Needs, Silent};
+ghost use Rattle.std.specs.Prelude.{◌≡◌, IsTrue, OnOk, true, false};
+ghost use Rattle.host_core.specs.Host.{AtEachMomentOf, Counts, Leaves, Needs, Silent, WasDenied};
 ghost use Rattle.texts.specs.PackageNames.{is_package_name};
-ghost use Rattle.unit_stages.specs.Doing.{AreDoing};
+ghost use Rattle.unit_stages.specs.Doing.{AreAmid};
 ghost use Rattle.unit_stages.specs.PartFitting.{AreFit, AreSettleable};
 ghost use Rattle.held_administration.specs.Order.{IsInOrder};
 ghost use Rattle.unit_stages.specs.Parts.{HaveDone, parts_lists, parts_records};
+ghost use Rattle.scattered_losses.specs.Apart.{WorksApart};
+ghost use Rattle.status_db.specs.Held.{is_record_place};
 
 use crate::part::Part;
 use crate::step::do_part;
@@ -35,12 +37,14 @@ pub(crate) fn do_parts<H: Host>(
     ensures lists { OnOk result (lists.new.lists ≡ parts_lists name.now parts.now lists.old.lists) }
     ensures noting { OnOk result (database.new.closed ≡ false) }
     ensures listing { OnOk result (lists.new.closed ≡ false) }
-    ensures done { Leaves result (HaveDone name.now parts.now database.old.records)
-        (H.state host.old) (H.state host.new) }
+    ensures done { IsTrue (H.state host.new).honest
+        → OnOk result (HaveDone name.now (WasDenied (H.state host.old) (H.state host.new)) parts.now
+        database.old.records (H.state host.old).world (H.state host.new).world) }
     ensures order { Leaves result (λ old new. IsInOrder database.new lists.new.lists new)
         (H.state host.old) (H.state host.new) }
-    ensures any_moment { AtEachMoment (AreDoing name.now parts.now database.old.records)
+    ensures any_moment { AtEachMomentOf (AreAmid name.now parts.now database.old.records)
         (H.state host.old) (H.state host.new) }
+    ensures apart { WorksApart result is_record_place (H.state host.old) (H.state host.new) }
     ensures silent { Silent (H.state host.old) (H.state host.new) }
     ensures counts { Counts (H.state host.old) (H.state host.new) result }
 {

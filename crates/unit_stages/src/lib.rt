@@ -12,7 +12,12 @@
 //! The parts of a stage are done one after another (notes, conffiles, paths that go, names that are
 //! cleared, the list, control files): what they leave is told by the worlds between them
 //! (`HaveDone`); at each moment some are done, the next is under way, and the next opening finds
-//! the records of before it or those after it (`AreDoing`).
+//! the records of before it or those after it (`AreDoing`). Of the directories that were to go only
+//! those stay, with those above them, whose removal was declined in between or below which
+//! something is left (`DoesParts`, and `AreAmid` by what was declined so far).
+//!
+//! What a unit does before it notes a record is on the disk before the places of records change,
+//! and what comes behind the note is done when it is on the disk (`apart`: `WorksApart`).
 //!
 //! `what_stages_leave`: what lies outside is as before, in the end and at each moment.
 #![tactic(auto)]

@@ -1,16 +1,18 @@
 // The parts of a stage, and the places that scripts leave alone behind them.
 ghost use Rattle.std.specs.Prelude.{◌≡◌, false, true, ℕ, List, OnOk};
 ghost use Rattle.std.specs.List.{list_any};
-ghost use Rattle.host_core.specs.Host.{AtEachMoment, Counts, Needs, Silent};
+ghost use Rattle.host_core.specs.Host.{AtEachMomentOf, Counts, Needs, Silent};
 ghost use Rattle.texts.specs.PackageNames.{is_package_name};
 ghost use Rattle.file_lists.specs.Beside.{HadPlaces};
 ghost use Rattle.file_lists.specs.Owners.{places_in};
 ghost use Rattle.held_administration.specs.Open.{IsOpen};
-ghost use Rattle.unit_stages.specs.Doing.{AreDoing};
+ghost use Rattle.unit_stages.specs.Doing.{AreAmid};
 ghost use Rattle.unit_stages.specs.PartFitting.{AreFit, AreSettleable};
 ghost use Rattle.held_administration.specs.Order.{IsInOrder};
 ghost use Rattle.unit_stages.specs.Holding.{after_parts, holding_of, is_listing};
 ghost use Rattle.unit_stages.specs.Runs.{DoesParts};
+ghost use Rattle.scattered_losses.specs.Apart.{WorksApart};
+ghost use Rattle.status_db.specs.Held.{is_record_place};
 
 use crate::doing::do_parts;
 use crate::part::Part;
@@ -83,9 +85,10 @@ pub(crate) fn do_and_keep<H: Host>(
     ensures order { OnOk result
         (Needs (H.state host.new)
         (IsInOrder administration.new.database administration.new.lists.lists)) }
-    ensures any_moment { AtEachMoment
-        (AreDoing name.now parts.items administration.old.database.records)
+    ensures any_moment { AtEachMomentOf
+        (AreAmid name.now parts.items administration.old.database.records)
         (H.state host.old) (H.state host.new) }
+    ensures apart { WorksApart result is_record_place (H.state host.old) (H.state host.new) }
     ensures silent { Silent (H.state host.old) (H.state host.new) }
     ensures counts { Counts (H.state host.old) (H.state host.new) result }
 {

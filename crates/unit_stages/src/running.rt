@@ -11,6 +11,8 @@ ghost use Rattle.unit_stages.specs.Fitting.{AreStagesFit, AreStagesSettleable, I
 ghost use Rattle.unit_stages.specs.Holding.{holding_of};
 ghost use Rattle.unit_stages.specs.Running.{AreRunning, IsAmidStage};
 ghost use Rattle.unit_stages.specs.Runs.{HaveRun};
+ghost use Rattle.scattered_losses.specs.Apart.{WorksApart};
+ghost use Rattle.status_db.specs.Held.{is_record_place};
 
 use crate::calls::call_stage;
 use crate::parts::do_and_keep;
@@ -51,6 +53,7 @@ fn run_stage<H: Host>(
     ensures any_moment { AtEachMomentOf
         (IsAmidStage name.now diversions.now.entries stage (holding_of administration.old))
         (H.state host.old) (H.state host.new) }
+    ensures apart { WorksApart result is_record_place (H.state host.old) (H.state host.new) }
     ensures counts { Counts (H.state host.old) (H.state host.new) result }
 {
     let Stage {
@@ -94,6 +97,7 @@ pub fn run_stages<H: Host>(
     ensures any_moment { AtEachMomentOf
         (AreRunning name.now diversions.now.entries stages.items (holding_of administration.old))
         (H.state host.old) (H.state host.new) }
+    ensures apart { WorksApart result is_record_place (H.state host.old) (H.state host.new) }
     ensures counts { Counts (H.state host.old) (H.state host.new) result }
 {
     for stage in stages {

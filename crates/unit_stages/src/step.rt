@@ -1,11 +1,13 @@
 // One part.
-ghost use Rattle.std.specs.Prelude.{◌≡◌, [], ◌∷◌, OnOk, true, false};
-ghost use Rattle.host_core.specs.Host.{AtEachMoment, Counts, Leaves, Needs, Silent};
+ghost use Rattle.std.specs.Prelude.{◌≡◌, [], ◌∷◌, IsTrue, OnOk, true, false};
+ghost use Rattle.host_core.specs.Host.{AtEachMoment, Counts, Leaves, Needs, Silent, WasDenied};
 ghost use Rattle.texts.specs.PackageNames.{is_package_name};
 ghost use Rattle.unit_stages.specs.Doing.{IsDoing};
 ghost use Rattle.unit_stages.specs.PartFitting.{AreSettleable, IsFit};
 ghost use Rattle.held_administration.specs.Order.{IsInOrder};
 ghost use Rattle.unit_stages.specs.Parts.{HasDone, part_lists, part_records};
+ghost use Rattle.scattered_losses.specs.Apart.{WorksApart};
+ghost use Rattle.status_db.specs.Held.{is_record_place};
 
 use crate::listing::write_list;
 use crate::members::drop_members;
@@ -40,12 +42,14 @@ pub(crate) fn do_part<H: Host>(
     ensures lists { OnOk result (lists.new.lists ≡ part_lists name.now part.now lists.old.lists) }
     ensures noting { OnOk result (database.new.closed ≡ false) }
     ensures listing { OnOk result (lists.new.closed ≡ false) }
-    ensures done { Leaves result (HasDone name.now part.now database.old.records)
-        (H.state host.old) (H.state host.new) }
+    ensures done { IsTrue (H.state host.new).honest
+        → OnOk result (HasDone name.now (WasDenied (H.state host.old) (H.state host.new)) part.now
+        database.old.records (H.state host.old).world (H.state host.new).world) }
     ensures order { Leaves result (λ old new. IsInOrder database.new lists.new.lists new)
         (H.state host.old) (H.state host.new) }
     ensures any_moment { AtEachMoment (IsDoing name.now part.now database.old.records)
         (H.state host.old) (H.state host.new) }
+    ensures apart { WorksApart result is_record_place (H.state host.old) (H.state host.new) }
     ensures silent { Silent (H.state host.old) (H.state host.new) }
     ensures counts { Counts (H.state host.old) (H.state host.new) result }
 {

@@ -9,3 +9,4 @@ pub mod Loose
 pub mod StillReady
 pub mod Those
 pub mod Opening
+pub mod RecordsApart

@@ -5,7 +5,7 @@ use Rattle.std.proofs.lemmas.Bool.{false≢true}
 use Rattle.std.proofs.lemmas.Slice.Eq.{bytes_eq-Decides}
 use Rattle.host_core.specs.Paths.{Path}
 use Rattle.host_core.specs.Nodes.{own_access}
-use Rattle.host_core.specs.World.{World, IsDirectory, IsFile}
+use Rattle.host_core.specs.World.{World, IsDirectory, IsFile, lowered}
 use Rattle.host_core.specs.declared.node.Node.{Node}
 use Rattle.host_core.specs.declared.node.Node.TheVariants.{File, Dir, Link}
 use Rattle.administration.specs.Files.{IsReplacing, NoDirectory}
@@ -24,7 +24,8 @@ use Rattle.file_lists.specs.Taking.{HasTakenAll, IsTaking, left_file}
 use Rattle.file_lists.specs.Writing.{left_paths, list_file, list_text}
 use Rattle.file_removal.specs.declared.leaving.Leaving.{Leaving}
 use Rattle.file_removal.specs.Clearing.{cleared, is_among as is_cleared}
-use Rattle.file_removal.specs.Removal.{IsRemoving, Removed}
+use Rattle.file_removal.specs.Removal.{any_path, IsRemoving, Removed}
+use Rattle.file_removal.proofs.Lowered.{directory_lowered}
 use Rattle.status_db.specs.Held.{is_record_place}
 use Rattle.status_records.specs.declared.record.Record.{Record}
 use Rattle.listed_files.specs.Closing.{AreSparesLoose, HasReleased, HasRenewed, MayRelease, MayRenew}
@@ -78,8 +79,8 @@ cleared_loose (Some (Link target)) none = no_directory_none
 -- at a path where no directory stands none stands behind a part of a commit, and at each moment of it
 
 module _ (q : Path) where
-  removed_loose : (xs : List Leaving) (old new : World) → Removed xs old new → NoDirectory (old q) → NoDirectory (new q)
-  removed_loose xs old new removed none = elim (removed.each q) [
+  removed_loose : (xs : List Leaving) (old new : World) → Removed any_path xs old new → NoDirectory (old q) → NoDirectory (new q)
+  removed_loose xs old new removed none = elim (removed.2.each q) [
     | inl gone ↦ no_directory_at (new q) None gone.1 no_directory_none
     | inr kept ↦ no_directory_at (new q) (old q) kept.1 none
   ]
@@ -87,7 +88,10 @@ module _ (q : Path) where
   removing_loose : (xs : List Leaving) (old now : World) → IsRemoving xs old now → NoDirectory (old q) → NoDirectory (now q)
   removing_loose xs old now amid none = elim (amid.each q) [
     | inl same ↦ no_directory_at (now q) (old q) same none
-    | inr gone ↦ no_directory_at (now q) None gone.1 no_directory_none
+    | inr going ↦ elim going.1 [
+      | inl gone ↦ no_directory_at (now q) None gone no_directory_none
+      | inr low ↦ no_directory_at (now q) (lowered (old q)) low (λ is. none (directory_lowered (old q) is))
+    ]
   ]
 
   module _ (xs : List Leaving) (list : Path) (listed : List Path) (old : World) where
@@ -143,7 +147,10 @@ module _ (q : Path) where
           let mid = taken_loose m.0 m.1 m.2 none in
           elim (m.3.each q) [
             | inl same ↦ no_directory_at (now q) (m.0 q) same mid
-            | inr gone ↦ no_directory_at (now q) (cleared (m.0 q)) gone.1 (cleared_loose (m.0 q) mid)
+            | inr going ↦ elim going.1 [
+              | inl low ↦ no_directory_at (now q) (lowered (m.0 q)) low (λ is. mid (directory_lowered (m.0 q) is))
+              | inr gone ↦ no_directory_at (now q) (cleared (m.0 q)) gone (cleared_loose (m.0 q) mid)
+            ]
           ]
 
 -- so it is of the whole, where no record is noted

@@ -1,8 +1,14 @@
 -- The parts of a commit, one after another.
-use Rattle.std.proofs.Common.{◌≡◌, ◌⊎◌, inl, inr, true, IsTrue, List, [], Result, Ok, Err, OnOk, refl, ap, subst, ◌∙◌}
+use Rattle.std.proofs.Common.{◌≡◌, ◌⊎◌, inl, inr, true, false, IsTrue, List, [], ◌++◌, Result, Ok, Err, OnOk, refl, ap, subst, ◌∙◌}
 use Rattle.std.specs.Prelude.{OnErr}
 use Rattle.host_core.specs.World.{World}
-use Rattle.host_core.specs.Host.{State, AtEachMoment}
+use Rattle.host_core.specs.Paths.{Path}
+use Rattle.host_core.specs.Events.{Event, IsDeniedIn}
+use Rattle.host_core.specs.Host.{State, AtEachMoment, AtEachMomentOf, Since, WasDenied}
+use Rattle.host_core.proofs.Denials.{denied_first_since}
+use Rattle.file_removal.specs.Removal.{any_path}
+use Rattle.file_removal.proofs.Leavings.{unless_wider}
+use Rattle.listed_files.proofs.Denying.{denied_here, renewed_wider, renewing_wider}
 use Rattle.host_core.proofs.Moments.{since_then, since_weaker_if}
 use Rattle.administration.specs.Places.{list_path}
 use Rattle.diversions.specs.declared.entry.Diversion.{Diversion}
@@ -10,28 +16,37 @@ use Rattle.file_lists.specs.declared.paths.PackageList.{PackageList}
 use Rattle.file_lists.specs.Filed.{Filed}
 use Rattle.file_lists.specs.Taking.{without_all}
 use Rattle.file_lists.specs.Writing.{list_file}
-use Rattle.status_db.specs.Held.{IsKept}
+use Rattle.status_db.specs.Held.{CanOpenRecords, HasRecords, IsKept}
 use Rattle.status_db.specs.Recorded.{Recorded}
 use Rattle.status_records.specs.declared.record.Record.{Record}
-use Rattle.listed_files.specs.Closing.{HasReleased, HasRenewed, MayRelease, MayRenew, SparesAdministration}
+use Rattle.listed_files.specs.Closing.{HasReleased, HasRenewed, HasRenewedUnless, MayRelease, MayRenew, MayRenewUnless, SparesAdministration}
 use Rattle.listed_files.specs.Concluding.{AreElsewhere}
-use Rattle.unpack_commit.specs.Commit.{AreListsAmid, AreNoting, Changes, HasCommitted, HasSomeNoted, HasStored, HaveNoted, IsStoring, MayCommit, committed_lists, renewed_lists}
+use Rattle.unpack_commit.specs.Commit.{AreListsAmid, AreNoting, Changes, HasCommitted, HasCommittedUnless, HasSomeNoted, HasStored, HaveNoted, IsStoring, MayCommit, MayCommitUnless, committed_lists, renewed_lists}
 use Rattle.unpack_commit.proofs.Stays.{kept_opens, kept_stays, released_stays, releasing_stays, renewed_stays, renewing_stays, written_stays}
 
--- what holds at each moment of the first part, and of the second behind it
+-- what holds at each moment of a part, behind what was done before it
 
-since_first : (P R : World → World → Type 0) (a b : State) → (IsTrue b.honest → (now : World) → P a.world now → R a.world now) → AtEachMoment P a b → AtEachMoment R a b
-since_first P R a b so since = since_weaker_if (λ so_far. P a.world) (λ so_far. R a.world) a b (λ h so_far now is. so h now is) since
-
-since_more : (Q R : World → World → Type 0) (a b c : State) → AtEachMoment R a b → (IsTrue c.honest → (now : World) → Q b.world now → R a.world now) → AtEachMoment Q b c → AtEachMoment R a c
-since_more Q R a b c first so second = since_then (λ so_far. R a.world) a b c first (since_weaker_if (λ so_far. Q b.world) (λ so_far. R a.world) b c (λ h so_far now is. so h now is) second)
+since_more : (Q : World → World → Type 0) (R : World → List Event → World → Type 0) (a b c : State) → (first : Since (R a.world) a b)
+    → (IsTrue c.honest → (later : List Event) (now : World) → Q b.world now → R a.world (first.added ++ later) now) → AtEachMoment Q b c → Since (R a.world) a c
+since_more Q R a b c first so second = since_then (R a.world) a b c first (since_weaker_if (λ so_far. Q b.world) (λ so_far. R a.world (first.added ++ so_far)) b c (λ h later now is. so h later now is) second)
 
 module _ (c : Changes) (entries : List Diversion) (lists : List PackageList) where
-  abbrev Renewing : World → World → Type 0
-  Renewing = MayRenew c.leaving (list_path c.name) (list_file c.listed)
+  abbrev Renewing : World → List Event → World → Type 0
+  Renewing old so_far now = MayRenewUnless (IsDeniedIn so_far) c.leaving (list_path c.name) (list_file c.listed) old now
 
   abbrev Renewed : World → World → Type 0
   Renewed = HasRenewed c.leaving (list_path c.name) (list_file c.listed)
+
+  abbrev RenewedUnless : (declined : Path → Type 0) → World → World → Type 0
+  RenewedUnless declined = HasRenewedUnless declined c.leaving (list_path c.name) (list_file c.listed)
+
+  abbrev renewed_any : (declined : Path → Type 0) (old new : World) → RenewedUnless declined old new → Renewed old new
+  renewed_any declined old new has = record { mid = has.mid; removed = unless_wider declined any_path false c.leaving old has.mid (λ p is. tt) has.removed; replaced = has.replaced }
+
+  -- at each moment, whatever was declined
+  pub renewing_any : (a b : State) → AtEachMomentOf Renewing a b → AtEachMoment (MayRenew c.leaving (list_path c.name) (list_file c.listed)) a b
+  renewing_any a b since = since_weaker_if (Renewing a.world) (λ so_far. MayRenew c.leaving (list_path c.name) (list_file c.listed) a.world) a b
+      (λ h so_far now may. renewing_wider (IsDeniedIn so_far) any_path (λ p is. tt) c.leaving (list_path c.name) (list_file c.listed) a.world now may) since
 
   abbrev Releasing : World → World → Type 0
   Releasing = MayRelease entries c.places c.losers (renewed_lists c entries lists) c.names
@@ -46,9 +61,9 @@ module _ (c : Changes) (entries : List Diversion) (lists : List PackageList) whe
   pub released_as : (had : List PackageList) → had ≡ renewed_lists c entries lists → (old new : World) → HasReleased entries c.places c.losers had c.names old new → Released old new
   released_as had same old new = subst (λ had. HasReleased entries c.places c.losers had c.names old new) same
 
-  pub has_committed : (after : List Record) (old renewed stored released new : World) → Renewed old renewed → HasStored c.name c.members renewed stored → Released stored released → HaveNoted after released new
-      → HasCommitted c entries lists after old new
-  has_committed after old renewed stored released new first second third last = record {
+  pub has_committed : (declined : Path → Type 0) (after : List Record) (old renewed stored released new : World) → RenewedUnless declined old renewed → HasStored c.name c.members renewed stored → Released stored released → HaveNoted after released new
+      → HasCommittedUnless c entries lists declined after old new
+  has_committed declined after old renewed stored released new first second third last = record {
     renewed = renewed;
     stored = stored;
     released = released;
@@ -61,8 +76,8 @@ module _ (c : Changes) (entries : List Diversion) (lists : List PackageList) whe
   }
 
   module _ (spares : SparesAdministration c.leaving) (elsewhere : AreElsewhere c.names) (d : Recorded) where
-    pub kept_renewed : (old renewed : World) → Renewed old renewed → IsKept d old → IsKept d renewed
-    kept_renewed old renewed has kept = kept_stays d old renewed (renewed_stays c.leaving c.name (list_file c.listed) old spares renewed has) kept
+    pub kept_renewed : (declined : Path → Type 0) (old renewed : World) → RenewedUnless declined old renewed → IsKept d old → IsKept d renewed
+    kept_renewed declined old renewed has kept = kept_stays d old renewed (renewed_stays c.leaving c.name (list_file c.listed) old spares renewed (renewed_any declined old renewed has)) kept
 
     pub kept_stored : (old stored : World) → HasStored c.name c.members old stored → IsKept d old → IsKept d stored
     kept_stored old stored has kept = kept_stays d old stored (written_stays c.name old stored has.replaced.rest) kept
@@ -71,52 +86,91 @@ module _ (c : Changes) (entries : List Diversion) (lists : List PackageList) whe
     kept_released old released has kept = kept_stays d old released (released_stays entries c.places c.losers (renewed_lists c entries lists) c.names old elsewhere released has) kept
 
     module _ (records : List Record) where
-      abbrev Committing : World → World → Type 0
-      Committing = MayCommit c entries lists records d.records
+      abbrev Committing : World → List Event → World → Type 0
+      Committing old so_far now = MayCommitUnless c entries lists (IsDeniedIn so_far) records d.records old now
 
-      may_renew : (old now : World) → IsKept d old → Renewing old now → Committing old now
-      may_renew old now kept may =
-          let still = kept_stays d old now (renewing_stays c.leaving c.name (list_file c.listed) old spares now may) kept in
-          MayCommit.renewing may still.holds (kept_opens d now still)
+      stayed_renewing : (declined : Path → Type 0) (old now : World) (may : MayRenewUnless declined c.leaving (list_path c.name) (list_file c.listed) old now) (has : HasRecords now d.records) (opens : CanOpenRecords now)
+          → MayCommitUnless c entries lists declined records d.records old now
+      stayed_renewing declined old now (inl removing) has opens = (MayCommit.renewing (inl removing) has opens, tt)
+      stayed_renewing declined old now (inr m) has opens = (MayCommit.renewing (inr (m.0, unless_wider declined any_path false c.leaving old m.0 (λ p is. tt) m.1, m.2)) has opens, m.1)
 
-      may_store : (old renewed now : World) → IsKept d renewed → Renewed old renewed → IsStoring c.name c.members renewed now → Committing old now
-      may_store old renewed now kept first is =
-          let still = kept_stays d renewed now (written_stays c.name renewed now is.replacing.rest) kept in
-          MayCommit.replacing renewed is.stale first is.replacing still.holds (kept_opens d now still)
+      may_renew : (old : World) (so_far : List Event) (now : World) → IsKept d old → Renewing old so_far now → Committing old so_far now
+      may_renew old so_far now kept may =
+          let any = renewing_wider (IsDeniedIn so_far) any_path (λ p is. tt) c.leaving (list_path c.name) (list_file c.listed) old now may in
+          let still = kept_stays d old now (renewing_stays c.leaving c.name (list_file c.listed) old spares now any) kept in
+          stayed_renewing (IsDeniedIn so_far) old now may still.holds (kept_opens d now still)
 
-      may_release : (old renewed stored now : World) → IsKept d stored → Renewed old renewed → HasStored c.name c.members renewed stored → Releasing stored now → Committing old now
-      may_release old renewed stored now kept first second may =
-          let still = kept_stays d stored now (releasing_stays entries c.places c.losers (renewed_lists c entries lists) c.names stored elsewhere now may) kept in
-          MayCommit.releasing renewed stored second.stale first second.replaced second.whole may still.holds (kept_opens d now still)
+      module _ (declined : Path → Type 0) (old renewed : World) (first : RenewedUnless declined old renewed) where
+        may_store : (now : World) → IsKept d renewed → IsStoring c.name c.members renewed now → MayCommitUnless c entries lists declined records d.records old now
+        may_store now kept is =
+            let still = kept_stays d renewed now (written_stays c.name renewed now is.replacing.rest) kept in
+            (MayCommit.replacing renewed is.stale (renewed_any declined old renewed first) is.replacing still.holds (kept_opens d now still), first.removed)
 
-      may_note : (old renewed stored released now : World) → Renewed old renewed → HasStored c.name c.members renewed stored → Released stored released → AreNoting records d.records released now → Committing old now
-      may_note old renewed stored released now first second third is = MayCommit.noting renewed stored released second.stale first second.replaced second.whole third is
+        may_release : (stored now : World) → IsKept d stored → HasStored c.name c.members renewed stored → Releasing stored now → MayCommitUnless c entries lists declined records d.records old now
+        may_release stored now kept second may =
+            let still = kept_stays d stored now (releasing_stays entries c.places c.losers (renewed_lists c entries lists) c.names stored elsewhere now may) kept in
+            (MayCommit.releasing renewed stored second.stale (renewed_any declined old renewed first) second.replaced second.whole may still.holds (kept_opens d now still), first.removed)
+
+        may_note : (stored released now : World) → HasStored c.name c.members renewed stored → Released stored released → AreNoting records d.records released now → MayCommitUnless c entries lists declined records d.records old now
+        may_note stored released now second third is = (MayCommit.noting renewed stored released second.stale (renewed_any declined old renewed first) second.replaced second.whole third is, first.removed)
 
       -- moment by moment
-      module _ (s0 s1 : State) (kept : IsTrue s0.honest → IsKept d s0.world) (renewing : AtEachMoment Renewing s0 s1) where
-        pub while_renewing : AtEachMoment Committing s0 s1
-        while_renewing = since_first Renewing Committing s0 s1 (λ h now may. may_renew s0.world now (kept (renewing.honest h)) may) renewing
+      module _ (s0 s1 : State) (kept : IsTrue s0.honest → IsKept d s0.world) (renewing : AtEachMomentOf Renewing s0 s1) where
+        pub while_renewing : AtEachMomentOf Committing s0 s1
+        while_renewing = since_weaker_if (Renewing s0.world) (Committing s0.world) s0 s1 (λ h so_far now may. may_renew s0.world so_far now (kept (renewing.honest h)) may) renewing
 
-        module _ (s2 : State) (renewed : IsTrue s1.honest → Renewed s0.world s1.world) (storing : AtEachMoment (IsStoring c.name c.members) s1 s2) where
-          pub while_storing : AtEachMoment Committing s0 s2
+        -- what was declined in the first part stays known
+        unless_then : (s : State) (added more : List Event) → s.events ≡ s0.events ++ added → RenewedUnless (WasDenied s0 s) s0.world s1.world → RenewedUnless (IsDeniedIn (added ++ more)) s0.world s1.world
+        unless_then s added more events has = renewed_wider (WasDenied s0 s) (IsDeniedIn (added ++ more)) (λ p denied. denied_here s0 s added more p events denied) c.leaving (list_path c.name) (list_file c.listed) s0.world s1.world has
+
+        unless_later : (Q : World → Type 0) (s t : State) → Since (λ so_far. Q) s t → RenewedUnless (WasDenied s0 s) s0.world s1.world → RenewedUnless (WasDenied s0 t) s0.world s1.world
+        unless_later Q s t since has = renewed_wider (WasDenied s0 s) (WasDenied s0 t) (λ p denied. denied_first_since (λ so_far. Q) s0 s t p denied since) c.leaving (list_path c.name) (list_file c.listed) s0.world s1.world has
+
+        module _ (s2 : State) (renewed : IsTrue s1.honest → RenewedUnless (WasDenied s0 s1) s0.world s1.world) (storing : AtEachMoment (IsStoring c.name c.members) s1 s2) where
+          pub while_storing : AtEachMomentOf Committing s0 s2
           while_storing =
-              since_more (IsStoring c.name c.members) Committing s0 s1 s2 while_renewing (λ h now is. (let h1 = storing.honest h in
-              may_store s0.world s1.world now (kept_renewed s0.world s1.world (renewed h1) (kept (renewing.honest h1))) (renewed h1) is)) storing
+              since_more (IsStoring c.name c.members) Committing s0 s1 s2 while_renewing (λ h later now is. (let h1 = storing.honest h in
+              may_store (IsDeniedIn (while_renewing.added ++ later)) s0.world s1.world (unless_then s1 while_renewing.added later while_renewing.events (renewed h1)) now (kept_renewed (WasDenied s0 s1) s0.world s1.world (renewed h1) (kept (renewing.honest h1))) is)) storing
 
           module _ (s3 : State) (stored : IsTrue s2.honest → HasStored c.name c.members s1.world s2.world) (releasing : AtEachMoment Releasing s2 s3) where
-            pub while_releasing : AtEachMoment Committing s0 s3
+            pub while_releasing : AtEachMomentOf Committing s0 s3
             while_releasing =
-                since_more Releasing Committing s0 s2 s3 while_storing (λ h now may. (let h2 = releasing.honest h in
+                since_more Releasing Committing s0 s2 s3 while_storing (λ h later now may. (let h2 = releasing.honest h in
                 let h1 = storing.honest h2 in
-                may_release s0.world s1.world s2.world now
-                (kept_stored s1.world s2.world (stored h2) (kept_renewed s0.world s1.world (renewed h1) (kept (renewing.honest h1)))) (renewed h1) (stored h2) may)) releasing
+                may_release (IsDeniedIn (while_storing.added ++ later)) s0.world s1.world
+                (unless_then s2 while_storing.added later while_storing.events (unless_later (IsStoring c.name c.members s1.world) s1 s2 storing (renewed h1))) s2.world now
+                (kept_stored s1.world s2.world (stored h2) (kept_renewed (WasDenied s0 s1) s0.world s1.world (renewed h1) (kept (renewing.honest h1)))) (stored h2) may)) releasing
 
-            pub while_noting : (s4 : State) → (IsTrue s3.honest → Released s2.world s3.world) → AtEachMoment (AreNoting records d.records) s3 s4 → AtEachMoment Committing s0 s4
+            unless_released : RenewedUnless (WasDenied s0 s1) s0.world s1.world → RenewedUnless (WasDenied s0 s3) s0.world s1.world
+            unless_released has = unless_later (Releasing s2.world) s2 s3 releasing (unless_later (IsStoring c.name c.members s1.world) s1 s2 storing has)
+
+            pub while_noting : (s4 : State) → (IsTrue s3.honest → Released s2.world s3.world) → AtEachMoment (AreNoting records d.records) s3 s4 → AtEachMomentOf Committing s0 s4
             while_noting s4 released noting =
-                since_more (AreNoting records d.records) Committing s0 s3 s4 while_releasing (λ h now is. (let h3 = noting.honest h in
+                since_more (AreNoting records d.records) Committing s0 s3 s4 while_releasing (λ h later now is. (let h3 = noting.honest h in
                 let h2 = releasing.honest h3 in
                 let h1 = storing.honest h2 in
-                may_note s0.world s1.world s2.world s3.world now (renewed h1) (stored h2) (released h3) is)) noting
+                may_note (IsDeniedIn (while_releasing.added ++ later)) s0.world s1.world (unless_then s3 while_releasing.added later while_releasing.events (unless_released (renewed h1))) s2.world s3.world now (stored h2) (released h3) is)) noting
+
+            -- and in the end
+            pub renewed_end : (s4 : State) → AtEachMoment (AreNoting records d.records) s3 s4 → RenewedUnless (WasDenied s0 s1) s0.world s1.world → RenewedUnless (WasDenied s0 s4) s0.world s1.world
+            renewed_end s4 noting has = unless_later (AreNoting records d.records s3.world) s3 s4 noting (unless_released has)
+
+-- whatever was declined
+pub committed_wider : (declined more : Path → Type 0) → ((p : Path) → declined p → more p) → (c : Changes) (entries : List Diversion) (lists : List PackageList) (after : List Record) (old new : World) → HasCommittedUnless c entries lists declined after old new → HasCommittedUnless c entries lists more after old new
+committed_wider declined more wide c entries lists after old new has = record {
+  renewed = has.renewed;
+  stored = has.stored;
+  released = has.released;
+  stale = has.stale;
+  renewal = renewed_wider declined more wide c.leaving (list_path c.name) (list_file c.listed) old has.renewed has.renewal;
+  replaced = has.replaced;
+  whole = has.whole;
+  release = has.release;
+  noted = has.noted;
+}
+
+pub committed_any : (declined : Path → Type 0) (c : Changes) (entries : List Diversion) (lists : List PackageList) (after : List Record) (old new : World) → HasCommittedUnless c entries lists declined after old new → HasCommitted c entries lists after old new
+committed_any declined c entries lists after old new has = committed_wider declined any_path (λ p is. tt) c entries lists after old new has
 
 -- what holds whatever the answer
 

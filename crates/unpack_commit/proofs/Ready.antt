@@ -17,6 +17,7 @@ use Rattle.control_members.proofs.Apart.{info_no_temporary, info_other, no_list,
 use Rattle.control_members.proofs.Replacing.{ready_beside}
 use Rattle.file_lists.specs.Writing.{IsListReady, list_file, list_text}
 use Rattle.file_removal.specs.declared.leaving.Leaving.{Leaving}
+use Rattle.file_removal.specs.Removal.{any_path}
 use Rattle.listed_files.specs.Closing.{HasRenewed, SparesAdministration}
 use Rattle.listed_files.proofs.Areas.{renewed_keeps}
 use Rattle.listed_files.proofs.Closings.{ready_removed}
@@ -64,7 +65,7 @@ loose_replaced path node old new q file is none = by (bytes_eq q path) (bytes_eq
 
 pub list_ready_renewed : (xs : List Leaving) (name : Path) (listed : List Path) (old new : World) (other : Path) → SparesAdministration xs → HasRenewed xs (list_path name) (list_file listed) old new → IsListReady other old → IsListReady other new
 list_ready_renewed xs name listed old new other spares has ready =
-    let mid = ready_removed other xs old has.mid spares has.removed ready in
+    let mid = ready_removed any_path other xs old has.mid spares has.removed ready in
     let info = info_is_no_list name in
     let file : IsFile (list_file listed) = (list_text listed, own_access 0o644, refl) in
     record {

@@ -89,7 +89,7 @@ module _ (entries : List Diversion) (places from : List Path) (had : List Packag
 
 -- so the records are kept
 
-record_within : (q : Path) → is_record_place q ≡ true → (is_within home_path q ≡ true) × (byte q ≡ 105 → ⊥)
+pub record_within : (q : Path) → is_record_place q ≡ true → (is_within home_path q ≡ true) × (byte q ≡ 105 → ⊥)
 unfolding byte
 record_within q is = elim (or_cases (bytes_eq q status_path) (bytes_eq q (temporary status_path) || starts_with nat_eq q (updates_path ++ codes "/")) is) [
   | inl e ↦ at status_path ((bytes_eq-Decides q status_path).0 e) refl (λ b. absurd (omega (arith, b)))

@@ -1,6 +1,7 @@
 -- The commit of an unpack, in Policy's order (6.6): old paths go, the list and the control files are the new ones, places leave other
 -- packages' lists, what only the installer writes goes, and then the records are noted, the package's own last.
 use Rattle.std.specs.Prelude.{◌≡◌, ◌⊎◌, ℕ, List, ◌++◌}
+use Rattle.std.proofs.Common.{inl, inr}
 use Rattle.host_core.specs.Paths.{Path}
 use Rattle.host_core.specs.World.{World, KeepsBut}
 use Rattle.administration.specs.Places.{list_path}
@@ -13,7 +14,8 @@ use Rattle.file_lists.specs.declared.paths.PackageList.{PackageList}
 use Rattle.file_removal.specs.declared.leaving.Leaving.{Leaving}
 use Rattle.status_db.specs.Held.{CanOpenRecords, HasRecords, is_record_place}
 use Rattle.status_records.specs.declared.record.Record.{Record}
-use Rattle.listed_files.specs.Closing.{HasReleased, HasRenewed, MayRelease, MayRenew}
+use Rattle.listed_files.specs.Closing.{HasReleased, HasRenewed, HasRenewedUnless, MayRelease, MayRenew}
+use Rattle.file_removal.specs.Removal.{any_path, Removed}
 use Rattle.unpack_commit.specs.Takeover.{put_records}
 use Rattle.unpack_commit.specs.declared.change.Change.{Change}
 
@@ -87,17 +89,21 @@ module _ (c : Changes) (entries : List Diversion) (lists : List PackageList) whe
   abbrev pub AreListsAmid : List PackageList → Type 0
   AreListsAmid now = (now ≡ lists) ⊎ ((now ≡ renewed_lists) ⊎ (now ≡ committed_lists))
 
-  -- all of it, by the worlds between its parts
-  pub record HasCommitted (after : List Record) (old new : World) : Type 0 where
+  -- all of it, by the worlds between its parts; of the directories that could go only those stayed whose removal was declined
+  pub record HasCommittedUnless (declined : Path → Type 0) (after : List Record) (old new : World) : Type 0 where
     pub renewed : World
     pub stored : World
     pub released : World
     pub stale : List Path
-    pub renewal : HasRenewed c.leaving (list_path c.name) (list_file c.listed) old renewed
+    pub renewal : HasRenewedUnless declined c.leaving (list_path c.name) (list_file c.listed) old renewed
     pub replaced : AreReplaced c.name c.members stale renewed stored
     pub whole : AreStored c.name c.members stored
     pub release : HasReleased entries c.places c.losers renewed_lists c.names stored released
     pub noted : HaveNoted after released new
+
+  -- whatever was declined
+  abbrev pub HasCommitted : List Record → World → World → Type 0
+  HasCommitted after old new = HasCommittedUnless any_path after old new
 
   -- at each moment: the paths go and the list is written; or control files take the place of the old ones; or places leave other
   -- lists and names are cleared; or the records are noted
@@ -111,3 +117,15 @@ module _ (c : Changes) (entries : List Diversion) (lists : List PackageList) whe
     noting : (renewed stored released : World) (stale : List Path) → HasRenewed c.leaving (list_path c.name) (list_file c.listed) old renewed
         → AreReplaced c.name c.members stale renewed stored → AreStored c.name c.members stored
         → HasReleased entries c.places c.losers renewed_lists c.names stored released → AreNoting records before released now → MayCommit records before old now
+
+  -- of the directories that could go only those stayed whose removal was declined
+  abbrev pub StayedAmid : (declined : Path → Type 0) (records before : List Record) (old now : World) → MayCommit records before old now → Type 0
+  StayedAmid declined records before old now (MayCommit.renewing (inl removing) has opens) = Unit {0}
+  StayedAmid declined records before old now (MayCommit.renewing (inr m) has opens) = Removed declined c.leaving old m.0
+  StayedAmid declined records before old now (MayCommit.replacing renewed stale first is has opens) = Removed declined c.leaving old first.mid
+  StayedAmid declined records before old now (MayCommit.releasing renewed stored stale first second whole may has opens) = Removed declined c.leaving old first.mid
+  StayedAmid declined records before old now (MayCommit.noting renewed stored released stale first second whole third is) = Removed declined c.leaving old first.mid
+
+  -- at each moment, of what was declined until then
+  abbrev pub MayCommitUnless : (declined : Path → Type 0) (records before : List Record) (old now : World) → Type 0
+  MayCommitUnless declined records before old now = (may : MayCommit records before old now) × StayedAmid declined records before old now may

@@ -1,15 +1,17 @@
 // The commit of an unpack.
 ghost use Rattle.std.specs.Prelude.{◌≡◌, ◌⊎◌, ℕ, List, Contains, OnOk, OnErr, true, false};
-ghost use Rattle.host_core.specs.Host.{AtEachMoment, Counts, Leaves, Needs, Silent};
+ghost use Rattle.host_core.specs.Events.{IsDeniedIn};
+ghost use Rattle.host_core.specs.Host.{AtEachMomentOf, Counts, Leaves, Needs, Silent, WasDenied};
 ghost use Rattle.texts.specs.PackageNames.{is_package_name};
 ghost use Rattle.control_members.specs.Stored.{IsMembersReady};
 ghost use Rattle.file_lists.specs.Owners.{AreListPaths};
 ghost use Rattle.file_lists.specs.Writing.{IsListReady};
-ghost use Rattle.status_db.specs.Held.{IsKept};
+ghost use Rattle.scattered_losses.specs.Apart.{WorksApart};
+ghost use Rattle.status_db.specs.Held.{IsKept, is_record_place};
 ghost use Rattle.status_records.specs.Records.{AreStanding};
-ghost use Rattle.listed_files.specs.Closing.{SparesAdministration};
+ghost use Rattle.listed_files.specs.Closing.{BeganWithBarrier, SparesAdministration};
 ghost use Rattle.listed_files.specs.Concluding.{AreElsewhere};
-ghost use Rattle.unpack_commit.specs.Commit.{AreListsAmid, HasCommitted, HasSomeNoted, MayCommit, changes_of, committed_lists};
+ghost use Rattle.unpack_commit.specs.Commit.{AreListsAmid, HasCommittedUnless, HasSomeNoted, MayCommitUnless, changes_of, committed_lists};
 ghost use Rattle.unpack_commit.specs.Takeover.{put_records};
 
 use crate::change::Change;
@@ -61,14 +63,16 @@ pub fn commit<H: Host>(
     ensures opened { OnOk result (database.new.closed ≡ false) }
     ensures err { OnErr result (HasSomeNoted records.now database.old.records
         database.new.records) }
-    ensures committed { Leaves result (HasCommitted (changes_of change.now new_list)
-        diversions.now.entries lists.old.lists (put_records records.now database.old.records))
-        (H.state host.old) (H.state host.new) }
+    ensures committed { Leaves result (HasCommittedUnless (changes_of change.now new_list)
+        diversions.now.entries lists.old.lists (WasDenied (H.state host.old) (H.state host.new))
+        (put_records records.now database.old.records)) (H.state host.old) (H.state host.new) }
     ensures kept { Leaves result (λ old new. IsKept database.new new) (H.state host.old)
         (H.state host.new) }
-    ensures any_moment { AtEachMoment (MayCommit (changes_of change.now new_list)
-        diversions.now.entries lists.old.lists records.now database.old.records) (H.state host.old)
-        (H.state host.new) }
+    ensures any_moment { AtEachMomentOf (λ old so_far now. MayCommitUnless
+        (changes_of change.now new_list) diversions.now.entries lists.old.lists (IsDeniedIn so_far)
+        records.now database.old.records old now) (H.state host.old) (H.state host.new) }
+    ensures first { OnOk result (BeganWithBarrier (H.state host.old) (H.state host.new)) }
+    ensures apart { WorksApart result is_record_place (H.state host.old) (H.state host.new) }
     ensures silent { Silent (H.state host.old) (H.state host.new) }
     ensures counts { Counts (H.state host.old) (H.state host.new) result }
 {

@@ -4,8 +4,10 @@
 //! # What is proved
 //!
 //! `commit`, what follows where all rows succeeded, by the worlds between its parts in Policy's
-//! order (`committed`), and at each moment (`any_moment`); `takeover_of` and `yields_of`: what
-//! leaves packages of which only conffiles are left. Laws: all else is as before
+//! order (`committed`), and at each moment (`any_moment`), behind a barrier (`first`); of the
+//! directories that could go only those stay whose removal is declined. What is done before the
+//! notes is on the disk before the places of records change (`apart`). `takeover_of` and
+//! `yields_of`: what leaves packages of which only conffiles are left. Laws: all else is as before
 //! (`what_a_commit_leaves`), no directory comes into `info/` (`a_commit_leaves_info_loose`), the
 //! next opening reads the records at each moment (`a_commit_can_be_opened_amid`).
 #![tactic(auto)]

@@ -1,12 +1,13 @@
 // The moves of a commit, with what its change says.
 ghost use Rattle.std.specs.Prelude.{◌≡◌, ◌⊎◌, ℕ, List, Contains, OnOk, OnErr, true, false};
-ghost use Rattle.host_core.specs.Host.{AtEachMoment, Counts, Leaves, Needs, Silent};
+ghost use Rattle.host_core.specs.Events.{IsDeniedIn};
+ghost use Rattle.host_core.specs.Host.{AtEachMoment, AtEachMomentOf, Counts, Leaves, Needs, Silent, WasDenied};
 ghost use Rattle.texts.specs.PackageNames.{is_package_name};
 ghost use Rattle.administration.specs.Places.{list_path};
 ghost use Rattle.file_lists.specs.Owners.{AreListPaths};
 ghost use Rattle.file_lists.specs.Taking.{without_all};
 ghost use Rattle.file_lists.specs.Writing.{list_file, with_list, IsListReady};
-ghost use Rattle.listed_files.specs.Closing.{HasReleased, HasRenewed, MayRelease, MayRenew, SparesAdministration};
+ghost use Rattle.listed_files.specs.Closing.{BeganWithBarrier, HasReleased, HasRenewedUnless, MayRelease, MayRenewUnless, SparesAdministration};
 
 use crate::change::Change;
 use diversions::Diversions;
@@ -34,10 +35,13 @@ pub(crate) fn renew<H: Host>(
     }) }
     ensures err { OnErr result ((lists.new ≡ record lists.old { closed = true })
         ⊎ (lists.new ≡ lists.old)) }
-    ensures renewed { Leaves result (HasRenewed change.now.leaving.items (list_path change.now.name)
+    ensures renewed { Leaves result (HasRenewedUnless (WasDenied (H.state host.old)
+        (H.state host.new)) change.now.leaving.items (list_path change.now.name)
         (list_file new_list)) (H.state host.old) (H.state host.new) }
-    ensures any_moment { AtEachMoment (MayRenew change.now.leaving.items (list_path change.now.name)
-        (list_file new_list)) (H.state host.old) (H.state host.new) }
+    ensures any_moment { AtEachMomentOf (λ old so_far now. MayRenewUnless (IsDeniedIn so_far)
+        change.now.leaving.items (list_path change.now.name) (list_file new_list) old now)
+        (H.state host.old) (H.state host.new) }
+    ensures first { OnOk result (BeganWithBarrier (H.state host.old) (H.state host.new)) }
     ensures silent { Silent (H.state host.old) (H.state host.new) }
     ensures counts { Counts (H.state host.old) (H.state host.new) result }
 {

@@ -1,7 +1,8 @@
 // Records that are noted one after another.
 ghost use Rattle.std.specs.Prelude.{◌≡◌, OnOk, OnErr, true, false};
 ghost use Rattle.host_core.specs.Host.{AtEachMoment, Counts, Leaves, Needs, Silent};
-ghost use Rattle.status_db.specs.Held.{IsKept};
+ghost use Rattle.scattered_losses.specs.Apart.{WorksApart};
+ghost use Rattle.status_db.specs.Held.{IsKept, is_record_place};
 ghost use Rattle.status_db.specs.Noting.{IsNoted, IsNoting};
 ghost use Rattle.status_records.specs.Records.{AreStanding, put_record};
 ghost use Rattle.status_records.specs.Words.{is_not_installed};
@@ -29,6 +30,7 @@ fn note_copy<H: Host>(
     ensures kept { Leaves result (IsNoted database.new) (H.state host.old) (H.state host.new) }
     ensures any_moment { AtEachMoment (IsNoting database.old.records
         (put_record entry.now database.old.records)) (H.state host.old) (H.state host.new) }
+    ensures apart { WorksApart result is_record_place (H.state host.old) (H.state host.new) }
     ensures silent { Silent (H.state host.old) (H.state host.new) }
     ensures counts { Counts (H.state host.old) (H.state host.new) result }
 {
@@ -57,6 +59,7 @@ pub(crate) fn note_records<H: Host>(
         (H.state host.new) }
     ensures any_moment { AtEachMoment (AreNoting records.now database.old.records)
         (H.state host.old) (H.state host.new) }
+    ensures apart { WorksApart result is_record_place (H.state host.old) (H.state host.new) }
     ensures silent { Silent (H.state host.old) (H.state host.new) }
     ensures counts { Counts (H.state host.old) (H.state host.new) result }
 {

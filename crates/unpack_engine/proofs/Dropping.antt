@@ -41,7 +41,7 @@ dropped_opens reached found name d v w dropped kept = kept_opens d w (dropped_ke
 
 -- only `tmp.ci` changes
 module _ (v w : World) (keeps : KeepsBut (is_within tmp_path) v w) where
-  outside : (q : Path) → is_record_place q ≡ true → is_within tmp_path q ≡ false
+  pub outside : (q : Path) → is_record_place q ≡ true → is_within tmp_path q ≡ false
   outside q is = false_from_ne_true (is_within tmp_path q) (λ within. true≢false (sym is ∙ (tmp_beside [] q within).unnoted))
 
   pub laying_kept : (d : Recorded) → IsKept d v → IsKept d w

@@ -26,3 +26,4 @@ pub mod Quiet
 pub mod Planning
 pub mod EndRecords
 pub mod InfoSound
+pub mod RecordsApart

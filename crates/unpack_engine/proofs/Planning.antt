@@ -102,6 +102,7 @@ module _ (g : Given) (places : List Path) (old mid : State) (reads : Reads old m
           since = carried.since;
           later = carried.later;
           leaves = carried.leaves;
+          stays = carried.stays;
           records = carried.records;
           lists_are = carried.lists_are;
         }

@@ -190,10 +190,10 @@ module _ (held : Administration) (entries : List Diversion) (rows : Rows) (works
     parts_touched apart after touched is says =
         touched_ended g plan.job p plan.planned held.database held.lists.lists old last order tree ended mid told now ran parts_length ended apart after touched is says
 
--- of an answer three things hold, and a fourth where the host was honest
-pub if_ok_all : {T E : Type 0} (result : Result T E) (P Q : T → Type 0) (A B N L : Type 0) → ((x : T) → P x → A → B → (N → L) → Q x) → IfOk result P → OnOk result A → OnOk result B → (N → OnOk result L) → IfOk result Q
-if_ok_all (Ok x) P Q A B N L so p a b l = so x p a b l
-if_ok_all (Err e) P Q A B N L so p a b l = tt
+-- of an answer three things hold, and two more where the host was honest
+pub if_ok_both : {T E : Type 0} (result : Result T E) (P Q : T → Type 0) (A B N L M : Type 0) → ((x : T) → P x → A → B → (N → L) → (N → M) → Q x) → IfOk result P → OnOk result A → OnOk result B → (N → OnOk result L) → (N → OnOk result M) → IfOk result Q
+if_ok_both (Ok x) P Q A B N L M so p a b l m = so x p a b l m
+if_ok_both (Err e) P Q A B N L M so p a b l m = tt
 
 pub if_ok_with : {T E : Type 0} (result : Result T E) (P Q : T → Type 0) (A : Type 0) → ((x : T) → P x → A → Q x) → IfOk result P → OnOk result A → IfOk result Q
 if_ok_with (Ok x) P Q A so p a = so x p a

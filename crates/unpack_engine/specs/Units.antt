@@ -4,7 +4,7 @@ use Rattle.std.specs.Prelude.{◌≡◌, ◌⊎◌, ◌↔◌, ℕ, Bool, true, 
 use Rattle.host_core.specs.Paths.{Path}
 use Rattle.host_core.specs.World.{World, KeepsBut}
 use Rattle.host_core.specs.Events.{Event, changes_of, scripts_of}
-use Rattle.host_core.specs.Host.{State, Silent}
+use Rattle.host_core.specs.Host.{State, Silent, WasDenied}
 use Rattle.host_core.specs.Loss.{IsLater}
 use Rattle.host_core.specs.declared.call.Script.{Script}
 use Rattle.administration.specs.Directories.{IsRemoved}
@@ -41,7 +41,7 @@ use Rattle.unpack_steps.specs.Clearing.{MayClear, is_gone, next_ready}
 use Rattle.unpack_steps.specs.Task.{Task, lists_at}
 use Rattle.unpack_steps.specs.Trail.{HasCome}
 use Rattle.unpack_steps.specs.At.{AreWorksAt, At, Holding, IsFileFault, Stops}
-use Rattle.unpack_commit.specs.Commit.{Changes, HasCommitted, MayCommit, committed_lists}
+use Rattle.unpack_commit.specs.Commit.{Changes, HasCommitted, HasCommittedUnless, MayCommit, committed_lists}
 use Rattle.unpack_commit.specs.Takeover.{losers, losing_records, put_records, taken_places, yields_of}
 use Rattle.unpack_plan.specs.Planned.{Job, Planned, IsPlanned}
 use Rattle.unpack_engine.specs.Others.{AreOthers, yields_beside}
@@ -125,6 +125,11 @@ module _ (c : Changes) (records : List Record) (entries : List Diversion) (lists
   -- and then `tmp.ci` goes
   abbrev pub HasLeft : Ended → World → World → Type 0
   HasLeft ended = HasLeftBy (HasFollowed ended)
+
+  -- and of the old version's directories that could go only those stayed whose removal was declined
+  abbrev pub HasLeftUnless : (declined : Path → Type 0) → Ended → World → World → Type 0
+  HasLeftUnless declined Committed = HasLeftBy (HasCommittedUnless c entries lists declined (put_records records table))
+  HasLeftUnless declined (Unwound fall failed) = HasLeft (Unwound fall failed)
 
   abbrev pub MayLeave : Ended → World → World → Type 0
   MayLeave ended = MayLeaveBy (HasFollowed ended) (MayFollow ended)
@@ -233,6 +238,10 @@ module _ (g : Ground) (p : Planned) where
   abbrev pub HasLeftFrom : Ended → List Work → List PackageList → List Record → World → World → Type 0
   HasLeftFrom ended works lists table = HasLeft (changes works lists) (commit_records works lists table) g.entries lists table (length p.others) ended
 
+  abbrev pub HasLeftUnlessFrom : (declined : Path → Type 0) → Ended → List Work → List PackageList → List Record → World → World → Type 0
+  HasLeftUnlessFrom declined ended works lists table =
+      HasLeftUnless (changes works lists) (commit_records works lists table) g.entries lists table (length p.others) declined ended
+
   abbrev pub MayLeaveFrom : Ended → List Work → List PackageList → List Record → World → World → Type 0
   MayLeaveFrom ended works lists table = MayLeave (changes works lists) (commit_records works lists table) g.entries lists table (length p.others) ended
 
@@ -287,6 +296,7 @@ module _ (g : Ground) (p : Planned) where
     pub since : Silent last new
     pub later : IsLater last new
     pub leaves : IsTrue new.honest → HasLeftFrom ended mid.works mid.lists mid.database.records last.world new.world
+    pub stays : IsTrue new.honest → HasLeftUnlessFrom (WasDenied last new) ended mid.works mid.lists mid.database.records last.world new.world
     pub records : after.records ≡ end_table ended mid.works mid.lists mid.database.records
     pub lists_are : lists ≡ end_lists ended mid.works mid.lists
 

@@ -1,14 +1,15 @@
 // What follows rows that all succeeded.
 ghost use Rattle.std.specs.Prelude.{◌≡◌, true, false, ℕ, List, IfOk, OnOk, Contains};
 ghost use Rattle.texts.specs.PackageNames.{is_package_name};
-ghost use Rattle.host_core.specs.Host.{AtEachMoment, Counts, Leaves, Needs, Silent};
+ghost use Rattle.host_core.specs.Host.{AtEachMoment, Counts, Leaves, Needs, Silent, WasDenied};
+ghost use Rattle.scattered_losses.specs.Apart.{WorksApart};
 ghost use Rattle.control_members.specs.LaidOut.{AreLaidOut};
 ghost use Rattle.control_members.specs.Stored.{IsMembersReady};
 ghost use Rattle.file_lists.specs.Owners.{AreListPaths};
 ghost use Rattle.file_lists.specs.Writing.{IsListReady};
-ghost use Rattle.status_db.specs.Held.{IsKept};
+ghost use Rattle.status_db.specs.Held.{IsKept, is_record_place};
 ghost use Rattle.status_records.specs.Records.{AreStanding};
-ghost use Rattle.unpack_commit.specs.Commit.{HasCommitted, MayCommit, changes_of, committed_lists};
+ghost use Rattle.unpack_commit.specs.Commit.{HasCommitted, HasCommittedUnless, MayCommit, changes_of, committed_lists};
 ghost use Rattle.unpack_commit.specs.Takeover.{put_records};
 ghost use Rattle.listed_files.specs.Closing.{SparesAdministration};
 ghost use Rattle.listed_files.specs.Concluding.{AreElsewhere};
@@ -133,6 +134,12 @@ pub(crate) fn end_committed<H: Host>(
         (changes_of change.now new_list) diversions.now.entries lists.old.lists
         (put_records records.now database.old.records)))
         (H.state host.old) (H.state host.new) }
+    ensures stays { Leaves result
+        (HasLeftBy (HasCommittedUnless
+        (changes_of change.now new_list) diversions.now.entries lists.old.lists
+        (WasDenied (H.state host.old) (H.state host.new))
+        (put_records records.now database.old.records)))
+        (H.state host.old) (H.state host.new) }
     ensures kept { Leaves result
         (λ old new. IsKept database.new new) (H.state host.old) (H.state host.new) }
     ensures any_moment { AtEachMoment
@@ -145,6 +152,7 @@ pub(crate) fn end_committed<H: Host>(
         database.old.records))
         (H.state host.old) (H.state host.new) }
     ensures silent { Silent (H.state host.old) (H.state host.new) }
+    ensures apart { WorksApart result is_record_place (H.state host.old) (H.state host.new) }
     ensures counts { Counts (H.state host.old) (H.state host.new) result }
 {
     commit(

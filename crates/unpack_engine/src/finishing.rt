@@ -2,7 +2,8 @@
 ghost use Rattle.std.specs.Prelude.{◌≡◌, ◌++◌, true, false, ℕ, List, IfOk, OnOk, Contains, length};
 ghost use Rattle.texts.specs.PackageNames.{is_package_name};
 ghost use Rattle.host_core.specs.World.{IsDirectory};
-ghost use Rattle.host_core.specs.Host.{AtEachMoment, Counts, Leaves, Needs, Silent};
+ghost use Rattle.scattered_losses.specs.Apart.{WorksApart};
+ghost use Rattle.host_core.specs.Host.{AtEachMoment, Counts, Leaves, Needs, Silent, WasDenied};
 ghost use Rattle.administration.specs.Places.{info_path};
 ghost use Rattle.undo_rows.specs.Transcripts.{Committed};
 ghost use Rattle.control_members.specs.LaidOut.{AreLaidOut};
@@ -11,16 +12,16 @@ ghost use Rattle.file_lists.specs.Info.{AreLoose};
 ghost use Rattle.file_lists.specs.Owners.{AreListPaths};
 ghost use Rattle.file_lists.specs.Writing.{IsListReady};
 ghost use Rattle.undo_rows.specs.Ended.{ended_as};
-ghost use Rattle.status_db.specs.Held.{IsKept};
+ghost use Rattle.status_db.specs.Held.{IsKept, is_record_place};
 ghost use Rattle.status_records.specs.Records.{AreStanding, record_in};
-ghost use Rattle.unpack_commit.specs.Commit.{HasCommitted, MayCommit, changes_of, committed_lists};
+ghost use Rattle.unpack_commit.specs.Commit.{HasCommitted, HasCommittedUnless, MayCommit, changes_of, committed_lists};
 ghost use Rattle.unpack_commit.specs.Takeover.{put_records};
 ghost use Rattle.listed_files.specs.Closing.{SparesAdministration};
 ghost use Rattle.listed_files.specs.Concluding.{AreElsewhere};
 ghost use Rattle.unpack_rows.specs.EndStates.{own_name};
 ghost use Rattle.unpack_engine.specs.Endings.{changes_from, ended_lists, ended_records, ended_table, records_from};
 ghost use Rattle.unpack_engine.specs.Touched.{AreTold, deconfigured};
-ghost use Rattle.unpack_engine.specs.Units.{HasDropped, HasLeft, HasLeftBy, MayDrop, MayLeave, MayLeaveBy};
+ghost use Rattle.unpack_engine.specs.Units.{HasDropped, HasLeft, HasLeftBy, HasLeftUnless, MayDrop, MayLeave, MayLeaveBy};
 
 use crate::committed::{Committing, committing_of, end_committed};
 use crate::touched::touched_of;
@@ -70,6 +71,7 @@ fn finish_unwound<H: Host>(
         (MayDrop reached (record_in database.now.records name.now) name.now))
         (H.state host.old) (H.state host.new) }
     ensures silent { Silent (H.state host.old) (H.state host.new) }
+    ensures apart { WorksApart result is_record_place (H.state host.old) (H.state host.new) }
     ensures counts { Counts (H.state host.old) (H.state host.new) result }
 {
     end_unwound(alloc, host, database, name, reached, members)?;
@@ -117,6 +119,12 @@ fn finish_ready<H: Host>(
         (changes_of committing.change committing.new_list) diversions.now.entries
         lists.old.lists (put_records committing.records.items database.old.records)))
         (H.state host.old) (H.state host.new) }
+    ensures stays { Leaves result
+        (HasLeftBy (HasCommittedUnless
+        (changes_of committing.change committing.new_list) diversions.now.entries
+        lists.old.lists (WasDenied (H.state host.old) (H.state host.new))
+        (put_records committing.records.items database.old.records)))
+        (H.state host.old) (H.state host.new) }
     ensures kept { Leaves result
         (λ old new. IsKept database.new new) (H.state host.old) (H.state host.new) }
     ensures any_moment { AtEachMoment
@@ -129,6 +137,7 @@ fn finish_ready<H: Host>(
         lists.old.lists committing.records.items database.old.records))
         (H.state host.old) (H.state host.new) }
     ensures silent { Silent (H.state host.old) (H.state host.new) }
+    ensures apart { WorksApart result is_record_place (H.state host.old) (H.state host.new) }
     ensures counts { Counts (H.state host.old) (H.state host.new) result }
 {
     let Committing {
@@ -191,6 +200,14 @@ fn finish_committed<H: Host>(
         diversions.now.entries lists.old.lists database.old.records (length others.now)
         Committed)
         (H.state host.old) (H.state host.new) }
+    ensures stays { Leaves result
+        (HasLeftUnless
+        (changes_from name.now yields.now diversions.now.entries lists.old.lists works.now commit)
+        (records_from name.now yields.now diversions.now.entries lists.old.lists works.now commit
+        database.old.records)
+        diversions.now.entries lists.old.lists database.old.records (length others.now)
+        (WasDenied (H.state host.old) (H.state host.new)) Committed)
+        (H.state host.old) (H.state host.new) }
     ensures kept { Leaves result
         (λ old new. IsKept database.new new) (H.state host.old) (H.state host.new) }
     ensures any_moment { AtEachMoment
@@ -202,6 +219,7 @@ fn finish_committed<H: Host>(
         Committed)
         (H.state host.old) (H.state host.new) }
     ensures silent { Silent (H.state host.old) (H.state host.new) }
+    ensures apart { WorksApart result is_record_place (H.state host.old) (H.state host.new) }
     ensures counts { Counts (H.state host.old) (H.state host.new) result }
 {
     match committing_of(
@@ -277,6 +295,18 @@ pub(crate) fn finish<H: Host>(
         diversions.now.entries lists.old.lists database.old.records
         (length rows.now.others.items) (ended_as unwinding))
         (H.state host.old) (H.state host.new) }
+    ensures stays { Leaves result
+        (HasLeftUnless
+        (changes_from
+        (own_name rows.now.found rows.now.incoming) rows.now.yields diversions.now.entries
+        lists.old.lists works.now commit)
+        (records_from
+        (own_name rows.now.found rows.now.incoming) rows.now.yields diversions.now.entries
+        lists.old.lists works.now commit database.old.records)
+        diversions.now.entries lists.old.lists database.old.records
+        (length rows.now.others.items) (WasDenied (H.state host.old) (H.state host.new))
+        (ended_as unwinding))
+        (H.state host.old) (H.state host.new) }
     ensures kept { Leaves result
         (λ old new. IsKept database.new new) (H.state host.old) (H.state host.new) }
     ensures any_moment { AtEachMoment
@@ -291,6 +321,7 @@ pub(crate) fn finish<H: Host>(
         (length rows.now.others.items) (ended_as unwinding))
         (H.state host.old) (H.state host.new) }
     ensures silent { Silent (H.state host.old) (H.state host.new) }
+    ensures apart { WorksApart result is_record_place (H.state host.old) (H.state host.new) }
     ensures counts { Counts (H.state host.old) (H.state host.new) result }
 {
     let name = rows.name();

@@ -14,11 +14,13 @@
 //! order, and lists are read back as they are held (`order`).
 //!
 //! Where it is broken off, its calls are the first of some that are legal for the plan's rows
-//! (`told`). At each moment the next opening finds the records at its stage: while it begins those
-//! of before, while rows run these with the notes up to their place, and then those with the first
-//! records of the commit, none of which is noted before all else in it is done; and nothing is in
-//! its way; all else is as the parts say (`any_moment`: `IsAmidUnit`). A device fault is told
-//! exactly where the device failed, once and last (`counts`).
+//! (`told`). What is done before a record is noted is on the disk before the places of records
+//! change, and the note before what comes behind it (`apart`). At each moment the next opening
+//! finds the records at its stage: while it begins those of before, while rows run these with the
+//! notes up to their place, and then those with the first records of the commit, none of which is
+//! noted before all else in it is done; and nothing is in its way; all else is as the parts say
+//! (`any_moment`: `IsAmidUnit`). A device fault is told exactly where the device failed, once and
+//! last (`counts`).
 #![tactic(auto)]
 
 mod committed;

@@ -1,11 +1,13 @@
 // The beginning of a unit, and its rows.
 ghost use Rattle.std.specs.Prelude.{◌≡◌, IfOk, IfSome, length};
 ghost use Rattle.host_core.specs.Host.{AtEachMomentOf, Counts, Needs};
+ghost use Rattle.scattered_losses.specs.Apart.{WorksApart};
 ghost use Rattle.undo_rows.specs.Place.{Fit};
 ghost use Rattle.control_members.specs.LaidOut.{IsLaying};
 ghost use Rattle.held_administration.specs.Open.{CanWrite};
 ghost use Rattle.undo_rows.specs.Ended.{IsCauseOf, ended_as};
 ghost use Rattle.undo_rows.specs.Faults.{OnlyIfDeclined};
+ghost use Rattle.status_db.specs.Held.{is_record_place};
 ghost use Rattle.unpack_rows.specs.EndStates.{own_name};
 ghost use Rattle.unpack_rows.specs.ForwardRows.{Fits};
 ghost use Rattle.unpack_rows.specs.Kinds.{kinds_of};
@@ -57,6 +59,7 @@ pub(crate) fn begin_and_run<H: Host>(
     ensures any_moment { AtEachMomentOf (IsRunning (HasBegun members.now) IsLaying
         (λ s. task_by s administration.old diversions.now.entries works.old.items rows.now))
         (H.state host.old) (H.state host.new) }
+    ensures apart { WorksApart result is_record_place (H.state host.old) (H.state host.new) }
     ensures counts { Counts (H.state host.old) (H.state host.new) result }
 {
     match lay_out(administration.alloc, host, members) {

@@ -1,10 +1,11 @@
 // The unit of an unpack.
 ghost use Rattle.std.specs.Prelude.{◌≡◌, ◌++◌, IfOk, IfSome, OnOk};
 ghost use Rattle.host_core.specs.Host.{AtEachMomentOf, Counts, Leaves, Needs, Reads, Silent};
+ghost use Rattle.scattered_losses.specs.Apart.{WorksApart};
 ghost use Rattle.held_administration.specs.Open.{CanWrite};
 ghost use Rattle.undo_rows.specs.Ended.{IsCauseOf, ended_as};
 ghost use Rattle.undo_rows.specs.Faults.{OnlyIfDeclined};
-ghost use Rattle.status_db.specs.Held.{IsKept};
+ghost use Rattle.status_db.specs.Held.{IsKept, is_record_place};
 ghost use Rattle.unpack_commit.specs.Takeover.{yields_of};
 ghost use Rattle.unpack_plan.specs.Planned.{planned};
 ghost use Rattle.unpack_rows.specs.EndStates.{own_name};
@@ -58,6 +59,7 @@ fn carry_out<H: Host>(
         (ground_by administration.old diversions.now.entries plan.rows.yields)
         (planned plan))
         (H.state host.old) (H.state host.new) }
+    ensures apart { WorksApart result is_record_place (H.state host.old) (H.state host.new) }
     ensures counts { Counts (H.state host.old) (H.state host.new) result }
 {
     let Plan {
@@ -169,6 +171,7 @@ fn plan_and_carry_out<H: Host>(
         others.packages.items others.yields)
         administration.old.places)
         (H.state host.old) (H.state host.new) }
+    ensures apart { WorksApart result is_record_place (H.state host.old) (H.state host.new) }
     ensures counts { Counts (H.state host.old) (H.state host.new) result }
 {
     match plan_unit(host, administration, diversions, incoming, others) {
@@ -240,6 +243,7 @@ pub fn unpack<H: Host>(
         others.packages.items others.yields)
         administration.old.places)
         (H.state host.old) (H.state host.new) }
+    ensures apart { WorksApart result is_record_place (H.state host.old) (H.state host.new) }
     ensures counts { Counts (H.state host.old) (H.state host.new) result }
 {
     index_where_many(administration.alloc, &mut administration.lists, &incoming)?;

@@ -2,9 +2,10 @@
 ghost use Rattle.std.specs.Prelude.{◌≡◌, true};
 ghost use Rattle.texts.specs.PackageNames.{is_package_name};
 ghost use Rattle.host_core.specs.Host.{AtEachMoment, Counts, Leaves, Needs, Silent};
+ghost use Rattle.scattered_losses.specs.Apart.{WorksApart};
 ghost use Rattle.control_members.specs.LaidOut.{AreLaidOut};
 ghost use Rattle.file_lists.specs.Writing.{IsListReady};
-ghost use Rattle.status_db.specs.Held.{IsKept};
+ghost use Rattle.status_db.specs.Held.{IsKept, is_record_place};
 ghost use Rattle.status_records.specs.Records.{record_in};
 ghost use Rattle.unpack_engine.specs.Units.{HasDropped, HasLeftBy, MayDrop, MayLeaveBy};
 
@@ -66,6 +67,7 @@ pub(crate) fn end_unwound<H: Host>(
         (MayDrop reached (record_in database.now.records name.now) name.now))
         (H.state host.old) (H.state host.new) }
     ensures silent { Silent (H.state host.old) (H.state host.new) }
+    ensures apart { WorksApart result is_record_place (H.state host.old) (H.state host.new) }
     ensures counts { Counts (H.state host.old) (H.state host.new) result }
 {
     drop_unrecorded(alloc, host, database, name, reached)?;

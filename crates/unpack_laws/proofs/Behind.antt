@@ -94,7 +94,7 @@ module _ (g : Given) (stored : Present) (p : Planned) (plan : IsPlanned (job_of 
 
     -- what was clear before stays so
     still_clear : IsClear (last q) → IsClear (followed q)
-    still_clear clear = behind_paths (elim (has.renewal.removed.each q) [
+    still_clear clear = behind_paths (elim (has.renewal.removed.2.each q) [
       | inl gone ↦ clear_none (has.renewal.mid q) gone.1
       | inr kept ↦ clear_at (has.renewal.mid q) (last q) kept.1 clear
     ])
@@ -107,10 +107,10 @@ module _ (g : Given) (stored : Present) (p : Planned) (plan : IsPlanned (job_of 
 
     -- an old path that goes isn't a file any more
     gone_clear : (x : Leaving) → Contains p.leaving x → IsTrue x.goes → x.place ≡ q → IsClear (followed q)
-    gone_clear x listed goes at = behind_paths (λ loose. elim (has.renewal.removed.each q) [
+    gone_clear x listed goes at = behind_paths (λ loose. elim (has.renewal.removed.2.each q) [
       | inl gone ↦ none_stands (has.renewal.mid q) gone.1 loose.0
       | inr kept ↦
-          let none : has.renewal.mid q ≡ None = ap has.renewal.mid (sym at) ∙ loose_gone last p.leaving has.renewal.mid x has.renewal.removed listed goes (subst IsLoose (kept.1 ∙ ap last (sym at)) loose) in
+          let none : has.renewal.mid q ≡ None = ap has.renewal.mid (sym at) ∙ loose_gone has.renewal.removed.0 last p.leaving has.renewal.mid x has.renewal.removed.2 listed goes (subst IsLoose (kept.1 ∙ ap last (sym at)) loose) in
           none_stands (has.renewal.mid q) none loose.0
     ])
 

@@ -9,7 +9,7 @@ use Rattle.std.proofs.lemmas.List.Elements.{Contains-append_right}
 use Rattle.std.proofs.lemmas.List.Folds.{list_any-append}
 use Rattle.std.proofs.lemmas.Slice.Eq.{bytes_eq-Decides}
 use Rattle.host_core.specs.Paths.{Path}
-use Rattle.host_core.specs.World.{World, Change, changed}
+use Rattle.host_core.specs.World.{World, Change, changed, lowered}
 use Rattle.host_core.specs.Events.{Event, changes_of}
 use Rattle.host_core.specs.Host.{State}
 use Rattle.host_core.proofs.Scripts.{no_change}
@@ -27,7 +27,8 @@ use Rattle.diversions.specs.Places.{place}
 use Rattle.file_lists.specs.Writing.{list_file}
 use Rattle.file_lists.specs.declared.paths.PackageList.{PackageList}
 use Rattle.file_removal.specs.Clearing.{cleared, is_among}
-use Rattle.file_removal.specs.Removal.{GoesBy}
+use Rattle.file_removal.specs.Removal.{Staying, none_stays, GoesBy, IsGoing}
+use Rattle.file_removal.proofs.Lowered.{lowered_twice}
 use Rattle.package_files.specs.declared.work.Work.{Work}
 use Rattle.package_files.specs.Names.{IsNamed}
 use Rattle.package_files.specs.Files.{Each, Misses}
@@ -97,13 +98,13 @@ put_last [] r table = record_in-put_record r table r.name ∙ cond-true (bytes_e
 put_last (x ∷ rs) r table = put_last rs r (put_record x table)
 
 -- what goes by an old list is at the place of one of its paths
-goes_place : (entries : List Diversion) (lists : List PackageList) (name : List ℕ) (to_come conffiles listed : List Path) (w : World) (q : Path) → GoesBy false w (leaving_of entries lists name to_come conffiles listed) q
+goes_place : (s : Staying) (entries : List Diversion) (lists : List PackageList) (name : List ℕ) (to_come conffiles listed : List Path) (w : World) (q : Path) → GoesBy s false w (leaving_of entries lists name to_come conffiles listed) q
     → (path : Path) × Contains listed path × (place entries name path ≡ q)
-goes_place entries lists name to_come conffiles [] w q goes = absurd goes
-goes_place entries lists name to_come conffiles (l ∷ ls) w q (inl later) =
-    let more = goes_place entries lists name to_come conffiles ls w q later in
+goes_place s entries lists name to_come conffiles [] w q goes = absurd goes
+goes_place s entries lists name to_come conffiles (l ∷ ls) w q (inl later) =
+    let more = goes_place s entries lists name to_come conffiles ls w q later in
     (more.0, Contains-append_right (l ∷ []) ls more.0 more.1, more.2)
-goes_place entries lists name to_come conffiles (l ∷ ls) w q (inr here) = (l, (zero, omega arith, refl), here.0)
+goes_place s entries lists name to_come conffiles (l ∷ ls) w q (inr here) = (l, (zero, omega arith, refl), here.0)
 
 -- where a unit left something that was cut is beside the place of one of its paths
 module _ (entries : List Diversion) (lists : List PackageList) (name : List ℕ) (to_come conffiles : List Path) (q : Path) where
@@ -172,9 +173,9 @@ module _ (g : Given) (stored : Present) (p : Planned) (plan : IsPlanned (job_of 
   abbrev waiting : List Path
   waiting = left_names g.entries (unit_name g) g.«package».conffiles (known_conffiles (unit_found g))
 
-  went_at : (w : World) (q : Path) → GoesBy false w p.leaving q → (path : Path) × Contains (unit_listed g) path × (place g.entries (unit_name g) path ≡ q)
-  went_at w q goes =
-      let at = goes_place g.entries g.lists (unit_name g) p.new_list (entry_paths (entries_of p.found)) p.listed w q (subst (λ xs. GoesBy false w xs q) plan.lists_are.leaving_is goes) in
+  went_at : (s : Staying) (w : World) (q : Path) → GoesBy s false w p.leaving q → (path : Path) × Contains (unit_listed g) path × (place g.entries (unit_name g) path ≡ q)
+  went_at s w q goes =
+      let at = goes_place s g.entries g.lists (unit_name g) p.new_list (entry_paths (entries_of p.found)) p.listed w q (subst (λ xs. GoesBy s false w xs q) plan.lists_are.leaving_is goes) in
       (at.0, subst (λ (l : List Path). Contains l at.0) plan.lists_are.listed_is at.1, at.2)
 
   -- beside the place of an old path, behind a unit that was cut
@@ -199,28 +200,44 @@ module _ (g : Given) (stored : Present) (p : Planned) (plan : IsPlanned (job_of 
       ]
 
   module _ (last : World) (q : Path) where
-    -- a path as the rows left it, or gone
+    -- a path as the rows left it, or going
     data IsLeftAt (now : World) : Type 0 where
       kept : now q ≡ last q → IsLeftAt now
-      went : (path : Path) → Contains (unit_listed g) path → place g.entries (unit_name g) path ≡ q → now q ≡ None → IsLeftAt now
-      waited : is_among waiting q ≡ true → now q ≡ None → IsLeftAt now
-      cut : IsCutName q → now q ≡ None → IsLeftAt now
+      went : (path : Path) → Contains (unit_listed g) path → place g.entries (unit_name g) path ≡ q → IsGoing (last q) (now q) → IsLeftAt now
+      waited : is_among waiting q ≡ true → IsGoing (last q) (now q) → IsLeftAt now
+      cut : IsCutName q → IsGoing (last q) (now q) → IsLeftAt now
+
+    going_then : (v w : World) → w q ≡ v q → IsGoing (last q) (v q) → IsGoing (last q) (w q)
+    going_then v w same going = subst (IsGoing (last q)) (sym same) going
+
+    going_lowered : (v w : World) → w q ≡ lowered (v q) → IsGoing (last q) (v q) → IsGoing (last q) (w q)
+    going_lowered v w same (inl gone) = inl (same ∙ ap lowered gone)
+    going_lowered v w same (inr low) = inr (same ∙ ap lowered low ∙ lowered_twice (last q))
 
     left_then : (v w : World) → w q ≡ v q → IsLeftAt v → IsLeftAt w
     left_then v w same (IsLeftAt.kept is) = IsLeftAt.kept (same ∙ is)
-    left_then v w same (IsLeftAt.went path has at none) = IsLeftAt.went path has at (same ∙ none)
-    left_then v w same (IsLeftAt.waited is none) = IsLeftAt.waited is (same ∙ none)
-    left_then v w same (IsLeftAt.cut is none) = IsLeftAt.cut is (same ∙ none)
+    left_then v w same (IsLeftAt.went path has at going) = IsLeftAt.went path has at (going_then v w same going)
+    left_then v w same (IsLeftAt.waited is going) = IsLeftAt.waited is (going_then v w same going)
+    left_then v w same (IsLeftAt.cut is going) = IsLeftAt.cut is (going_then v w same going)
 
-    left_gone : (w : World) → GoesBy false last p.leaving q → w q ≡ None → IsLeftAt w
-    left_gone w goes none = let at = went_at last q goes in IsLeftAt.went at.0 at.1 at.2 none
+    left_going : (s : Staying) (w : World) → GoesBy s false last p.leaving q → IsGoing (last q) (w q) → IsLeftAt w
+    left_going s w goes going = let at = went_at s last q goes in IsLeftAt.went at.0 at.1 at.2 going
 
     module _ (out : is_within home_path q ≡ false) (missed : Each (λ x. Misses x q) p.works) where
       left_cleared : (v w : World) → is_among p.names q ≡ true → w q ≡ cleared (v q) → IsLeftAt v → IsLeftAt w
       left_cleared v w is same left = elim (cleared_is (v q)) [
         | inl keeps ↦ left_then v w (same ∙ keeps) left
-        | inr none ↦ elim (among_waiting q missed is) [ inl waits ↦ IsLeftAt.waited waits (same ∙ none) | inr left_so ↦ IsLeftAt.cut left_so (same ∙ none) ]
+        | inr none ↦ elim (among_waiting q missed is) [ inl waits ↦ IsLeftAt.waited waits (inl (same ∙ none)) | inr left_so ↦ IsLeftAt.cut left_so (inl (same ∙ none)) ]
       ]
+
+      left_lowered : (v w : World) → is_among p.names q ≡ true → w q ≡ lowered (v q) → IsLeftAt v → IsLeftAt w
+      left_lowered v w is same (IsLeftAt.kept stays) = elim (among_waiting q missed is) [
+        | inl waits ↦ IsLeftAt.waited waits (inr (same ∙ ap lowered stays))
+        | inr left_so ↦ IsLeftAt.cut left_so (inr (same ∙ ap lowered stays))
+      ]
+      left_lowered v w is same (IsLeftAt.went path has at going) = IsLeftAt.went path has at (going_lowered v w same going)
+      left_lowered v w is same (IsLeftAt.waited waits going) = IsLeftAt.waited waits (going_lowered v w same going)
+      left_lowered v w is same (IsLeftAt.cut left_so going) = IsLeftAt.cut left_so (going_lowered v w same going)
 
       left_by : (b : Bool) → is_among p.names q ≡ b → (v w : World) → w q ≡ cond b (cleared (v q)) (v q) → IsLeftAt v → IsLeftAt w
       left_by true is v w same left = left_cleared v w is same left
@@ -231,15 +248,15 @@ module _ (g : Given) (stored : Present) (p : Planned) (plan : IsPlanned (job_of 
         c = changes here p works lists
 
         renewing_left : (now : World) → MayRenew p.leaving list (list_file p.new_list) last now → IsLeftAt now
-        renewing_left now (inl is) = elim (is.each q) [ inl same ↦ IsLeftAt.kept same | inr gone ↦ left_gone now gone.0 gone.1 ]
-        renewing_left now (inr m) = elim (m.1.each q) [
-          | inl gone ↦ left_gone now gone.0 (m.2.rest q (outside_list q out own).0 (outside_list q out own).1 ∙ gone.1)
+        renewing_left now (inl is) = elim (is.each q) [ inl same ↦ IsLeftAt.kept same | inr going ↦ left_going none_stays now going.0 going.1 ]
+        renewing_left now (inr m) = elim (m.1.2.each q) [
+          | inl gone ↦ left_going m.1.0 now gone.0 (inl (m.2.rest q (outside_list q out own).0 (outside_list q out own).1 ∙ gone.1))
           | inr stays ↦ IsLeftAt.kept (m.2.rest q (outside_list q out own).0 (outside_list q out own).1 ∙ stays.1)
         ]
 
         renewed_left : (renewed : World) → HasRenewed p.leaving list (list_file p.new_list) last renewed → IsLeftAt renewed
-        renewed_left renewed has = elim (has.removed.each q) [
-          | inl gone ↦ left_gone renewed gone.0 (has.replaced.rest q (outside_list q out own).0 (outside_list q out own).1 ∙ gone.1)
+        renewed_left renewed has = elim (has.removed.2.each q) [
+          | inl gone ↦ left_going has.removed.0 renewed gone.0 (inl (has.replaced.rest q (outside_list q out own).0 (outside_list q out own).1 ∙ gone.1))
           | inr stays ↦ IsLeftAt.kept (has.replaced.rest q (outside_list q out own).0 (outside_list q out own).1 ∙ stays.1)
         ]
 
@@ -247,7 +264,10 @@ module _ (g : Given) (stored : Present) (p : Planned) (plan : IsPlanned (job_of 
         releasing_left v now left (inl is) = left_then v now (is.rest q (λ n has. outside_list q out n)) left
         releasing_left v now left (inr m) =
             let mid = left_then v m.0 (m.1.rest q (λ n has. outside_list q out n)) left in
-            elim (m.3.each q) [ inl same ↦ left_then m.0 now same mid | inr gone ↦ left_cleared m.0 now gone.0 gone.1 mid ]
+            elim (m.3.each q) [
+              | inl same ↦ left_then m.0 now same mid
+              | inr going ↦ elim going.1 [ inl low ↦ left_lowered m.0 now going.0 low mid | inr gone ↦ left_cleared m.0 now going.0 gone mid ]
+            ]
 
         released_left : (renewed kept_then released : World) → HasRenewed p.leaving list (list_file p.new_list) last renewed → kept_then q ≡ renewed q → HasReleased g.entries c.places c.losers (renewed_lists c g.entries lists) c.names kept_then released → IsLeftAt released
         released_left renewed kept_then released first same third =
@@ -288,9 +308,9 @@ module _ (g : Given) (stored : Present) (p : Planned) (plan : IsPlanned (job_of 
       module _ (now : World) (left : (q : Path) → is_within home_path q ≡ false → Each (λ x. Misses x q) p.works → IsLeftAt last q now) where
         missed_at : (paths : List Path) (q : Path) → last q ≡ changed change old q → IsLeftAt last q now → IsAccounted g old now change paths q
         missed_at paths q was (IsLeftAt.kept is) = IsAccounted.scripted (is ∙ was)
-        missed_at paths q was (IsLeftAt.went path listed at none) = IsAccounted.went path listed at none
-        missed_at paths q was (IsLeftAt.waited is none) = IsAccounted.cleared is none
-        missed_at paths q was (IsLeftAt.cut is none) = IsAccounted.cut is.0 is.1 is.2 is.3 none
+        missed_at paths q was (IsLeftAt.went path listed at going) = IsAccounted.went path listed at (subst (λ n. IsGoing n (now q)) was going)
+        missed_at paths q was (IsLeftAt.waited is going) = IsAccounted.cleared is (subst (λ n. IsGoing n (now q)) was going)
+        missed_at paths q was (IsLeftAt.cut is going) = IsAccounted.cut is.0 is.1 is.2 is.3 (subst (λ n. IsGoing n (now q)) was going)
 
         accounted : (paths : List Path) → HasShipped g stored p plan places paths → (q : Path) → is_within home_path q ≡ false → IsAccounted g old now change paths q
         accounted paths shipped q out = elim (names_or_misses p.works q) [

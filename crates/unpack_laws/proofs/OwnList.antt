@@ -26,6 +26,7 @@ use Rattle.unpack_commit.specs.Takeover.{put_records, taken_places}
 use Rattle.unpack_commit.proofs.Left.{list_within, no_other, own_list}
 use Rattle.unpack_commit.proofs.Ready.{list_is_no_member}
 use Rattle.unpack_commit.proofs.Stays.{no_leaving_place}
+use Rattle.file_removal.specs.Removal.{any_path}
 use Rattle.listed_files.specs.Areas.{is_leaving_place, is_list_place}
 use Rattle.listed_files.specs.Closing.{HasReleased, HasRenewed, MayRenew}
 use Rattle.listed_files.specs.Listing.{MayList, MayTurnBack, MayUnlist}
@@ -156,7 +157,7 @@ module _ (g : Given) (stored : Present) (p : Planned) (plan : IsPlanned (job_of 
     kept_or_new v w (inl is) = inl (renewing_keeps p.leaving [] (list_file p.new_list) v w (inl is) list
         (or_from (is_leaving_place p.leaving list) (is_list_place [] list) (no_leaving_place p.leaving list plan.lists_are.spares (list_within own)) refl))
     kept_or_new v w (inr m) = elim m.2.target [
-      | inl same ↦ inl (same ∙ removed_stays p.leaving v m.0 list plan.lists_are.spares m.1 (list_below own))
+      | inl same ↦ inl (same ∙ removed_stays any_path p.leaving v m.0 list plan.lists_are.spares m.1 (list_below own))
       | inr whole ↦ inr whole
     ]
 

@@ -1,6 +1,6 @@
 -- Where an unpack has changed what stands outside the administration, its package is marked as half-installed, to be installed
 -- again, until its last note (Policy 6.6).
-use Rattle.std.specs.Prelude.{◌≡◌, ◌⊎◌, true, false, List, ◌++◌, Some, None, Contains}
+use Rattle.std.specs.Prelude.{◌≡◌, ◌⊎◌, true, false, List, ◌++◌, Some, Contains}
 use Rattle.host_core.specs.Paths.{Path, is_named_by}
 use Rattle.host_core.specs.Suffixes.{suffix_text}
 use Rattle.host_core.specs.declared.suffix.Suffix.TheVariants.{New}
@@ -12,6 +12,7 @@ use Rattle.administration.specs.Places.{home_path, is_within, list_path}
 use Rattle.diversions.specs.Places.{place}
 use Rattle.file_lists.specs.Writing.{list_file}
 use Rattle.file_removal.specs.Clearing.{is_among}
+use Rattle.file_removal.specs.Removal.{IsGoing}
 use Rattle.package_files.specs.declared.work.Work.{Work}
 use Rattle.status_db.specs.Held.{HasRecords}
 use Rattle.status_records.specs.Records.{record_in}
@@ -32,14 +33,18 @@ module _ (g : Given) where
   IsNamedIn paths q = (path : Path) × Contains paths path × (is_named_by q (place g.entries (unit_name g) path) ≡ true)
 
   module _ (old now : World) (change : Change) where
-    -- What stands at a path while the package is marked: what scripts made of it; what its list names; nothing, where an old
+    -- an old path goes: nothing is there any more, or the file that scripts made of it, which lends no rights
+    abbrev pub IsWent : Path → Type 0
+    IsWent q = IsGoing (changed change old q) (now q)
+
+    -- What stands at a path while the package is marked: what scripts made of it; what its list names; or it goes, where an old
     -- path went or the waiting file of a conffile that isn't shipped any more, or that a unit shipped which was cut.
     pub data IsAccounted (paths : List Path) (q : Path) : Type 0 where
       scripted : now q ≡ changed change old q → IsAccounted paths q
       named : IsNamedIn paths q → IsAccounted paths q
-      went : (path : Path) → Contains (unit_listed g) path → place g.entries (unit_name g) path ≡ q → now q ≡ None → IsAccounted paths q
-      cleared : is_among (left_names g.entries (unit_name g) g.«package».conffiles (known_conffiles (unit_found g))) q ≡ true → now q ≡ None → IsAccounted paths q
-      cut : was_cut (unit_found g) ≡ true → (path : Path) → Contains (unit_listed g) path → place g.entries (unit_name g) path ++ suffix_text New ≡ q → now q ≡ None → IsAccounted paths q
+      went : (path : Path) → Contains (unit_listed g) path → place g.entries (unit_name g) path ≡ q → IsWent q → IsAccounted paths q
+      cleared : is_among (left_names g.entries (unit_name g) g.«package».conffiles (known_conffiles (unit_found g))) q ≡ true → IsWent q → IsAccounted paths q
+      cut : was_cut (unit_found g) ≡ true → (path : Path) → Contains (unit_listed g) path → place g.entries (unit_name g) path ++ suffix_text New ≡ q → IsWent q → IsAccounted paths q
 
     -- the package's list has these paths, and what is changed is accounted for by them
     pub record IsListedSo (paths : List Path) : Type 0 where

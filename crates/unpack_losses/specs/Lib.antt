@@ -1,2 +1,3 @@
 pub mod Files
 pub mod Targets
+pub mod Standing

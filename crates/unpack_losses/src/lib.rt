@@ -12,10 +12,18 @@
 //! shipped path that lasts stands what stood there or the shipped node, never a part of it, and
 //! nothing only where a directory takes the place of what is then at the backup; and a path that
 //! the unpack passes by is as it was (`what_a_loss_leaves_of_an_unpack`).
+//!
+//! The record of the package is on the disk before its files change: where the next opening finds
+//! it neither marked as half-installed nor unpacked by this unit, each path outside the
+//! administration's directory is as before, on paths that no script wrote and that are no temporary
+//! names, but for directories that had to stay and names beside places
+//! (`what_a_loss_leaves_of_an_unmarked_package`).
 #![tactic(auto)]
 
 mod files;
+mod standing;
 mod unpacks;
 
 pub use files::no_file_is_left_in_part;
+pub use standing::what_a_loss_leaves_of_an_unmarked_package;
 pub use unpacks::what_a_loss_leaves_of_an_unpack;

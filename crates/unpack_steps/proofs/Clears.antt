@@ -55,7 +55,7 @@ spare_beside owner = record {
   members = λ member is e. no_temporary owner member (list_path owner) is (sym e);
 }
 
-record_beside : (owner q : Path) → is_record_place q ≡ true → IsBesideOwn owner q
+pub record_beside : (owner q : Path) → is_record_place q ≡ true → IsBesideOwn owner q
 record_beside owner q is = record {
   list = λ e. place_differs q (list_path owner) is refl (sym e);
   members = λ member m e. place_differs q (stored_member_path owner member) is refl (sym e);

@@ -12,3 +12,4 @@ pub mod Leftovers
 pub mod Clears
 pub mod Begins
 pub mod Declining
+pub mod RecordsApart

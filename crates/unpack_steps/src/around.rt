@@ -1,7 +1,9 @@
 // What is done beside the calls of an unpack's rows.
 ghost use Rattle.std.specs.Prelude.{◌∷◌, []};
+ghost use Rattle.status_db.specs.Held.{is_record_place};
 ghost use Rattle.unpack_rows.specs.ForwardRows.{Fits};
 ghost use Rattle.unpack_steps.specs.At.{At, IsFileFault, Stops};
+ghost use Rattle.unpack_steps.specs.Follows.{own_record};
 ghost use Rattle.unpack_steps.specs.Stays.{holds_at, stays_at};
 ghost use Rattle.unpack_steps.specs.Task.{Task, kinds, name};
 ghost use Rattle.unpack_steps.specs.Unpacking.{held_in, task_in};
@@ -28,6 +30,10 @@ impl<'a, 's, H: Host> Around<H> for Unpacking<'a, 's, H> {
     ghost file_step_fault = { IsFileFault };
 
     ghost stops = { Stops };
+
+    ghost area = { is_record_place };
+
+    ghost own = { own_record };
 
     ghost at = { λ a. At (task_in a) (held_in a) };
 

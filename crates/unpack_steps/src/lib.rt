@@ -10,6 +10,9 @@
 //! name without a record left in `info/` goes before the row of its new preinst, and stands as
 //! before till then (`there`: `At`).
 //!
+//! What is done before a note is on the disk before the places of records change, and what comes
+//! behind it is done when it is on the disk (`apart`: `WorksApart`).
+//!
 //! At each moment the next opening finds the records of before with the first of the notes, and
 //! while files are written, stand or go back the package is half-installed reinstreq (`any_moment`:
 //! `Stops`).

@@ -1,7 +1,8 @@
 // A note beside a row of an unpack.
 ghost use Rattle.std.specs.Prelude.{◌≡◌, Some, OnOk, false};
 ghost use Rattle.host_core.specs.Host.{AtEachMoment, Counts, Leaves, Needs, Silent};
-ghost use Rattle.status_db.specs.Held.{IsKept};
+ghost use Rattle.scattered_losses.specs.Apart.{WorksApart};
+ghost use Rattle.status_db.specs.Held.{IsKept, is_record_place};
 ghost use Rattle.status_db.specs.Noting.{IsNoted, IsNoting};
 ghost use Rattle.unpack_rows.specs.Notes.{listed, noted};
 ghost use Rattle.unpack_steps.specs.Notable.{IsNotable};
@@ -26,6 +27,7 @@ fn write_one<H: Host>(
     ensures kept { Leaves result (IsNoted database.new) (H.state host.old) (H.state host.new) }
     ensures any_moment { AtEachMoment (IsNoting database.old.records (noted database.old.records
         (listed (Some entry)))) (H.state host.old) (H.state host.new) }
+    ensures apart { WorksApart result is_record_place (H.state host.old) (H.state host.new) }
     ensures silent { Silent (H.state host.old) (H.state host.new) }
     ensures counts { Counts (H.state host.old) (H.state host.new) result }
 {
@@ -51,6 +53,7 @@ pub(crate) fn write_note<H: Host>(
     ensures kept { Leaves result (IsNoted database.new) (H.state host.old) (H.state host.new) }
     ensures any_moment { AtEachMoment (IsNoting database.old.records (noted database.old.records
         (listed entry))) (H.state host.old) (H.state host.new) }
+    ensures apart { WorksApart result is_record_place (H.state host.old) (H.state host.new) }
     ensures silent { Silent (H.state host.old) (H.state host.new) }
     ensures counts { Counts (H.state host.old) (H.state host.new) result }
 {

@@ -2,6 +2,8 @@
 ghost use Rattle.std.specs.Prelude.{◌≡◌, IfOk, IfSome, length};
 ghost use Rattle.host_core.specs.Host.{Counts, Needs};
 ghost use Rattle.held_administration.specs.Open.{CanWrite};
+ghost use Rattle.scattered_losses.specs.Apart.{WorksApart};
+ghost use Rattle.status_db.specs.Held.{is_record_place};
 ghost use Rattle.undo_rows.specs.Faults.{OnlyIfDeclined};
 ghost use Rattle.undo_rows.specs.Place.{Fit, Forward};
 ghost use Rattle.undo_rows.specs.Stops.{AtEachStop};
@@ -46,6 +48,7 @@ fn run_all<H: Host>(
         (H.state host.new) (end_place (length calls.items) u)) }
     ensures any_moment { AtEachStop (Stops (task_in unpacking.old)) (H.state host.old)
         (H.state host.new) }
+    ensures apart { WorksApart result is_record_place (H.state host.old) (H.state host.new) }
     ensures administration_stay { unpacking.new.administration.ghost_name
         ≡ unpacking.old.administration.ghost_name }
     ensures works_stay { unpacking.new.works.ghost_name ≡ unpacking.old.works.ghost_name }
@@ -99,6 +102,7 @@ pub fn run_unpack_rows<'a, H: Host>(
         (end_place (length calls.items) u)) }
     ensures any_moment { AtEachStop (Stops (task_by (H.state host.old) administration.old
         diversions.now.entries works.old.items rows.now)) (H.state host.old) (H.state host.new) }
+    ensures apart { WorksApart result is_record_place (H.state host.old) (H.state host.new) }
     ensures counts { Counts (H.state host.old) (H.state host.new) result }
 {
     let start = Start {

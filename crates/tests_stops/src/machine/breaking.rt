@@ -1,6 +1,6 @@
 // A command is broken off at each of its steps in turn, and what is found when the root is opened again is judged.
 use super::{Machine, RootFile, TreeFile, make_machine};
-use host_core::RootPath;
+use host_core::{Host, Node, RootPath};
 use host_memory::{DeviceStep, Done, Effect, Ending, MemoryHost};
 use std::alloc::AllocError;
 use std::process::Abort;
@@ -153,8 +153,15 @@ fn is_beside(name: &str, path: &str) -> bool {
 // What tells behind the units that a step was declined while their notes were merged.
 const LEFT_NOTES: &str = "|notes left: /var/lib/dpkg/updates: declined\n|2\n";
 
+// Whether something stands in where this second name is declined: a backup's, or that of a node that a diversion moves.
+fn is_second_name(answer: &str, name: &str) -> bool {
+    name.ends_with(".dpkg-tmp")
+        || (answer == "done\n||0\n" && ["/usr/bin/v", "/usr/bin/v.real"].contains(&name))
+}
+
 // Whether an answer tells that a step at this name was declined: the unit failed for the path, or it or the merging of notes
-// behind it was broken off. For a second name that is declined a copy stands in, and nothing is told.
+// behind it was broken off. For a second name that is declined a copy stands in, or the node of a diversion is moved in one step,
+// and nothing is told.
 fn tells_denial(answer: &str, name: &str) -> bool {
     if answer.ends_with(LEFT_NOTES) {
         return name.is_empty() || name.starts_with("/var/lib/dpkg/");
@@ -162,8 +169,24 @@ fn tells_denial(answer: &str, name: &str) -> bool {
     match told_declined(answer) {
         Some(path) => is_beside(name, path) && answer.ends_with("|1\n"),
         None if answer.contains("broken declined\n") => answer.ends_with(BROKEN_OFF),
-        None => name.ends_with(".dpkg-tmp") && !answer.ends_with(BROKEN_OFF),
+        None => is_second_name(answer, name) && !answer.ends_with(BROKEN_OFF),
     }
+}
+
+fn copy_of_denied(host: &MemoryHost) -> Result<Option<RootPath>, AllocError> {
+    match denied_at(host) {
+        Some(path) => Ok(Some(path.copy()?)),
+        None => Ok(None),
+    }
+}
+
+// Whether the removal of a directory was declined: it stands, the command went on, and its answer
+// tells nothing of it.
+fn leaves(host: &mut MemoryHost, path: &RootPath, answer: &str) -> bool {
+    if answer.contains("eclined") || answer.ends_with(BROKEN_OFF) {
+        return false;
+    }
+    matches!(host.node(path), Ok(Some(Node::Dir { .. })))
 }
 
 fn recovered(host: MemoryHost, loss: Option<Loss>) -> Result<MemoryHost, AllocError> {
@@ -185,12 +208,12 @@ impl Machine {
     }
 
     // Adds an answer that doesn't tell of a step that was declined, or tells of one where none was.
-    fn judge_denial(&self, answer: &str, text: &mut String) -> Result<(), AllocError> {
-        let Some(host) = &self.root else {
+    fn judge_denial(&mut self, answer: &str, text: &mut String) -> Result<(), AllocError> {
+        let Some(host) = &mut self.root else {
             return Ok(());
         };
-        let as_it_is = match denied_at(host) {
-            Some(path) => tells_denial(answer, path.as_str()),
+        let as_it_is = match copy_of_denied(host)? {
+            Some(path) => tells_denial(answer, path.as_str()) || leaves(host, &path, answer),
             None => !answer.contains("eclined"),
         };
         if !as_it_is {

@@ -257,6 +257,56 @@ two
     Ok(())
 }
 
+// A file with a set-id bit, which has a second name, and one for its group; one without such a bit, a link and a pipe.
+const LENT: &[Row] = &[
+    (
+        "echo one >root/lent
+chmod 4755 root/lent
+ln root/lent root/second
+echo two >root/grouped
+chmod 2750 root/grouped
+echo three >root/plain
+chmod 755 root/plain
+ln -s lent root/link
+mkfifo root/pipe
+chmod 4644 root/pipe",
+        ("lower", "/lent", "/"),
+        "done",
+    ),
+    ("", ("lower", "/grouped", "/"), "done"),
+    ("", ("lower", "/plain", "/"), "done"),
+    ("", ("lower", "/link", "/"), "done"),
+    ("", ("lower", "/pipe", "/"), "done"),
+];
+
+// The superuser takes the rights that a file lends from all its names; another user is told of none, and leaves them.
+#[test]
+fn lent_rights(rt: HostRuntime) -> Result<(), Fail> {
+    let left = super::run(&rt, LENT, "cd root; stat -c '%n %F %a' *")?;
+    let row = match is_superuser(&rt)? {
+        true => LOWERED,
+        false => LENT_STILL,
+    };
+    assert_eq!(&rt; left.as_str(), row);
+    Ok(())
+}
+
+const LOWERED: &str = "grouped regular file 600
+lent regular file 600
+link symbolic link 777
+pipe fifo 4644
+plain regular file 755
+second regular file 600
+";
+
+const LENT_STILL: &str = "grouped regular file 2750
+lent regular file 4755
+link symbolic link 777
+pipe fifo 4644
+plain regular file 755
+second regular file 4755
+";
+
 #[test]
 fn owned_file(rt: HostRuntime) -> Result<(), Fail> {
     let Ok(root) = env::var(&rt, "OWNED") else {

@@ -11,6 +11,7 @@ use Rattle.configure_engine.specs.Units.{HasConfigured, HasEnded, IsPlanFor, IsP
 use Rattle.configure_engine.proofs.Looking.{called_by, configured_by, if_ok_one, only_looked, unit_moments}
 use Rattle.configure_engine.proofs.Planned.{has_ended, stages_fit, stages_settleable}
 use Rattle.configure_engine.proofs.Tables.{is_named, named}
+use Rattle.unit_stages.proofs.Apart.{later_of, reads_apart, reads_later, works_on}
 use Rattle.configure_engine.proofs.unit.configure.Goals as goal
 
 pub plan-requires : goal.plan-requires
@@ -110,3 +111,14 @@ returns-in-Ok-clause-any_moment g c =
 pub returns-in-Err-clause-any_moment : goal.returns-in-Err-clause-any_moment
 returns-in-Err-clause-any_moment g c =
     only_looked (g.H.Host.state c.args.host.now) (g.H.Host.state c.plan.new.host) c.plan.ensures.reads c.plan.ensures.silent (given c.args.name.now c.args.policy c.args.diversions.now.entries (holding_of c.args.administration.now))
+
+pub returns-in-Ok-clause-apart : goal.returns-in-Ok-clause-apart
+returns-in-Ok-clause-apart g c =
+    let old = g.H.Host.state c.args.host.now in
+    let mid = g.H.Host.state c.plan.new.host in
+    works_on old mid (g.H.Host.state c.run_stages.new.host) (reads_later old mid c.plan.ensures.reads) (later_of _ _ _ c.run_stages.ensures.any_moment)
+    (reads_apart old mid c.plan.ensures.reads) c.run_stages.result c.run_stages.ensures.apart
+
+pub returns-in-Err-clause-apart : goal.returns-in-Err-clause-apart
+returns-in-Err-clause-apart g c = λ h.
+    ((reads_apart (g.H.Host.state c.args.host.now) (g.H.Host.state c.plan.new.host) c.plan.ensures.reads h).0, tt)

@@ -1,4 +1,5 @@
 use Rattle.std.proofs.Common.{◌⊎◌, subst}
+use Rattle.diversions.proofs.Turning.{goes_here}
 use Rattle.diversions.specs.declared.refusal.Seen.{Seen}
 use Rattle.dpkg_session.specs.Diversions.{IsDiverted}
 use Rattle.unit_reports.specs.Units.{IsBroken}
@@ -12,3 +13,6 @@ returns-clause-whole g c =
     let new = g.H.Host.state c.add_unit-unit.new.host in
     one_unit _ unit c.report_of.result c.report_of.ensures
     (subst (λ (seen : Seen). IsBroken unit.reply ⊎ IsDiverted c.args.asked.now seen c.args.diversions.now.entries c.add_unit-unit.new.diversions.entries unit old new) c.seen_of-seen.ensures c.add_unit-unit.ensures.unit)
+
+pub returns-then-is_err-clause-turns : goal.returns-then-is_err-clause-turns
+returns-then-is_err-clause-turns g c = goes_here _

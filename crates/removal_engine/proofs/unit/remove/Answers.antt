@@ -14,6 +14,7 @@ use Rattle.removal_engine.proofs.EndRecords.{has_ended}
 use Rattle.removal_engine.proofs.Fits.{removal_fit, removal_still}
 use Rattle.removal_engine.proofs.Looking.{called_by, if_ok_one, only_looked, removed_by, unit_moments}
 use Rattle.removal_engine.proofs.Tables.{is_named, named, one_record}
+use Rattle.unit_stages.proofs.Apart.{goes_here, later_of, passed_on, reads_apart, reads_later, works_on}
 use Rattle.removal_engine.proofs.unit.remove.Goals as goal
 
 pub plan-requires : goal.plan-requires
@@ -109,3 +110,17 @@ returns-in-Ok-clause-any_moment g c =
 pub returns-in-Err-clause-any_moment : goal.returns-in-Err-clause-any_moment
 returns-in-Err-clause-any_moment g c =
     only_looked (g.H.Host.state c.args.host.now) (g.H.Host.state c.plan.new.host) c.plan.ensures.reads c.plan.ensures.silent (given c.args.extent c.args.name.now c.args.diversions.now.entries (holding_of c.args.administration.now))
+
+pub returns-in_err-index-clause-apart : goal.returns-in_err-index-clause-apart
+returns-in_err-index-clause-apart g c = λ h. ((goes_here (g.H.Host.state c.args.host.now) h).0, passed_on _ _ c.from_residual.result c.from_residual.ensures.1)
+
+pub returns-in-Ok-clause-apart : goal.returns-in-Ok-clause-apart
+returns-in-Ok-clause-apart g c =
+    let old = g.H.Host.state c.args.host.now in
+    let mid = g.H.Host.state c.plan.new.host in
+    works_on old mid (g.H.Host.state c.run_stages.new.host) (reads_later old mid c.plan.ensures.reads) (later_of _ _ _ c.run_stages.ensures.any_moment)
+    (reads_apart old mid c.plan.ensures.reads) c.run_stages.result c.run_stages.ensures.apart
+
+pub returns-in-Err-clause-apart : goal.returns-in-Err-clause-apart
+returns-in-Err-clause-apart g c = λ h.
+    ((reads_apart (g.H.Host.state c.args.host.now) (g.H.Host.state c.plan.new.host) c.plan.ensures.reads h).0, tt)

@@ -247,18 +247,28 @@ const LEFT_BY_PURGE: &[Found] = &[
     ("/var/lib/dpkg/info", &["directory:"]),
 ];
 
+const PURGING_ALONE: &[Found] = &[
+    (STATUS, &[CONFIG_FILES, PURGING, ""]),
+    (LIST, &[LISTED_THEN, "/.\n", ""]),
+    (POSTRM, &[SCRIPT, ""]),
+    (CONFFILE, &["a", ""]),
+    (NOTE, &["mine"]),
+];
+
+const REMOVING_AND_PURGING: &[Found] = &[
+    (LIST, &[LISTED, LISTED_THEN, "/.\n", ""]),
+    (POSTRM, &[SCRIPT, ""]),
+    (CONFFILE, &["a", ""]),
+    (FILE, &["z", ""]),
+    (NOTE, &["mine"]),
+];
+
 const PURGES: Row = Row {
     files: FILES_THEN,
     trees: TREES,
     endings: &[],
     line: "dpkg_cli purge zulu",
-    found: &[
-        (STATUS, &[CONFIG_FILES, PURGING, ""]),
-        (LIST, &[LISTED_THEN, "/.\n", ""]),
-        (POSTRM, &[SCRIPT, ""]),
-        (CONFFILE, &["a", ""]),
-        (NOTE, &["mine"]),
-    ],
+    found: PURGING_ALONE,
     moments: PURGES_MOMENTS,
     left: LEFT_BY_PURGE,
     again: ALONE,
@@ -270,15 +280,39 @@ const REMOVES_AND_PURGES: Row = Row {
     trees: TREES,
     endings: &[],
     line: "dpkg_cli purge zulu",
-    found: &[
-        (LIST, &[LISTED, LISTED_THEN, "/.\n", ""]),
-        (POSTRM, &[SCRIPT, ""]),
-        (CONFFILE, &["a", ""]),
-        (FILE, &["z", ""]),
-        (NOTE, &["mine"]),
-    ],
+    found: REMOVING_AND_PURGING,
     moments: PURGES_MOMENTS,
     left: LEFT_BY_PURGE,
+    again: BY_UNPACK,
+};
+
+// Where a step was declined: a directory whose removal was stays, and the purge goes on.
+const LEFT_OR_STAYING: &[Found] = &[
+    (STATUS, &[""]),
+    ("/etc", &["", "directory:"]),
+    ("/opt/z", &["directory: note"]),
+    ("/var/lib/dpkg/info", &["directory:"]),
+];
+
+const PURGES_DECLINED: Row = Row {
+    files: FILES_THEN,
+    trees: TREES,
+    endings: &[],
+    line: "dpkg_cli purge zulu",
+    found: PURGING_ALONE,
+    moments: PURGES_MOMENTS,
+    left: LEFT_OR_STAYING,
+    again: ALONE,
+};
+
+const REMOVES_AND_PURGES_DECLINED: Row = Row {
+    files: FILES,
+    trees: TREES,
+    endings: &[],
+    line: "dpkg_cli purge zulu",
+    found: REMOVING_AND_PURGING,
+    moments: PURGES_MOMENTS,
+    left: LEFT_OR_STAYING,
     again: BY_UNPACK,
 };
 
@@ -341,10 +375,16 @@ fn losses_within_a_purge(rt: HostRuntime) -> Result<(), Fail> {
     lose_at_each_step(&rt, &PURGES)
 }
 
-// A removal has no file row: it is broken off.
+// A removal has no file row: it is broken off, but where the removal of a directory is declined.
 #[test]
 fn declines(rt: HostRuntime) -> Result<(), Fail> {
-    for row in &[REMOVES, REMOVES_IN_VAIN, PURGES, REMOVES_AND_PURGES] {
+    let rows = &[
+        REMOVES,
+        REMOVES_IN_VAIN,
+        PURGES_DECLINED,
+        REMOVES_AND_PURGES_DECLINED,
+    ];
+    for row in rows {
         assert_eq!(rt; decline_each_step(&rt, row)?, 0);
     }
     Ok(())

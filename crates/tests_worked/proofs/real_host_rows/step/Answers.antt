@@ -36,3 +36,6 @@ remove_dir-requires-clause-bare c = λ h. unknown_needs _ h
 
 pub sync-requires : goal.sync-requires
 sync-requires c = record { there = λ h. unknown_needs _ h }
+
+pub lower-requires : goal.lower-requires
+lower-requires c = record { there = λ h. unknown_needs _ h }

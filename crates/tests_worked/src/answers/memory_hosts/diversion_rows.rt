@@ -48,6 +48,31 @@ Version: 1
     check(&rt, &[], &[], CHANGES, row)
 }
 
+const TWICE: &[&str] = &[
+    "write /usr/bin/v v\n",
+    "write /usr/bin/v.real v\n",
+    "dpkg_cli divert --local --rename --divert /usr/bin/v.real /usr/bin/v",
+    "write /usr/bin/v v\n",
+    "dpkg_cli undivert --local --rename /usr/bin/v",
+    "write /usr/bin/v.real other\n",
+    "dpkg_cli divert --local --rename --divert /usr/bin/v.real /usr/bin/v",
+    "dpkg_cli diversions",
+];
+
+// The same file at the target isn't in the way, and another one is.
+#[test]
+fn a_file_may_stand_at_its_target(rt: HostRuntime) -> Result<(), Fail> {
+    let row = "done
+||0
+done
+||0
+refused /usr/bin/v TargetExists
+||1
+||0
+||||||";
+    check(&rt, &[], &[], TWICE, row)
+}
+
 const REFUSALS: &[&str] = &[
     "write /usr/bin/v v\n",
     "write /var/lib/dpkg/diversions /usr/bin/w\n/usr/bin/w.real\n:\n",

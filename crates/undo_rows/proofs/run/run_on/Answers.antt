@@ -4,6 +4,7 @@ use Rattle.undo_rows.specs.declared.stopped.Stopped.{Stopped}
 use Rattle.undo_rows.specs.Stepping.{HasStopped}
 use Rattle.undo_rows.proofs.Falls.{has_begun, has_run, is_called}
 use Rattle.undo_rows.proofs.Listed.{failed_for, fit_stack, next_part}
+use Rattle.scattered_losses.proofs.GoingApart.{faults_behind, gone_by, gone_on, later_of, passed_on}
 use Rattle.undo_rows.proofs.run.run_on.Goals as goal
 
 pub unwind_rows-requires-clause-rows : goal.unwind_rows-requires-clause-rows
@@ -59,3 +60,20 @@ returns-clause-told g c =
 
 pub returns-clause-any_moment : goal.returns-clause-any_moment
 returns-clause-any_moment g c = next_part _ g.A.Around.stops _ _ c.step_rows.ensures.task _ _ _ c.step_rows.ensures.any_moment c.unwind_rows.ensures.any_moment
+
+pub returns-in_err-unwind_rows-clause-apart : goal.returns-in_err-unwind_rows-clause-apart
+returns-in_err-unwind_rows-clause-apart g c =
+    let area = g.A.Around.area in
+    let a = g.H.Host.state c.args.host.now in
+    let b = g.H.Host.state c.step_rows.new.host in
+    let d = g.H.Host.state c.unwind_rows.new.host in
+    faults_behind area c.from_residual-in_err-unwind_rows.result a b d (gone_by area _ a b c.step_rows.ensures.any_moment c.in_ok-stopped.ensures.apart) (later_of _ b d c.unwind_rows.ensures.any_moment) (λ h. (c.unwind_rows.ensures.apart h).0)
+    (passed_on _ _ c.from_residual-in_err-unwind_rows.result c.from_residual-in_err-unwind_rows.ensures.1)
+
+pub returns-clause-apart : goal.returns-clause-apart
+returns-clause-apart g c =
+    let area = g.A.Around.area in
+    let a = g.H.Host.state c.args.host.now in
+    let b = g.H.Host.state c.step_rows.new.host in
+    let d = g.H.Host.state c.unwind_rows.new.host in
+    (gone_on area a b d (gone_by area _ a b c.step_rows.ensures.any_moment c.in_ok-stopped.ensures.apart) (gone_by area _ b d c.unwind_rows.ensures.any_moment c.in_ok-unwind_rows.ensures.apart)).1

@@ -6,6 +6,7 @@ use Rattle.undo_rows.specs.Place.{Forward, leads}
 use Rattle.undo_rows.specs.Telling.{Begun, HasStepped}
 use Rattle.undo_rows.specs.Transcripts.{MayRun}
 use Rattle.undo_rows.proofs.Listed.{at_once, fit_at, next_part, nothing_done}
+use Rattle.scattered_losses.proofs.GoingApart.{faults_behind, fails_so, gone_by, gone_here, gone_on, later_of, passed_on}
 use Rattle.undo_rows.proofs.run.step_rows.Goals as goal
 
 pub loop-row-init : goal.loop-row-init
@@ -21,6 +22,7 @@ loop-row-init g c =
       any_moment = at_once (A.stops t) (is_kept (A.kept c.args.around.now)) s (λ h more v only. g.met.A.Around.holds c.args.around.now s (Forward 0) more v c.requires.place h only);
       task = refl;
       reference = refl;
+      apart = gone_here A.area s;
       counts = search rules;
     }
 
@@ -59,6 +61,7 @@ loop-row-preserved-in_default g c =
       any_moment = next_part _ A.stops _ _ inv.task _ _ _ inv.any_moment c.step.ensures.any_moment;
       task = c.step.ensures.task ∙ inv.task;
       reference = c.step.ensures.reference ∙ inv.reference;
+      apart = gone_on A.area a b d inv.apart (gone_by A.area _ b d c.step.ensures.any_moment c.in_ok-fall.ensures.apart);
       counts = search rules;
     }
 
@@ -86,6 +89,7 @@ loop-row-preserved g c =
       any_moment = next_part _ A.stops _ _ inv.task _ _ _ inv.any_moment c.step.ensures.any_moment;
       task = c.step.ensures.task ∙ inv.task;
       reference = c.step.ensures.reference ∙ inv.reference;
+      apart = gone_on A.area a b d inv.apart (gone_by A.area _ b d c.step.ensures.any_moment c.in_ok-fall.ensures.apart);
       counts = search rules;
     }
 
@@ -140,3 +144,23 @@ returns-clause-told g c =
     let was = c.loop-row.told.items in
     subst (λ (l : List Row). Begun (MayRun l) a b c.args.told.now.items was) (sym {A = List Row} inv.left)
     (c.what_is_broken_off_begins_a_run.ensures.beside (g.A.Around.task c.args.around.now) c.loop-row.yielded c.loop-row.row-iterator.rest.items a b b c.args.told.now.items was inv.succeeded (nothing_done b))
+
+pub returns-in_err-forward-clause-apart : goal.returns-in_err-forward-clause-apart
+returns-in_err-forward-clause-apart g c =
+    fails_so g.A.Around.area c.from_residual.result (g.H.Host.state c.args.host.now) (g.H.Host.state c.loop-row.host) c.loop-row.invariant.apart (passed_on _ _ c.from_residual.result c.from_residual.ensures.1)
+
+pub returns-in_err-fall-clause-apart : goal.returns-in_err-fall-clause-apart
+returns-in_err-fall-clause-apart g c =
+    let b = g.H.Host.state c.loop-row.host in
+    let d = g.H.Host.state c.step.new.host in
+    faults_behind g.A.Around.area c.from_residual-in_err-fall.result (g.H.Host.state c.args.host.now) b d c.loop-row.invariant.apart (later_of _ b d c.step.ensures.any_moment) (λ h. (c.step.ensures.apart h).0)
+    (passed_on _ _ c.from_residual-in_err-fall.result c.from_residual-in_err-fall.ensures.1)
+
+pub returns-in-Some-2-clause-apart : goal.returns-in-Some-2-clause-apart
+returns-in-Some-2-clause-apart g c =
+    let b = g.H.Host.state c.loop-row.host in
+    let d = g.H.Host.state c.step.new.host in
+    (gone_on g.A.Around.area (g.H.Host.state c.args.host.now) b d c.loop-row.invariant.apart (gone_by g.A.Around.area _ b d c.step.ensures.any_moment c.in_ok-fall.ensures.apart)).1
+
+pub returns-clause-apart : goal.returns-clause-apart
+returns-clause-apart g c = c.loop-row.invariant.apart.1

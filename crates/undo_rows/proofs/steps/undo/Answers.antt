@@ -7,6 +7,7 @@ use Rattle.undo_rows.specs.Undoing.{Undoes, UndoesAt}
 use Rattle.undo_rows.proofs.Parts.{on_ok}
 use Rattle.undo_rows.proofs.Tellings.{begun_none, made_none, made_weaker}
 use Rattle.undo_rows.proofs.Undone.{undoes_at}
+use Rattle.scattered_losses.proofs.GoingApart.{faults_so, passed_on}
 use Rattle.undo_rows.proofs.steps.undo.Goals as goal
 
 pub returns-then-is_files-clause-calls : goal.returns-then-is_files-clause-calls
@@ -48,3 +49,18 @@ returns-else-branch-clause-calls g c =
     let row = c.args.row.now in
     let failed = c.args.failed.now.items in
     made_weaker _ (λ ts. UndoesAt c.args.index row failed ts failed) _ _ _ _ (undoes_at c.args.index row c.in_ok-undo_calls.field-0 c.as_slice-2.result.now failed failed c.as_slice-2.ensures.value (sym (ap (λ b. blamed b c.args.index row.owner failed) c.if-branch.false))) c.in_ok-undo_calls.ensures.calls
+
+pub returns-in_err-undo_calls-clause-apart : goal.returns-in_err-undo_calls-clause-apart
+returns-in_err-undo_calls-clause-apart g c = faults_so g.A.Around.area c.from_residual.result (g.H.Host.state c.args.host.now) (g.H.Host.state c.undo_calls.new.host) (λ h. (c.undo_calls.ensures.apart h).0) (passed_on _ _ c.from_residual.result c.from_residual.ensures.1)
+
+pub returns-in_err-failed_at-clause-apart : goal.returns-in_err-failed_at-clause-apart
+returns-in_err-failed_at-clause-apart g c = faults_so g.A.Around.area c.from_residual-in_err-failed_at.result (g.H.Host.state c.args.host.now) (g.H.Host.state c.undo_calls.new.host) (λ h. (c.undo_calls.ensures.apart h).0) (passed_on _ _ c.from_residual-in_err-failed_at.result c.from_residual-in_err-failed_at.ensures.1)
+
+pub returns-in_err-push-clause-apart : goal.returns-in_err-push-clause-apart
+returns-in_err-push-clause-apart g c = faults_so g.A.Around.area c.from_residual-in_err-push.result (g.H.Host.state c.args.host.now) (g.H.Host.state c.undo_calls.new.host) (λ h. (c.undo_calls.ensures.apart h).0) (passed_on _ _ c.from_residual-in_err-push.result c.from_residual-in_err-push.ensures.1)
+
+pub returns-in_ok-push-clause-apart : goal.returns-in_ok-push-clause-apart
+returns-in_ok-push-clause-apart g c = c.in_ok-undo_calls.ensures.apart
+
+pub returns-else-branch-clause-apart : goal.returns-else-branch-clause-apart
+returns-else-branch-clause-apart g c = c.in_ok-undo_calls.ensures.apart

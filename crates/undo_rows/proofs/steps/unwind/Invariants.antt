@@ -1,5 +1,6 @@
 use Rattle.std.proofs.Common.{◌≡◌, ◌≤◌, length, drop}
 use Rattle.host_core.specs.Host.{NoFault}
+use Rattle.scattered_losses.proofs.GoingApart.{HasGone}
 use Rattle.undo_rows.specs.Place.{Back}
 use Rattle.undo_rows.specs.Stops.{AtEachStop}
 use Rattle.undo_rows.specs.Telling.{Made}
@@ -18,6 +19,7 @@ invariant-loop-left g l =
       any_moment : AtEachStop (A.stops (A.task l.fn.around)) old now;
       task : A.task l.around ≡ A.task l.fn.around;
       reference : A.reference l.around ≡ A.reference l.fn.around;
+      apart : HasGone A.area old now;
       counts : NoFault old now;
     }
 

@@ -7,6 +7,7 @@ use Rattle.unit_stages.proofs.Keeping.{order_after}
 use Rattle.unit_stages.proofs.Moments.{since_called, since_undone}
 use Rattle.unit_stages.proofs.RunLaws.{fell_by}
 use Rattle.unit_stages.proofs.Tellings.{failed_calls, fall_told, try_told}
+use Rattle.unit_stages.proofs.Apart.{apart_on, goes_on, later_of, scripts_apart}
 use Rattle.unit_stages.proofs.calls.call_stage.Goals as goal
 
 pub undo_stage-requires-clause-order : goal.undo_stage-requires-clause-order
@@ -61,3 +62,21 @@ returns-in-Err-clause-any_moment g c =
     let b = g.H.Host.state c.try_call.new.host in
     since_called c.args.name.now c.args.diversions.now.entries c.args.administration.now.database c.args.administration.now.lists c.args.restore.items a b c.requires.order
     (subst (λ l. Since (OnlyScripts (is_kept l) a.world) a b) c.requires.open.kept c.try_call.ensures.any_moment)
+
+pub returns-in-Ok-true-clause-apart : goal.returns-in-Ok-true-clause-apart
+returns-in-Ok-true-clause-apart g c = scripts_apart c.args.administration.now.places (g.H.Host.state c.args.host.now) (g.H.Host.state c.try_call.new.host) c.try_call.ensures.any_moment
+
+pub returns-in-Ok-clause-apart : goal.returns-in-Ok-clause-apart
+returns-in-Ok-clause-apart g c =
+    goes_on (g.H.Host.state c.args.host.now) (g.H.Host.state c.try_call.new.host) (g.H.Host.state c.undo_stage.new.host) (later_of _ _ _ c.try_call.ensures.any_moment) (later_of _ _ _ c.undo_stage.ensures.any_moment)
+    (scripts_apart c.args.administration.now.places (g.H.Host.state c.args.host.now) (g.H.Host.state c.try_call.new.host) c.try_call.ensures.any_moment) c.in-Ok.ensures.apart
+
+pub returns-in-Err-undo_stage-clause-apart : goal.returns-in-Err-undo_stage-clause-apart
+returns-in-Err-undo_stage-clause-apart g c = λ h. (
+  apart_on (g.H.Host.state c.args.host.now) (g.H.Host.state c.try_call.new.host) (g.H.Host.state c.undo_stage.new.host) (later_of _ _ _ c.try_call.ensures.any_moment) (later_of _ _ _ c.undo_stage.ensures.any_moment)
+      (scripts_apart c.args.administration.now.places (g.H.Host.state c.args.host.now) (g.H.Host.state c.try_call.new.host) c.try_call.ensures.any_moment) (λ h0. (c.undo_stage.ensures.apart h0).0) h,
+  tt,
+)
+
+pub returns-in-Err-clause-apart : goal.returns-in-Err-clause-apart
+returns-in-Err-clause-apart g c = λ h. ((scripts_apart c.args.administration.now.places (g.H.Host.state c.args.host.now) (g.H.Host.state c.try_call.new.host) c.try_call.ensures.any_moment h).0, tt)

@@ -6,6 +6,7 @@ use Rattle.status_db.specs.Noting.{IsNoting}
 use Rattle.status_records.specs.Records.{put_record}
 use Rattle.status_records.specs.Words.{is_not_installed}
 use Rattle.status_records.specs.declared.record.Record.{Record}
+use Rattle.unit_stages.proofs.Apart.{goes_here, passed_on}
 use Rattle.unit_stages.proofs.noting.note_copy.Goals as goal
 
 pub returns-in_err-copy-clause-any_moment : goal.returns-in_err-copy-clause-any_moment
@@ -21,3 +22,6 @@ pub returns-clause-any_moment : goal.returns-clause-any_moment
 returns-clause-any_moment g c =
     let before = c.args.database.now.records in
     subst (λ (r : Record). AtEachMoment (IsNoting before (put_record r before)) (g.H.Host.state c.args.host.now) (g.H.Host.state c.note_record.new.host)) c.in_ok-copy.ensures c.note_record.ensures.any_moment
+
+pub returns-in_err-copy-clause-apart : goal.returns-in_err-copy-clause-apart
+returns-in_err-copy-clause-apart g c = λ h. ((goes_here (g.H.Host.state c.args.host.now) h).0, passed_on _ _ c.from_residual.result c.from_residual.ensures.1)

@@ -1,5 +1,6 @@
 use Rattle.std.proofs.Common.{◌≡◌, false, sym, ap, subst, ◌∙◌}
 use Rattle.std.specs.List.{list_any}
+use Rattle.host_core.specs.Host.{WasDenied}
 use Rattle.file_lists.specs.Beside.{AreSameBeside}
 use Rattle.file_lists.specs.Owners.{places_in}
 use Rattle.unit_stages.specs.Holding.{is_listing}
@@ -31,5 +32,5 @@ pub returns-clause-done : goal.returns-clause-done
 returns-clause-done g c = record {
   silent = c.do_parts.ensures.silent;
   later = later _ _ _ c.do_parts.ensures.any_moment;
-  done = λ h. subst (λ ps. HaveDone c.args.name.now ps c.args.administration.now.database.records (g.H.Host.state c.args.host.now).world (g.H.Host.state c.do_parts.new.host).world) c.as_slice-items.ensures.value (c.in_ok-do_parts.ensures.done h);
+  done = λ h. subst (λ ps. HaveDone c.args.name.now (WasDenied (g.H.Host.state c.args.host.now) (g.H.Host.state c.do_parts.new.host)) ps c.args.administration.now.database.records (g.H.Host.state c.args.host.now).world (g.H.Host.state c.do_parts.new.host).world) c.as_slice-items.ensures.value (c.in_ok-do_parts.ensures.done h);
 }

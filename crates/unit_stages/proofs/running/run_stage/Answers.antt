@@ -4,6 +4,7 @@ use Rattle.unit_stages.specs.Runs.{HasCalled, HaveRun}
 use Rattle.unit_stages.proofs.Moments.{since_parts, since_stage}
 use Rattle.unit_stages.proofs.RunLaws.{if_ok_one, stage_ran}
 use Rattle.unit_stages.proofs.Tellings.{parts_told, stage_told}
+use Rattle.unit_stages.proofs.Apart.{later_of, works_on}
 use Rattle.unit_stages.proofs.running.run_stage.Goals as goal
 
 pub returns-in-Ok-clause-ran : goal.returns-in-Ok-clause-ran
@@ -36,3 +37,11 @@ returns-in-Err-clause-told g c = parts_told c.args.stage _ _ _ c.do_and_keep.ens
 pub returns-in-Err-clause-any_moment : goal.returns-in-Err-clause-any_moment
 returns-in-Err-clause-any_moment g c =
     since_parts c.args.name.now c.args.diversions.now.entries c.args.stage (holding_of c.args.administration.now) (g.H.Host.state c.args.host.now) (g.H.Host.state c.do_and_keep.new.host) c.do_and_keep.ensures.silent c.do_and_keep.ensures.any_moment
+
+pub returns-in-Ok-clause-apart : goal.returns-in-Ok-clause-apart
+returns-in-Ok-clause-apart g c =
+    works_on (g.H.Host.state c.args.host.now) (g.H.Host.state c.do_and_keep.new.host) (g.H.Host.state c.call_stage.new.host) (later_of _ _ _ c.do_and_keep.ensures.any_moment) (later_of _ _ _ c.call_stage.ensures.any_moment)
+    c.in-Ok.ensures.apart c.call_stage.result c.call_stage.ensures.apart
+
+pub returns-in-Err-clause-apart : goal.returns-in-Err-clause-apart
+returns-in-Err-clause-apart g c = λ h. ((c.do_and_keep.ensures.apart h).0, tt)

@@ -7,6 +7,7 @@ use Rattle.unit_stages.specs.declared.stage.Stage.{Stage}
 use Rattle.unit_stages.proofs.RunLaws.{run_ended, run_left, run_made, run_on}
 use Rattle.unit_stages.proofs.RunMoments.{run_goes_on, run_starts, stage_fits, stage_settleable, stage_settled, unmoved}
 use Rattle.unit_stages.proofs.Tellings.{passed_told, run_told}
+use Rattle.unit_stages.proofs.Apart.{apart_on, goes_here, goes_on, later_of, passed_on}
 use Rattle.unit_stages.proofs.running.run_stages.Goals as goal
 
 pub loop-stage-init : goal.loop-stage-init
@@ -21,6 +22,7 @@ loop-stage-init g c =
       is_open = c.requires.open;
       any_moment = run_starts c.args.name.now c.args.diversions.now.entries c.args.stages.items (holding d f) d f a refl c.requires.order;
       counts = search rules;
+      apart = goes_here a;
     }
 
 pub run_stage-requires-clause-fit : goal.run_stage-requires-clause-fit
@@ -138,6 +140,7 @@ loop-stage-preserved g c =
       is_open = c.in_ok-call.ensures.open;
       any_moment = run_goes_on name entries c.args.stages.items before c.loop-stage.yielded c.next.new.self.rest.items stage walk mid a b d told more inv.ran inv.any_moment c.run_stage.ensures.any_moment;
       counts = search rules;
+      apart = goes_on (g.H.Host.state c.args.host.now) (g.H.Host.state c.loop-stage.host) (g.H.Host.state c.run_stage.new.host) (later_of _ _ _ c.loop-stage.invariant.any_moment) (later_of _ _ _ c.run_stage.ensures.any_moment) c.loop-stage.invariant.apart c.in_ok-call.ensures.apart;
     }
 
 pub returns-clause-told : goal.returns-clause-told
@@ -148,3 +151,12 @@ returns-clause-told g c =
     let mid = holding_of c.loop-stage.administration in
     passed_told c.args.stages.items c.loop-stage.yielded c.loop-stage.stage-iterator.rest.items a b c.args.told.now.items c.loop-stage.told.items c.loop-stage.invariant.left
     (run_made c.args.name.now c.args.diversions.now.entries c.loop-stage.yielded None before mid a b c.args.told.now.items c.loop-stage.told.items c.loop-stage.invariant.ran)
+
+pub returns-in_err-call-clause-apart : goal.returns-in_err-call-clause-apart
+returns-in_err-call-clause-apart g c = λ h. (apart_on (g.H.Host.state c.args.host.now) (g.H.Host.state c.loop-stage.host) (g.H.Host.state c.run_stage.new.host) (later_of _ _ _ c.loop-stage.invariant.any_moment) (later_of _ _ _ c.run_stage.ensures.any_moment) c.loop-stage.invariant.apart (λ h0. (c.run_stage.ensures.apart h0).0) h, passed_on _ _ c.from_residual.result c.from_residual.ensures.1)
+
+pub returns-in-Some-2-clause-apart : goal.returns-in-Some-2-clause-apart
+returns-in-Some-2-clause-apart g c = goes_on (g.H.Host.state c.args.host.now) (g.H.Host.state c.loop-stage.host) (g.H.Host.state c.run_stage.new.host) (later_of _ _ _ c.loop-stage.invariant.any_moment) (later_of _ _ _ c.run_stage.ensures.any_moment) c.loop-stage.invariant.apart c.in_ok-call.ensures.apart
+
+pub returns-clause-apart : goal.returns-clause-apart
+returns-clause-apart g c = c.loop-stage.invariant.apart

@@ -5,6 +5,7 @@ use Rattle.held_administration.specs.Order.{IsInOrder}
 use Rattle.unit_stages.specs.Holding.{holding_of}
 use Rattle.unit_stages.specs.Running.{AreRunning}
 use Rattle.unit_stages.specs.Runs.{HaveRun}
+use Rattle.unit_stages.proofs.Apart.{GoesApart}
 use Rattle.unit_stages.proofs.running.run_stages.Given as goal
 
 abbrev pub invariant-loop-stage : goal.invariant-loop-stage
@@ -20,4 +21,5 @@ invariant-loop-stage g l =
       is_open : IsOpen entries l.administration;
       any_moment : AtEachMomentOf (AreRunning name entries l.fn.stages.items (holding_of l.fn.administration)) old now;
       counts : NoFault old now;
+      apart : GoesApart old now;
     }

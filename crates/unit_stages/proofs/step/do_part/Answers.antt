@@ -1,5 +1,5 @@
 use Rattle.std.proofs.Common.{false, true, [], ◌∷◌, sym, subst}
-use Rattle.host_core.specs.Host.{AtEachMoment}
+use Rattle.host_core.specs.Host.{AtEachMoment, WasDenied}
 use Rattle.administration.specs.Files.{IsDropping, IsReplacing}
 use Rattle.administration.specs.Places.{list_path}
 use Rattle.conffiles.specs.Settling.{AreSettled, AreSettling}
@@ -16,7 +16,9 @@ use Rattle.held_administration.specs.Order.{IsInOrder}
 use Rattle.unit_stages.specs.declared.part.Part.TheVariants.{Note, Forget, Settle, Remove, RemoveDirectories, Clear, List as Listing, DropList, DropMembers}
 use Rattle.unit_stages.proofs.PartMoments.{kept_doing, members_doing, on_both, on_three, outside_doing, since_doing, since_settled}
 use Rattle.unit_stages.proofs.Order.{dropped_order, dropping_kept, dropping_loose, forget_order, home_there, listing_order, note_order, noting_loose, outside_order, own_list, own_members, replacing_kept, replacing_loose, taken_order}
-use Rattle.unit_stages.proofs.Outside.{cleared_outside, clearing_outside, removed_outside, removing_outside, settled_outside}
+use Rattle.unit_stages.proofs.Outside.{cleared_outside, clearing_outside, removed_outside, removing_outside, settled_outside, settling_outside}
+use Rattle.unit_stages.proofs.Apart.{beside_apart, drop_same, outside_same, stays_same}
+use Rattle.unit_stages.proofs.Places.{listing_stays}
 use Rattle.unit_stages.proofs.step.do_part.Goals as goal
 
 pub returns-in-Note-clause-order : goal.returns-in-Note-clause-order
@@ -43,7 +45,7 @@ pub returns-in-Remove-clause-order : goal.returns-in-Remove-clause-order
 returns-in-Remove-clause-order g c =
     λ h. on_ok c.remove_owned.result _ _
     (λ is. (let order = c.requires.order (c.remove_owned.ensures.silent.honest h) in
-    outside_order c.args.database.now c.args.lists.now.lists (g.H.Host.state c.args.host.now).world order (g.H.Host.state c.remove_owned.new.host).world (removed_outside false c.in-Remove.leaving.items (g.H.Host.state c.args.host.now).world (g.H.Host.state c.remove_owned.new.host).world (subst (λ p. IsFit c.args.name.now p c.args.database.now.records c.args.lists.now.lists) c.in-Remove.is c.requires.fit) (subst (λ l. Removed l (g.H.Host.state c.args.host.now).world (g.H.Host.state c.remove_owned.new.host).world) c.as_slice-in-Remove.ensures.value is)))) (c.remove_owned.ensures.removed h)
+    outside_order c.args.database.now c.args.lists.now.lists (g.H.Host.state c.args.host.now).world order (g.H.Host.state c.remove_owned.new.host).world (removed_outside false c.in-Remove.leaving.items (g.H.Host.state c.args.host.now).world (g.H.Host.state c.remove_owned.new.host).world (subst (λ p. IsFit c.args.name.now p c.args.database.now.records c.args.lists.now.lists) c.in-Remove.is c.requires.fit) _ (subst (λ l. Removed (WasDenied (g.H.Host.state c.args.host.now) (g.H.Host.state c.remove_owned.new.host)) l (g.H.Host.state c.args.host.now).world (g.H.Host.state c.remove_owned.new.host).world) c.as_slice-in-Remove.ensures.value is)))) (c.remove_owned.ensures.removed h)
 
 pub returns-in-Remove-clause-any_moment : goal.returns-in-Remove-clause-any_moment
 returns-in-Remove-clause-any_moment g c =
@@ -55,7 +57,7 @@ pub returns-in-RemoveDirectories-clause-order : goal.returns-in-RemoveDirectorie
 returns-in-RemoveDirectories-clause-order g c =
     λ h. on_ok c.remove_directories.result _ _
     (λ is. (let order = c.requires.order (c.remove_directories.ensures.silent.honest h) in
-    outside_order c.args.database.now c.args.lists.now.lists (g.H.Host.state c.args.host.now).world order (g.H.Host.state c.remove_directories.new.host).world (removed_outside true c.in-RemoveDirectories.leaving.items (g.H.Host.state c.args.host.now).world (g.H.Host.state c.remove_directories.new.host).world (subst (λ p. IsFit c.args.name.now p c.args.database.now.records c.args.lists.now.lists) c.in-RemoveDirectories.is c.requires.fit) (subst (λ l. RemovedDirectories l (g.H.Host.state c.args.host.now).world (g.H.Host.state c.remove_directories.new.host).world) c.as_slice-in-RemoveDirectories.ensures.value is)))) (c.remove_directories.ensures.removed h)
+    outside_order c.args.database.now c.args.lists.now.lists (g.H.Host.state c.args.host.now).world order (g.H.Host.state c.remove_directories.new.host).world (removed_outside true c.in-RemoveDirectories.leaving.items (g.H.Host.state c.args.host.now).world (g.H.Host.state c.remove_directories.new.host).world (subst (λ p. IsFit c.args.name.now p c.args.database.now.records c.args.lists.now.lists) c.in-RemoveDirectories.is c.requires.fit) _ (subst (λ l. RemovedDirectories (WasDenied (g.H.Host.state c.args.host.now) (g.H.Host.state c.remove_directories.new.host)) l (g.H.Host.state c.args.host.now).world (g.H.Host.state c.remove_directories.new.host).world) c.as_slice-in-RemoveDirectories.ensures.value is)))) (c.remove_directories.ensures.removed h)
 
 pub returns-in-RemoveDirectories-clause-any_moment : goal.returns-in-RemoveDirectories-clause-any_moment
 returns-in-RemoveDirectories-clause-any_moment g c =
@@ -133,3 +135,47 @@ returns-in-DropMembers-clause-any_moment g c =
     subst (λ p. AtEachMoment (IsDoing c.args.name.now p c.args.database.now.records) (g.H.Host.state c.args.host.now) (g.H.Host.state c.drop_members.new.host)) (sym c.in-DropMembers.is)
     (since_doing (MayDrop c.args.name.now c.in-DropMembers.keep_postrm) c.args.name.now (DropMembers c.in-DropMembers.keep_postrm) c.args.database.now c.args.lists.now.lists (g.H.Host.state c.args.host.now) (g.H.Host.state c.drop_members.new.host) c.requires.order
     (λ now order is. members_doing c.args.name.now c.args.database.now c.args.lists.now.lists _ order c.in-DropMembers.keep_postrm now is) c.drop_members.ensures.any_moment)
+
+pub returns-in-Remove-clause-apart : goal.returns-in-Remove-clause-apart
+returns-in-Remove-clause-apart g c =
+    beside_apart c.remove_owned.result (IsRemoving c.in-Remove.leaving.items) (g.H.Host.state c.args.host.now) (g.H.Host.state c.remove_owned.new.host)
+    (λ h now is. outside_same (g.H.Host.state c.args.host.now).world now (removing_outside false c.in-Remove.leaving.items (g.H.Host.state c.args.host.now).world now (subst (λ p. IsFit c.args.name.now p c.args.database.now.records c.args.lists.now.lists) c.in-Remove.is c.requires.fit) is))
+    (subst (λ l. AtEachMoment (IsRemoving l) (g.H.Host.state c.args.host.now) (g.H.Host.state c.remove_owned.new.host)) c.as_slice-in-Remove.ensures.value c.remove_owned.ensures.any_moment)
+
+pub returns-in-RemoveDirectories-clause-apart : goal.returns-in-RemoveDirectories-clause-apart
+returns-in-RemoveDirectories-clause-apart g c =
+    beside_apart c.remove_directories.result (IsRemovingDirectories c.in-RemoveDirectories.leaving.items) (g.H.Host.state c.args.host.now) (g.H.Host.state c.remove_directories.new.host)
+    (λ h now is. outside_same (g.H.Host.state c.args.host.now).world now (removing_outside true c.in-RemoveDirectories.leaving.items (g.H.Host.state c.args.host.now).world now (subst (λ p. IsFit c.args.name.now p c.args.database.now.records c.args.lists.now.lists) c.in-RemoveDirectories.is c.requires.fit) is))
+    (subst (λ l. AtEachMoment (IsRemovingDirectories l) (g.H.Host.state c.args.host.now) (g.H.Host.state c.remove_directories.new.host)) c.as_slice-in-RemoveDirectories.ensures.value c.remove_directories.ensures.any_moment)
+
+pub returns-in-Clear-clause-apart : goal.returns-in-Clear-clause-apart
+returns-in-Clear-clause-apart g c =
+    beside_apart c.clear_names.result (IsClearing c.in-Clear.names.items) (g.H.Host.state c.args.host.now) (g.H.Host.state c.clear_names.new.host)
+    (λ h now is. outside_same (g.H.Host.state c.args.host.now).world now (clearing_outside c.in-Clear.names.items (g.H.Host.state c.args.host.now).world now (subst (λ p. IsFit c.args.name.now p c.args.database.now.records c.args.lists.now.lists) c.in-Clear.is c.requires.fit) is))
+    (subst (λ l. AtEachMoment (IsClearing l) (g.H.Host.state c.args.host.now) (g.H.Host.state c.clear_names.new.host)) c.as_slice-in-Clear.ensures.value c.clear_names.ensures.any_moment)
+
+pub returns-in-Settle-clause-apart : goal.returns-in-Settle-clause-apart
+returns-in-Settle-clause-apart g c =
+    beside_apart c.apply.result (AreSettling c.in-Settle.settled.items) (g.H.Host.state c.args.host.now) (g.H.Host.state c.apply.new.host)
+    (λ h now is. (let h0 = c.apply.ensures.silent.honest h in
+    let a = (g.H.Host.state c.args.host.now).world in
+    outside_same a now (settling_outside c.in-Settle.settled.items a now (home_there c.args.database.now c.args.lists.now.lists a (c.requires.order h0)) (subst (λ p. AreSettleable (p ∷ []) a) c.in-Settle.is (c.requires.settleable h0)).0 is)))
+    (subst (λ l. AtEachMoment (AreSettling l) (g.H.Host.state c.args.host.now) (g.H.Host.state c.apply.new.host)) c.as_slice.ensures.value c.apply.ensures.any_moment)
+
+pub returns-in-List-clause-apart : goal.returns-in-List-clause-apart
+returns-in-List-clause-apart g c =
+    beside_apart c.write_list.result (IsReplacing (list_path c.args.name.now) (list_file c.in-List.paths)) (g.H.Host.state c.args.host.now) (g.H.Host.state c.write_list.new.host)
+    (λ h now is. stays_same (g.H.Host.state c.args.host.now).world now (listing_stays c.args.name.now (g.H.Host.state c.args.host.now).world now is.rest))
+    c.write_list.ensures.any_moment
+
+pub returns-in-DropList-clause-apart : goal.returns-in-DropList-clause-apart
+returns-in-DropList-clause-apart g c =
+    beside_apart c.drop_list.result (IsDropping (list_path c.args.name.now)) (g.H.Host.state c.args.host.now) (g.H.Host.state c.drop_list.new.host)
+    (λ h now is. stays_same (g.H.Host.state c.args.host.now).world now (listing_stays c.args.name.now (g.H.Host.state c.args.host.now).world now (λ q ne spare. is.rest q ne)))
+    c.drop_list.ensures.any_moment
+
+pub returns-in-DropMembers-clause-apart : goal.returns-in-DropMembers-clause-apart
+returns-in-DropMembers-clause-apart g c =
+    beside_apart c.drop_members.result (MayDrop c.args.name.now c.in-DropMembers.keep_postrm) (g.H.Host.state c.args.host.now) (g.H.Host.state c.drop_members.new.host)
+    (λ h now is. drop_same c.args.name.now c.in-DropMembers.keep_postrm (g.H.Host.state c.args.host.now).world now is)
+    c.drop_members.ensures.any_moment

@@ -1,6 +1,7 @@
 use Rattle.std.proofs.Common.{◌≡◌, false, take, IsTrue}
 use Rattle.host_core.specs.World.{KeepsBut}
 use Rattle.host_core.specs.Host.{AtEachMoment, Silent, NoFault}
+use Rattle.scattered_losses.proofs.GoingApart.{HasGone}
 use Rattle.status_db.specs.Held.{IsKept, is_record_place}
 use Rattle.unpack_commit.specs.Commit.{AreNoting}
 use Rattle.unpack_commit.specs.Takeover.{put_records}
@@ -15,4 +16,5 @@ invariant-loop-entry g l = record {
   kept : IsTrue (g.H.Host.state l.host).honest → IsKept l.database (g.H.Host.state l.host).world;
   rest : IsTrue (g.H.Host.state l.host).honest → KeepsBut is_record_place (g.H.Host.state l.fn.host).world (g.H.Host.state l.host).world;
   any_moment : AtEachMoment (AreNoting l.records l.fn.database.records) (g.H.Host.state l.fn.host) (g.H.Host.state l.host);
+  apart : HasGone is_record_place (g.H.Host.state l.fn.host) (g.H.Host.state l.host);
 }

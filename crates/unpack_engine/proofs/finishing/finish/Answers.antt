@@ -1,7 +1,7 @@
 use Rattle.std.proofs.Common.{◌≡◌, ◌++◌, List, Option, None, length, nat_le, sym, subst}
 use Rattle.undo_rows.specs.Transcripts.{Committed}
 use Rattle.host_core.specs.Paths.{Path}
-use Rattle.host_core.specs.Host.{AtEachMoment}
+use Rattle.host_core.specs.Host.{AtEachMoment, WasDenied}
 use Rattle.file_lists.specs.Writing.{IsListReady}
 use Rattle.undo_rows.specs.Ended.{ended_as}
 use Rattle.undo_rows.specs.declared.unwinding.Unwinding.{Unwinding}
@@ -9,7 +9,7 @@ use Rattle.status_records.specs.Records.{record_in}
 use Rattle.unpack_rows.specs.EndStates.{own_name}
 use Rattle.unpack_engine.specs.Endings.{changes_from, ended_lists, ended_records, ended_table, records_from}
 use Rattle.unpack_engine.specs.Touched.{AreTold, deconfigured}
-use Rattle.unpack_engine.specs.Units.{HasDropped, HasLeft, MayDrop, MayLeave, MayLeaveBy}
+use Rattle.unpack_engine.specs.Units.{HasDropped, HasLeft, HasLeftBy, HasLeftUnless, MayDrop, MayLeave, MayLeaveBy}
 use Rattle.unpack_engine.proofs.Dropping.{dropped_kept, laying_kept}
 use Rattle.unpack_engine.proofs.Ready.{list_ready}
 use Rattle.unpack_engine.proofs.finishing.finish.Goals as goal
@@ -45,6 +45,19 @@ returns-in-Ok-clause-left g c = λ h.
     c.name-name.result.now _ c.as_slice-yields.result.now _ c.args.unwinding c.name-name.ensures c.as_slice-yields.ensures c.in-None.is
     (subst (λ os. HasLeft (changes_from c.name-name.result.now c.as_slice-yields.result.now entries lists c.args.works.now c.args.commit) (records_from c.name-name.result.now c.as_slice-yields.result.now entries lists c.args.works.now c.args.commit before) entries lists before (length os) Committed
     (g.H.Host.state c.args.host.now).world (g.H.Host.state c.finish_committed.new.host).world) c.as_slice-others.ensures.value (c.in-Ok.ensures.left h))
+
+pub returns-in-Ok-clause-stays : goal.returns-in-Ok-clause-stays
+returns-in-Ok-clause-stays g c = λ h.
+    let entries = c.args.diversions.now.entries in
+    let lists = c.args.lists.now.lists in
+    let before = c.args.database.now.records in
+    let start = g.H.Host.state c.args.host.now in
+    let end = g.H.Host.state c.finish_committed.new.host in
+    moved (λ n y u. HasLeftUnless (changes_from n y entries lists c.args.works.now c.args.commit) (records_from n y entries lists c.args.works.now c.args.commit before) entries lists before (length c.args.rows.now.others.items) (WasDenied start end) (ended_as u)
+    start.world end.world)
+    c.name-name.result.now _ c.as_slice-yields.result.now _ c.args.unwinding c.name-name.ensures c.as_slice-yields.ensures c.in-None.is
+    (subst (λ os. HasLeftUnless (changes_from c.name-name.result.now c.as_slice-yields.result.now entries lists c.args.works.now c.args.commit) (records_from c.name-name.result.now c.as_slice-yields.result.now entries lists c.args.works.now c.args.commit before) entries lists before (length os) (WasDenied start end) Committed
+    start.world end.world) c.as_slice-others.ensures.value (c.in-Ok.ensures.stays h))
 
 pub returns-in-Ok-clause-any_moment : goal.returns-in-Ok-clause-any_moment
 returns-in-Ok-clause-any_moment g c =
@@ -83,6 +96,17 @@ returns-in-Ok-finish_unwound-clause-kept g c = λ h.
     laying_kept left.followed new left.removed.rest c.args.database.now
     (dropped_kept reached (record_in c.args.database.now.records name) name old left.followed left.has_followed c.args.database.now (c.requires.kept (c.finish_unwound.ensures.silent.honest h)))
 
+pub returns-in-Ok-finish_unwound-clause-stays : goal.returns-in-Ok-finish_unwound-clause-stays
+returns-in-Ok-finish_unwound-clause-stays g c = λ h.
+    let before = c.args.database.now.records in
+    let start = g.H.Host.state c.args.host.now in
+    let end = g.H.Host.state c.finish_unwound.new.host in
+    let name = c.name-name.result.now in
+    let row = c.in-Some.unwinding.fall.row in
+    subst (λ u. HasLeftUnless (changes_from (own_name c.args.rows.now.found c.args.rows.now.incoming) c.args.rows.now.yields c.args.diversions.now.entries c.args.lists.now.lists c.args.works.now c.args.commit) (records_from (own_name c.args.rows.now.found c.args.rows.now.incoming) c.args.rows.now.yields c.args.diversions.now.entries c.args.lists.now.lists c.args.works.now c.args.commit before) c.args.diversions.now.entries c.args.lists.now.lists before (length c.args.rows.now.others.items) (WasDenied start end) (ended_as u) start.world end.world) (sym c.in-Some.is)
+    (subst (λ n. HasLeftBy (HasDropped (nat_le (length c.args.rows.now.others.items) row) (record_in before n) n) start.world end.world) c.name-name.ensures
+    (subst (λ os. HasLeftBy (HasDropped (nat_le (length os) row) (record_in before name) name) start.world end.world) c.as_slice-others.ensures.value (c.in-Ok-finish_unwound.ensures.left h)))
+
 pub returns-in-Ok-finish_unwound-clause-any_moment : goal.returns-in-Ok-finish_unwound-clause-any_moment
 returns-in-Ok-finish_unwound-clause-any_moment g c =
     let before = c.args.database.now.records in
@@ -102,3 +126,15 @@ returns-clause-any_moment g c =
     (subst (λ n. AtEachMoment (MayLeaveBy (HasDropped (nat_le (length c.args.rows.now.others.items) c.in-Some.unwinding.fall.row) (record_in before n) n) (MayDrop (nat_le (length c.args.rows.now.others.items) c.in-Some.unwinding.fall.row) (record_in before n) n)) old new) c.name-name.ensures
     (subst (λ os. AtEachMoment (MayLeaveBy (HasDropped (nat_le (length os) c.in-Some.unwinding.fall.row) (record_in before c.name-name.result.now) c.name-name.result.now) (MayDrop (nat_le (length os) c.in-Some.unwinding.fall.row) (record_in before c.name-name.result.now) c.name-name.result.now)) old new)
     c.as_slice-others.ensures.value c.finish_unwound.ensures.any_moment))
+
+pub returns-in-Ok-clause-apart : goal.returns-in-Ok-clause-apart
+returns-in-Ok-clause-apart g c = c.in-Ok.ensures.apart
+
+pub returns-in-None-clause-apart : goal.returns-in-None-clause-apart
+returns-in-None-clause-apart g c = λ h. ((c.finish_committed.ensures.apart h).0, tt)
+
+pub returns-in-Ok-finish_unwound-clause-apart : goal.returns-in-Ok-finish_unwound-clause-apart
+returns-in-Ok-finish_unwound-clause-apart g c = c.in-Ok-finish_unwound.ensures.apart
+
+pub returns-clause-apart : goal.returns-clause-apart
+returns-clause-apart g c = λ h. ((c.finish_unwound.ensures.apart h).0, tt)

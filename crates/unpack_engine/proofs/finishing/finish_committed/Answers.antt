@@ -5,15 +5,17 @@ use Rattle.control_members.specs.LaidOut.{AreLaidOut}
 use Rattle.file_lists.specs.Owners.{AreListPaths}
 use Rattle.status_records.specs.Records.{AreStanding}
 use Rattle.package_files.proofs.WriteMoments.{on_ok}
-use Rattle.host_core.specs.Host.{AtEachMoment}
+use Rattle.host_core.specs.Host.{AtEachMoment, WasDenied}
 use Rattle.unpack_commit.specs.Commit.{Changes, changes_of}
 use Rattle.listed_files.specs.Closing.{SparesAdministration}
 use Rattle.listed_files.specs.Concluding.{AreElsewhere}
 use Rattle.unpack_engine.specs.Endings.{records_from}
-use Rattle.unpack_engine.specs.Units.{HasLeft, MayLeave}
+use Rattle.unpack_engine.specs.Units.{HasLeft, HasLeftUnless, MayLeave}
 use Rattle.unpack_engine.proofs.Losing.{loser_named}
 use Rattle.unpack_engine.proofs.Ready.{list_ready, members_ready}
 use Rattle.unpack_engine.proofs.Starts.{leave_start}
+use Rattle.scattered_losses.proofs.GoingApart.{goes_here}
+use Rattle.status_db.specs.Held.{is_record_place}
 use Rattle.unpack_engine.proofs.finishing.finish_committed.Goals as goal
 
 pub finish_ready-requires-clause-named : goal.finish_ready-requires-clause-named
@@ -67,6 +69,19 @@ returns-in-Ok-clause-left g c = λ h.
     (λ left. subst (λ x. HasLeft x (records_from c.args.name.now c.args.yields.now entries lists c.args.works.now c.args.commit before) entries lists before (length c.args.others.now) Committed old new) c.in-Ok.ensures.change
     (subst (λ r. HasLeft made r entries lists before (length c.args.others.now) Committed old new) c.in-Ok.ensures.records left)) (c.finish_ready.ensures.left h)
 
+pub returns-in-Ok-clause-stays : goal.returns-in-Ok-clause-stays
+returns-in-Ok-clause-stays g c = λ h.
+    let entries = c.args.diversions.now.entries in
+    let lists = c.args.lists.now.lists in
+    let before = c.args.database.now.records in
+    let start = g.H.Host.state c.args.host.now in
+    let end = g.H.Host.state c.finish_ready.new.host in
+    let made = changes_of c.in-Ok.committing.change c.in-Ok.committing.new_list in
+    let noted = c.in-Ok.committing.records.items in
+    on_ok c.finish_ready.result (HasLeftUnless made noted entries lists before (length c.args.others.now) (WasDenied start end) Committed start.world end.world) _
+    (λ left. subst (λ x. HasLeftUnless x (records_from c.args.name.now c.args.yields.now entries lists c.args.works.now c.args.commit before) entries lists before (length c.args.others.now) (WasDenied start end) Committed start.world end.world) c.in-Ok.ensures.change
+    (subst (λ r. HasLeftUnless made r entries lists before (length c.args.others.now) (WasDenied start end) Committed start.world end.world) c.in-Ok.ensures.records left)) (c.finish_ready.ensures.stays h)
+
 pub returns-in-Ok-clause-any_moment : goal.returns-in-Ok-clause-any_moment
 returns-in-Ok-clause-any_moment g c =
     let entries = c.args.diversions.now.entries in
@@ -77,3 +92,9 @@ returns-in-Ok-clause-any_moment g c =
     let made = changes_of c.in-Ok.committing.change c.in-Ok.committing.new_list in
     subst (λ x. AtEachMoment (MayLeave x (records_from c.args.name.now c.args.yields.now entries lists c.args.works.now c.args.commit before) entries lists before (length c.args.others.now) Committed) old new) c.in-Ok.ensures.change
     (subst (λ r. AtEachMoment (MayLeave made r entries lists before (length c.args.others.now) Committed) old new) c.in-Ok.ensures.records c.finish_ready.ensures.any_moment)
+
+pub returns-in-Ok-clause-apart : goal.returns-in-Ok-clause-apart
+returns-in-Ok-clause-apart g c = c.finish_ready.ensures.apart
+
+pub returns-in-Err-clause-apart : goal.returns-in-Err-clause-apart
+returns-in-Err-clause-apart g c = λ h. ((goes_here is_record_place (g.H.Host.state c.args.host.now) h).0, tt)

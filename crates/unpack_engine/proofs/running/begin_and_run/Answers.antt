@@ -10,6 +10,9 @@ use Rattle.unpack_engine.specs.Units.{HasBegun}
 use Rattle.unpack_engine.proofs.Carrying.{same_end}
 use Rattle.unpack_engine.proofs.Order.{home_there, list_begun, members_begun, records_begun}
 use Rattle.unpack_engine.proofs.Sequel.{denied_behind, if_ok_both, if_ok_one, later, since_beginning, since_running}
+use Rattle.scattered_losses.proofs.GoingApart.{later_of, works_behind}
+use Rattle.status_db.specs.Held.{is_record_place}
+use Rattle.unpack_engine.proofs.RecordsApart.{laying_gone}
 use Rattle.unpack_engine.proofs.running.begin_and_run.Goals as goal
 
 pub lay_out-requires-clause-home : goal.lay_out-requires-clause-home
@@ -80,3 +83,13 @@ returns-in-Ok-clause-denied g c =
     let new = g.H.Host.state c.run_unpack_rows.new.host in
     if_ok_one c.run_unpack_rows.result (λ u. IfSome u (λ one. OnlyIfDeclined one.fall.fault mid new)) (λ u. IfSome u (λ one. OnlyIfDeclined one.fall.fault old new))
     (λ u. denied_behind u old mid new c.in-Ok.ensures.counts) c.run_unpack_rows.ensures.denied
+
+pub returns-in-Ok-clause-apart : goal.returns-in-Ok-clause-apart
+returns-in-Ok-clause-apart g c =
+    let old = g.H.Host.state c.args.host.now in
+    let mid = g.H.Host.state c.lay_out.new.host in
+    let new = g.H.Host.state c.run_unpack_rows.new.host in
+    works_behind is_record_place c.run_unpack_rows.result old mid new (laying_gone old mid c.lay_out.ensures.any_moment) (later_of _ mid new c.run_unpack_rows.ensures.any_moment) c.run_unpack_rows.ensures.apart
+
+pub returns-in-Err-clause-apart : goal.returns-in-Err-clause-apart
+returns-in-Err-clause-apart g c = λ h. (((laying_gone (g.H.Host.state c.args.host.now) (g.H.Host.state c.lay_out.new.host) c.lay_out.ensures.any_moment).1 h).0, tt)

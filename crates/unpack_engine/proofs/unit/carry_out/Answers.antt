@@ -1,6 +1,6 @@
 use Rattle.std.proofs.Common.{◌≡◌, ◌++◌, List, length, sym, ap, subst, ◌∙◌}
 use Rattle.std.specs.Prelude.{IfSome}
-use Rattle.host_core.specs.Host.{AtEachMoment}
+use Rattle.host_core.specs.Host.{AtEachMoment, WasDenied}
 use Rattle.undo_rows.specs.Ended.{IsCauseOf, ended_as}
 use Rattle.undo_rows.specs.Faults.{OnlyIfDeclined}
 use Rattle.status_records.specs.Records.{AreStanding}
@@ -12,11 +12,13 @@ use Rattle.unpack_steps.specs.At.{holding_by}
 use Rattle.unpack_plan.specs.Planned.{planned}
 use Rattle.unpack_engine.specs.Endings.{changes_from, ended_lists, ended_records, ended_table, records_from}
 use Rattle.unpack_engine.specs.Touched.{AreTold, deconfigured}
-use Rattle.unpack_engine.specs.Units.{HasCarriedOut, HasLeft, IsTouched, MayLeave, ground_by}
+use Rattle.unpack_engine.specs.Units.{HasCarriedOut, HasLeft, HasLeftUnless, IsTouched, MayLeave, ground_by}
 use Rattle.unpack_engine.proofs.Carrying.{carried_out}
 use Rattle.unpack_engine.proofs.Sequel.{called_then, denied_then, if_ok_counted, if_ok_one}
 use Rattle.unpack_engine.proofs.UnitMoments.{plan_begins, plan_moments}
-use Rattle.unpack_engine.proofs.Whole.{can_write_still, if_ok_all, if_ok_with, parts_info, parts_kept, parts_kinds, parts_laid, parts_length, parts_loose, parts_rows, parts_sound, parts_stand, parts_touched}
+use Rattle.unpack_engine.proofs.Whole.{can_write_still, if_ok_both, if_ok_with, parts_info, parts_kept, parts_kinds, parts_laid, parts_length, parts_loose, parts_rows, parts_sound, parts_stand, parts_touched}
+use Rattle.scattered_losses.proofs.GoingApart.{gone_by, later_of, works_behind}
+use Rattle.status_db.specs.Held.{is_record_place}
 use Rattle.unpack_engine.proofs.unit.carry_out.Goals as goal
 
 pub begin_and_run-requires-clause-sound : goal.begin_and_run-requires-clause-sound
@@ -68,14 +70,15 @@ finish-requires-clause-laid g c = parts_laid c.args.administration.now c.args.di
 
 pub returns-in-Ok-clause-unit : goal.returns-in-Ok-clause-unit
 returns-in-Ok-clause-unit g c =
-    if_ok_all c.finish.result (λ u. u.unwinding ≡ c.in-Ok.unwinding) (λ u. HasCarriedOut (ground_by c.args.administration.now c.args.diversions.now.entries c.args.plan.rows.yields) (planned c.args.plan) (ended_as u.unwinding) c.finish.new.database c.finish.new.lists.lists (g.H.Host.state c.args.host.now) (g.H.Host.state c.finish.new.host) c.args.told.now.items c.begin_and_run.new.told.items)
-    _ _ _ _ (λ u same table lists_are left.
+    if_ok_both c.finish.result (λ u. u.unwinding ≡ c.in-Ok.unwinding) (λ u. HasCarriedOut (ground_by c.args.administration.now c.args.diversions.now.entries c.args.plan.rows.yields) (planned c.args.plan) (ended_as u.unwinding) c.finish.new.database c.finish.new.lists.lists (g.H.Host.state c.args.host.now) (g.H.Host.state c.finish.new.host) c.args.told.now.items c.begin_and_run.new.told.items)
+    _ _ _ _ _ (λ u same table lists_are left stays.
     carried_out c.args.administration.now c.args.diversions.now.entries c.args.plan.rows c.args.plan.works.items c.args.plan.calls.items c.args.plan.commit (ended_as c.in-Ok.unwinding) (ended_as u.unwinding) (holding_by c.begin_and_run.new.administration c.begin_and_run.new.works.items) c.finish.new.database c.finish.new.lists (g.H.Host.state c.args.host.now) (g.H.Host.state c.begin_and_run.new.host) (g.H.Host.state c.finish.new.host) c.args.told.now.items c.begin_and_run.new.told.items
     (ap ended_as (sym same)) c.in-Ok.ensures.ran c.finish.ensures.silent (subst (λ (x : List Work). AtEachMoment (MayLeave (changes_from (own_name c.args.plan.rows.found c.args.plan.rows.incoming) c.args.plan.rows.yields c.args.diversions.now.entries c.begin_and_run.new.administration.lists.lists x c.args.plan.commit) (records_from (own_name c.args.plan.rows.found c.args.plan.rows.incoming) c.args.plan.rows.yields c.args.diversions.now.entries c.begin_and_run.new.administration.lists.lists x c.args.plan.commit c.begin_and_run.new.administration.database.records) c.args.diversions.now.entries c.begin_and_run.new.administration.lists.lists c.begin_and_run.new.administration.database.records (length c.args.plan.rows.others.items) (ended_as c.in-Ok.unwinding)) (g.H.Host.state c.begin_and_run.new.host) (g.H.Host.state c.finish.new.host)) c.as_slice-shipped.ensures.value c.finish.ensures.any_moment)
     (λ h. subst (λ (x : List Work). HasLeft (changes_from (own_name c.args.plan.rows.found c.args.plan.rows.incoming) c.args.plan.rows.yields c.args.diversions.now.entries c.begin_and_run.new.administration.lists.lists x c.args.plan.commit) (records_from (own_name c.args.plan.rows.found c.args.plan.rows.incoming) c.args.plan.rows.yields c.args.diversions.now.entries c.begin_and_run.new.administration.lists.lists x c.args.plan.commit c.begin_and_run.new.administration.database.records) c.args.diversions.now.entries c.begin_and_run.new.administration.lists.lists c.begin_and_run.new.administration.database.records (length c.args.plan.rows.others.items) (ended_as c.in-Ok.unwinding) (g.H.Host.state c.begin_and_run.new.host).world (g.H.Host.state c.finish.new.host).world) c.as_slice-shipped.ensures.value (left h))
+    (λ h. subst (λ (x : List Work). HasLeftUnless (changes_from (own_name c.args.plan.rows.found c.args.plan.rows.incoming) c.args.plan.rows.yields c.args.diversions.now.entries c.begin_and_run.new.administration.lists.lists x c.args.plan.commit) (records_from (own_name c.args.plan.rows.found c.args.plan.rows.incoming) c.args.plan.rows.yields c.args.diversions.now.entries c.begin_and_run.new.administration.lists.lists x c.args.plan.commit c.begin_and_run.new.administration.database.records) c.args.diversions.now.entries c.begin_and_run.new.administration.lists.lists c.begin_and_run.new.administration.database.records (length c.args.plan.rows.others.items) (WasDenied (g.H.Host.state c.begin_and_run.new.host) (g.H.Host.state c.finish.new.host)) (ended_as c.in-Ok.unwinding) (g.H.Host.state c.begin_and_run.new.host).world (g.H.Host.state c.finish.new.host).world) c.as_slice-shipped.ensures.value (stays h))
     (table ∙ ap (λ (x : List Work). ended_table (ended_as c.in-Ok.unwinding) (records_from (own_name c.args.plan.rows.found c.args.plan.rows.incoming) c.args.plan.rows.yields c.args.diversions.now.entries c.begin_and_run.new.administration.lists.lists x c.args.plan.commit c.begin_and_run.new.administration.database.records) c.begin_and_run.new.administration.database.records) c.as_slice-shipped.ensures.value)
     (ap (λ l. l.lists) lists_are ∙ ap (λ (x : List Work). ended_lists (ended_as c.in-Ok.unwinding) (changes_from (own_name c.args.plan.rows.found c.args.plan.rows.incoming) c.args.plan.rows.yields c.args.diversions.now.entries c.begin_and_run.new.administration.lists.lists x c.args.plan.commit) c.args.diversions.now.entries c.begin_and_run.new.administration.lists.lists) c.as_slice-shipped.ensures.value))
-    c.finish.ensures.unwinding c.finish.ensures.records c.finish.ensures.lists c.finish.ensures.left
+    c.finish.ensures.unwinding c.finish.ensures.records c.finish.ensures.lists c.finish.ensures.left c.finish.ensures.stays
 
 pub returns-in-Ok-clause-cause : goal.returns-in-Ok-clause-cause
 returns-in-Ok-clause-cause g c = if_ok_one c.finish.result (λ u. u.unwinding ≡ c.in-Ok.unwinding) (λ u. IsCauseOf c.args.plan.calls.items u.unwinding) (λ u same. subst (IsCauseOf c.args.plan.calls.items) (sym same) c.in-Ok.ensures.cause) c.finish.ensures.unwinding
@@ -112,3 +115,13 @@ returns-in-Ok-clause-any_moment g c =
 
 pub returns-clause-any_moment : goal.returns-clause-any_moment
 returns-clause-any_moment g c = plan_begins c.args.administration.now c.args.diversions.now.entries c.args.plan.rows c.args.plan.works.items c.args.plan.calls.items c.args.plan.commit c.requires.plan.job c.requires.plan.planned (g.H.Host.state c.args.host.now) (g.H.Host.state c.begin_and_run.new.host) c.requires.order (g.H.Host.tree c.args.host.now) c.begin_and_run.ensures.any_moment
+
+pub returns-in-Ok-clause-apart : goal.returns-in-Ok-clause-apart
+returns-in-Ok-clause-apart g c =
+    let old = g.H.Host.state c.args.host.now in
+    let mid = g.H.Host.state c.begin_and_run.new.host in
+    let new = g.H.Host.state c.finish.new.host in
+    works_behind is_record_place c.finish.result old mid new (gone_by is_record_place _ old mid c.begin_and_run.ensures.any_moment c.in-Ok.ensures.apart) (later_of _ mid new c.finish.ensures.any_moment) c.finish.ensures.apart
+
+pub returns-clause-apart : goal.returns-clause-apart
+returns-clause-apart g c = λ h. ((c.begin_and_run.ensures.apart h).0, tt)

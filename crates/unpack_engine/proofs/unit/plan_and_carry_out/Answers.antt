@@ -13,6 +13,8 @@ use Rattle.unpack_engine.proofs.EndLists.{listed_if_ok}
 use Rattle.unpack_engine.proofs.EndOrder.{order_if_ok}
 use Rattle.unpack_engine.proofs.Planning.{called_of, carried_behind, only_looked, planned_for, unit_amid, unpacked_by}
 use Rattle.unpack_engine.proofs.Sequel.{denied_behind, if_ok_one}
+use Rattle.scattered_losses.proofs.GoingApart.{later_of, reads_gone, works_behind}
+use Rattle.status_db.specs.Held.{is_record_place}
 use Rattle.unpack_engine.proofs.unit.plan_and_carry_out.Goals as goal
 
 pub carry_out-requires-clause-plan : goal.carry_out-requires-clause-plan
@@ -113,3 +115,13 @@ returns-in-Ok-clause-order g c =
     old new c.args.told.now.items c.carry_out.new.told.items c.requires.order carried c.carry_out.ensures.kept
     (listed_if_ok c.carry_out.result G stored plan places c.carry_out.new.administration.database c.carry_out.new.administration.lists.lists c.in-Ok.ensures.planned.planned (λ u. ended_as u.unwinding)
     old new c.args.told.now.items c.carry_out.new.told.items (λ h. (c.requires.order h).listed) (subst (AllByRecursion IsUtf8) c.as_slice.ensures c.are_texts.ensures) carried)
+
+pub returns-in-Ok-clause-apart : goal.returns-in-Ok-clause-apart
+returns-in-Ok-clause-apart g c =
+    let old = g.H.Host.state c.args.host.now in
+    let mid = g.H.Host.state c.plan_unit.new.host in
+    let new = g.H.Host.state c.carry_out.new.host in
+    works_behind is_record_place c.carry_out.result old mid new (reads_gone is_record_place old mid c.plan_unit.ensures.reads) (later_of _ mid new c.carry_out.ensures.any_moment) c.carry_out.ensures.apart
+
+pub returns-in-Err-clause-apart : goal.returns-in-Err-clause-apart
+returns-in-Err-clause-apart g c = λ h. (((reads_gone is_record_place (g.H.Host.state c.args.host.now) (g.H.Host.state c.plan_unit.new.host) c.plan_unit.ensures.reads).1 h).0, tt)

@@ -5,6 +5,8 @@ use Rattle.file_lists.specs.Filed.{Filed}
 use Rattle.undo_rows.specs.Ended.{ended_as}
 use Rattle.held_administration.specs.Order.{IsInOrder}
 use Rattle.unpack_engine.specs.Units.{HasCalled, HasFailedFor, HasUnpacked, IsAmidUnit, given_beside}
+use Rattle.scattered_losses.proofs.GoingApart.{fails_so, gone_here, passed_on}
+use Rattle.status_db.specs.Held.{is_record_place}
 use Rattle.unpack_engine.proofs.unit.unpack.Goals as goal
 
 pub plan_and_carry_out-requires-clause-open : goal.plan_and_carry_out-requires-clause-open
@@ -42,3 +44,11 @@ returns-clause-any_moment g c =
     let new = g.H.Host.state c.plan_and_carry_out.new.host in
     let at = λ (f : Filed). given_beside c.args.incoming c.args.administration.now.database.records f.lists c.args.diversions.now.entries c.args.others.packages.items c.args.others.yields in
     subst (λ (f : Filed). AtEachMomentOf (IsAmidUnit (at f) c.args.administration.now.places) old new) c.index_where_many.ensures c.plan_and_carry_out.ensures.any_moment
+
+pub returns-in_err-index_where_many-clause-apart : goal.returns-in_err-index_where_many-clause-apart
+returns-in_err-index_where_many-clause-apart g c =
+    let s = g.H.Host.state c.args.host.now in
+    fails_so is_record_place c.from_residual.result s s (gone_here is_record_place s) (passed_on _ _ c.from_residual.result c.from_residual.ensures.1)
+
+pub returns-clause-apart : goal.returns-clause-apart
+returns-clause-apart g c = c.plan_and_carry_out.ensures.apart

@@ -27,3 +27,6 @@ returns-clause-calls g c =
     let is : t (g.H.Host.state c.of.result.value) c.of-2.result.value c.of-3.result.value.items ≡ t s c.args.administration.now c.args.works.now.items
     = (λ i. t (g.H.Host.state (c.of.ensures i)) (c.of-2.ensures i) (c.of-3.ensures i).items) in
     subst (λ (x : Task). IfOk c.run_all.result (λ u. HasRun (IsFileFault x) (ended_as u) c.args.calls.items s (g.H.Host.state c.run_all.new.host) c.args.told.now.items c.run_all.new.told.items)) is c.run_all.ensures.calls
+
+pub returns-clause-apart : goal.returns-clause-apart
+returns-clause-apart g c = c.run_all.ensures.apart

@@ -1,4 +1,5 @@
 use Rattle.std.proofs.Common.{sym, ◌∙◌}
+use Rattle.diversions.proofs.Turning.{goes_here}
 use Rattle.dpkg_session.proofs.Outlasting.{answered_stands, loses_like}
 use Rattle.dpkg_session.proofs.TableUnits.{flushed_answered}
 use Rattle.dpkg_session.proofs.Told.{tells_silent}
@@ -33,3 +34,6 @@ returns-clause-stands g c = λ open_before whole. answered_stands _ _ _ c.undive
 
 pub returns-clause-answered : goal.returns-clause-answered
 returns-clause-answered g c = λ open_before whole. let one = c.undivert_on-report.ensures.whole whole in flushed_answered one.2.answer _ _ one.2.flushed
+
+pub returns-then-self-clause-turns : goal.returns-then-self-clause-turns
+returns-then-self-clause-turns g c = goes_here _

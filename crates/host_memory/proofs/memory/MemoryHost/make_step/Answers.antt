@@ -5,7 +5,8 @@ use Rattle.host_memory.specs.Histories.{Goes, Steps, Breaks}
 use Rattle.host_memory.specs.declared.history.History.{History}
 use Rattle.host_core.specs.declared.fault.HostFault.TheVariants.{Device, NoMemory, Declined}
 use Rattle.host_core.specs.Events.{Denied}
-use Rattle.host_memory.specs.Doings.{part_left, place_of, step_of}
+use Rattle.host_core.specs.World.{place_of}
+use Rattle.host_memory.specs.Doings.{part_left, step_of}
 use Rattle.host_memory.proofs.Since.{goes_from}
 use Rattle.host_memory.proofs.Recorded.{behind_kept, makes_step}
 use Rattle.host_memory.proofs.memory.MemoryHost.make_step.Goals as goal

@@ -5,6 +5,8 @@ use Rattle.unpack_steps.proofs.RowKinds.{kind_at, not_files}
 use Rattle.unpack_steps.specs.At.{Holding}
 use Rattle.unpack_steps.specs.Task.{Task, kinds, name}
 use Rattle.unpack_steps.specs.Unpacking.{held_in, task_in}
+use Rattle.scattered_losses.proofs.GoingApart.{goes_here}
+use Rattle.status_db.specs.Held.{is_record_place}
 use Rattle.unpack_steps.proofs.around.UnpackingAround.conclude.Goals as goal
 
 pub returns-clause-place : goal.returns-clause-place
@@ -27,3 +29,6 @@ returns-clause-any_moment g c =
     let s = g.H.Host.state c.args._host.now in
     let at = c.requires.place in
     stops_here t h s (Ready c.args._index) at
+
+pub returns-clause-apart : goal.returns-clause-apart
+returns-clause-apart g c = goes_here is_record_place (g.H.Host.state c.args._host.now)

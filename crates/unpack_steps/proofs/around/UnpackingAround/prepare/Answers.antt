@@ -8,8 +8,12 @@ use Rattle.unpack_steps.proofs.Clears.{clear_place, clear_stops, members_needed}
 use Rattle.unpack_steps.proofs.HookRows.{Leads, before_can, noted_moments, noted_place, prepared}
 use Rattle.unpack_rows.specs.declared.kinds.RowKind.{RowKind}
 use Rattle.unpack_steps.specs.At.{Holding, IsAt, Stops}
-use Rattle.unpack_steps.specs.Task.{Task, has_gone, kinds}
+use Rattle.unpack_steps.specs.Task.{Task, has_gone, kinds, name}
 use Rattle.unpack_steps.specs.Unpacking.{held_in, task_in}
+use Rattle.scattered_losses.proofs.GoingApart.{fails_so, later_of, passed_on, works_behind}
+use Rattle.status_db.specs.Held.{is_record_place}
+use Rattle.unpack_steps.specs.Clearing.{clears_before}
+use Rattle.unpack_steps.proofs.RecordsApart.{clear_gone}
 use Rattle.unpack_steps.proofs.around.UnpackingAround.prepare.Goals as goal
 
 pub clear_left-requires-clause-named : goal.clear_left-requires-clause-named
@@ -129,3 +133,34 @@ returns-clause-any_moment g c =
     let leads = subst (Leads t (has_gone t (Ready c.args.index)) h u (Forward c.args.index) (Ready c.args.index)) (sym entry_is) (prepared t h u c.args.index k c.requires.row.0 is) in
     stops_then (Stops t) s u v clearing
     (noted_moments t (has_gone t (Ready c.args.index)) h u v (Forward c.args.index) (Ready c.args.index) c.in_ok-entry.entry now leads c.write_note.ensures.silent c.write_note.ensures.any_moment)
+
+pub returns-in_err-clear_left-clause-apart : goal.returns-in_err-clear_left-clause-apart
+returns-in_err-clear_left-clause-apart g c =
+    let self = c.args.self.now in
+    let t : Task = task_in self in
+    let s = g.H.Host.state c.args.host.now in
+    let k = c.kind-kind.result.now in
+    let u = g.H.Host.state c.clear_left.new.host in
+    let cleared = clear_gone (clears_before t.found k) (name t) s u c.clear_left.ensures.any_moment in
+    fails_so is_record_place c.from_residual.result s u cleared (passed_on _ _ c.from_residual.result c.from_residual.ensures.1)
+
+pub returns-in_err-entry-clause-apart : goal.returns-in_err-entry-clause-apart
+returns-in_err-entry-clause-apart g c =
+    let self = c.args.self.now in
+    let t : Task = task_in self in
+    let s = g.H.Host.state c.args.host.now in
+    let k = c.kind-kind.result.now in
+    let u = g.H.Host.state c.clear_left.new.host in
+    let cleared = clear_gone (clears_before t.found k) (name t) s u c.clear_left.ensures.any_moment in
+    fails_so is_record_place c.from_residual-in_err-entry.result s u cleared (passed_on _ _ c.from_residual-in_err-entry.result c.from_residual-in_err-entry.ensures.1)
+
+pub returns-clause-apart : goal.returns-clause-apart
+returns-clause-apart g c =
+    let self = c.args.self.now in
+    let t : Task = task_in self in
+    let s = g.H.Host.state c.args.host.now in
+    let k = c.kind-kind.result.now in
+    let u = g.H.Host.state c.clear_left.new.host in
+    let cleared = clear_gone (clears_before t.found k) (name t) s u c.clear_left.ensures.any_moment in
+    let v = g.H.Host.state c.write_note.new.host in
+    works_behind is_record_place c.write_note.result s u v cleared (later_of _ u v c.write_note.ensures.any_moment) c.write_note.ensures.apart

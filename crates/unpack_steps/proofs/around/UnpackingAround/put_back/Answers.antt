@@ -17,6 +17,9 @@ use Rattle.unpack_steps.proofs.FileRow.{back_stops, can_go_back, enough, ordered
 use Rattle.unpack_steps.proofs.HookRows.{not_written}
 use Rattle.unpack_steps.proofs.Hooks.{stops_here}
 use Rattle.unpack_steps.proofs.RowKinds.{file_row}
+use Rattle.scattered_losses.proofs.GoingApart.{goes_here}
+use Rattle.status_db.specs.Held.{is_record_place}
+use Rattle.unpack_steps.proofs.RecordsApart.{back_apart}
 use Rattle.unpack_steps.proofs.around.UnpackingAround.put_back.Goals as goal
 
 pub returns-then-fall-index-clause-place : goal.returns-then-fall-index-clause-place
@@ -105,4 +108,20 @@ returns-clause-any_moment g c =
     let row = file_row (name t) (kinds t) c.args.index c.args._row.now c.requires.row c.requires.files in
     let u = g.H.Host.state c.put_back.new.host in
     back_stops t self.administration.now.database self.administration.now.lists self.administration.now.places self.works.now.items s c.args.index c.args.fall.now c.args._failed.now row c.if-fall-index.false c.requires.place u c.put_back.ensures.silent
+    (subst (λ (l : List Work). AtEachMoment (MayUnlist (list_path (name t)) (list_file t.listed) l) s u) c.as_slice.ensures.value c.put_back.ensures.any_moment)
+
+pub returns-then-fall-index-clause-apart : goal.returns-then-fall-index-clause-apart
+returns-then-fall-index-clause-apart g c = goes_here is_record_place (g.H.Host.state c.args.host.now)
+
+pub returns-clause-apart : goal.returns-clause-apart
+returns-clause-apart g c =
+    let self = c.args.self.now in
+    let t : Task = task_in self in
+    let s = g.H.Host.state c.args.host.now in
+    let row = file_row (name t) (kinds t) c.args.index c.args._row.now c.requires.row c.requires.files in
+    let u = g.H.Host.state c.put_back.new.host in
+    back_apart c.put_back.result (name t) (list_file t.listed) self.works.now.items
+    (ordered_there t self.administration.now.database self.administration.now.lists self.administration.now.places self.works.now.items s c.args.index c.args.fall.now c.args._failed.now row c.if-fall-index.false c.requires.place).named
+    s u
+    (λ h. can_go_back t self.administration.now.database self.administration.now.lists self.administration.now.places self.works.now.items s c.args.index c.args.fall.now c.args._failed.now row c.if-fall-index.false c.requires.place (c.put_back.ensures.silent.honest h))
     (subst (λ (l : List Work). AtEachMoment (MayUnlist (list_path (name t)) (list_file t.listed) l) s u) c.as_slice.ensures.value c.put_back.ensures.any_moment)

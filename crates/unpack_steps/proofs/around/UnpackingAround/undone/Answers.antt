@@ -10,6 +10,8 @@ use Rattle.unpack_rows.specs.declared.kinds.RowKind.{RowKind}
 use Rattle.unpack_steps.specs.At.{Holding}
 use Rattle.unpack_steps.specs.Task.{Task, has_gone, kinds, name}
 use Rattle.unpack_steps.specs.Unpacking.{held_in, task_in}
+use Rattle.scattered_losses.proofs.GoingApart.{fails_so, goes_here, gone_here, passed_on}
+use Rattle.status_db.specs.Held.{is_record_place}
 use Rattle.unpack_steps.proofs.around.UnpackingAround.undone.Goals as goal
 
 pub returns-then-is_spared-clause-place : goal.returns-then-is_spared-clause-place
@@ -103,3 +105,14 @@ returns-clause-any_moment g c =
     let u = g.H.Host.state c.write_note.new.host in
     let leads = subst (Leads t (has_gone t before) h s before after) (sym entry_is) (undone t h s c.args.index k c.requires.row.0 is c.args._fall.now c.args.fails c.args.failed.now c.args.row.now.owner whose calls at asked) in
     noted_moments t (has_gone t before) h s u before after c.in_ok-entry.entry at leads c.write_note.ensures.silent c.write_note.ensures.any_moment
+
+pub returns-then-is_spared-clause-apart : goal.returns-then-is_spared-clause-apart
+returns-then-is_spared-clause-apart g c = goes_here is_record_place (g.H.Host.state c.args.host.now)
+
+pub returns-in_err-entry-clause-apart : goal.returns-in_err-entry-clause-apart
+returns-in_err-entry-clause-apart g c =
+    let s = g.H.Host.state c.args.host.now in
+    fails_so is_record_place c.from_residual.result s s (gone_here is_record_place s) (passed_on _ _ c.from_residual.result c.from_residual.ensures.1)
+
+pub returns-clause-apart : goal.returns-clause-apart
+returns-clause-apart g c = c.write_note.ensures.apart

@@ -9,6 +9,7 @@ use Rattle.unpack_steps.proofs.Answering.{row_judged, row_placed}
 use Rattle.unpack_steps.proofs.FileRow.{named_here, works_before, writing_stops}
 use Rattle.unpack_steps.specs.Unpacking.{task_in}
 use Rattle.unpack_steps.proofs.RowKinds.{file_row}
+use Rattle.unpack_steps.proofs.RecordsApart.{row_apart}
 use Rattle.unpack_steps.proofs.around.UnpackingAround.work.Goals as goal
 
 pub check_and_write-requires-clause-opened : goal.check_and_write-requires-clause-opened
@@ -75,3 +76,13 @@ returns-clause-any_moment g c =
     let row = file_row (name t) (kinds t) c.args._index c.args._row.now c.requires.row c.requires.files in
     let u = g.H.Host.state c.check_and_write.new.host in
     writing_stops t self.administration.now.database self.administration.now.lists self.administration.now.places self.works.now.items s c.args._index row c.requires.place u c.check_and_write.ensures.silent c.check_and_write.ensures.any_moment
+
+pub returns-clause-apart : goal.returns-clause-apart
+returns-clause-apart g c =
+    let self = c.args.self.now in
+    let t : Task = task_in self in
+    let s = g.H.Host.state c.args.host.now in
+    let row = file_row (name t) (kinds t) c.args._index c.args._row.now c.requires.row c.requires.files in
+    row_apart c.check_and_write.result (name t) (list_file t.union) (list_file t.listed) self.works.now.items
+    (named_here t self.administration.now.database self.administration.now.lists self.administration.now.places self.works.now.items s c.args._index row c.requires.place)
+    s (g.H.Host.state c.check_and_write.new.host) c.check_and_write.ensures.any_moment
