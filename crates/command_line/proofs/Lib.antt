@@ -6,3 +6,4 @@ mod Named
 mod Changed
 mod Helped
 mod Inquired
+mod Turns

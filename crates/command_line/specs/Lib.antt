@@ -2,6 +2,7 @@ pub mod Roots
 pub mod Endings
 pub mod Unpacks
 pub mod Queries
+pub mod Steady
 pub mod Changes
 pub mod Packages
 pub mod Reports

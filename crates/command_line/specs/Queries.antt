@@ -1,11 +1,15 @@
 -- What a question about an administration is answered with.
-use Rattle.std.specs.Prelude.{◌≡◌, ◌⊎◌, ℕ, IsTrue, List, [], ◌∷◌, ◌++◌, Option, Some, None, Result, Ok, Err, codes, if◌then◌else◌}
-use Rattle.host_core.specs.Host.{NoFault, Reads, Silent, State}
+use Rattle.std.specs.Prelude.{◌≡◌, ◌≤◌, ◌⊎◌, ℕ, Bool, true, false, IsTrue, IfErr, IfOk, List, [], ◌∷◌, ◌++◌, Option, Some, None, Result, Ok, Err, codes, if◌then◌else◌}
+use Rattle.host_core.specs.Host.{Counts, NoFault, Reads, Silent, State}
 use Rattle.host_core.specs.Paths.{Path, is_path_text, path_of}
 use Rattle.host_core.specs.World.{World}
+use Rattle.host_core.specs.declared.fault.HostFault.{HostFault}
+use Rattle.administration.specs.Fault.{CountsAdministration}
 use Rattle.administration.specs.declared.fault.AdministrationFault.{AdministrationFault}
 use Rattle.administration.specs.declared.fault.AdministrationFault.TheVariants as opening_faults
 use Rattle.opening.specs.Parts.{IsDamage}
+use Rattle.inquiries.specs.Glances.{IsGlance}
+use Rattle.inquiries.specs.declared.glance.Glance.{Glance}
 use Rattle.inquiries.specs.Read.{AreDiversions, AreFiles, IsAudit, IsFilesDamage, IsList, IsSearch, IsStatus, IsTruename, all_parts, diversions_parts, records_parts}
 use Rattle.dpkg_session.specs.Standing.{CountsRefusal}
 use Rattle.shown_lines.specs.Lines.{line}
@@ -14,9 +18,12 @@ use Rattle.command_words.specs.declared.query.Question.{Question}
 use Rattle.command_words.specs.declared.query.Question.TheVariants as question
 use Rattle.command_line.specs.Roots.{Around, Given, opening_answer}
 use Rattle.command_line.specs.declared.answer.Answer.{Answer}
-use Rattle.command_line.specs.declared.fault.NotOpened.TheVariants.{Opening}
+use Rattle.command_line.specs.declared.fault.Lock.TheVariants.{Administration}
+use Rattle.command_line.specs.declared.fault.NotOpened.TheVariants.{Locked, Opening}
 use Rattle.command_line.specs.declared.questions.Inquiry.{Inquiry}
 use Rattle.command_line.specs.declared.questions.Inquiry.TheVariants as inquiry
+use Rattle.command_line.specs.declared.steady.Unanswered.{Unanswered}
+use Rattle.command_line.specs.declared.steady.Unanswered.TheVariants.{Unsteady, Fault}
 
 -- a question about the path that a text names, or the text that names none
 abbrev pub on_path : (Path → Inquiry) → List ℕ → Result Inquiry (List ℕ)
@@ -70,6 +77,38 @@ IsUnread (inquiry.Search place) w fault = IsDamage all_parts w fault
 IsUnread (inquiry.Status name) w fault = IsDamage records_parts w fault
 IsUnread (inquiry.Truename user path) w fault = IsDamage diversions_parts w fault
 
+-- of this the names in `info` are looked at too, since it reads what is damaged there
+abbrev pub reads_info : Inquiry → Bool
+reads_info inquiry.Audit = true
+reads_info inquiry.Diversions = false
+reads_info inquiry.List = false
+reads_info (inquiry.ListFiles name) = false
+reads_info (inquiry.Search place) = false
+reads_info (inquiry.Status name) = false
+reads_info (inquiry.Truename user path) = false
+
+-- a host was only looked at, and showed this of what changes under a question
+pub record HasShown (asked : Inquiry) (old new : State) (glance : Glance) : Type 0 where
+  pub reads : Reads old new
+  pub silent : Silent old new
+  pub sound : NoFault old new
+  pub shown : IsTrue new.honest → IsGlance (reads_info asked) old.world glance
+
+-- or it showed nothing, for a fault
+pub record HasMissed (old new : State) (fault : HostFault) : Type 0 where
+  pub reads : Reads old new
+  pub silent : Silent old new
+  pub counts : Counts {T = Unit {0}} old new (Err fault)
+
+-- a host was only looked at, for an answer
+pub record HasAnswered (asked : Inquiry) (old new : State) (result : Result Answer AdministrationFault) : Type 0 where
+  pub answer : IfOk result (IsAnsweredFrom new asked)
+  pub bound : IfOk result (λ answer. answer.status ≤ 2)
+  pub damage : IsTrue new.honest → IfErr result (IsUnread asked old.world)
+  pub reads : Reads old new
+  pub silent : Silent old new
+  pub counts : CountsAdministration old new result
+
 -- a host was given back; before that it was only looked at, and no script was called
 pub record IsLookedAt (left : Given) (begun end : State) : Type 0 where
   pub given : left end
@@ -90,20 +129,38 @@ pub record IsUnansweredOn (left : Given) (begun : State) (asked : Inquiry) (faul
   pub counts : CountsRefusal fault begun end
   pub damage : IsTrue end.honest → IsUnread asked begun.world fault
 
+-- A host changed under the question again and again: it didn't tell of one world, as it does where nobody else writes.
+pub record IsUnsteadyOn (left : Given) (begun : State) : Type 0 where
+  pub end : State
+  pub looked : IsLookedAt left begun end
+  pub sound : NoFault begun end
+  pub dishonest : IsTrue end.honest → ⊥
+
+-- why there is no answer from a host
+abbrev pub IsLeftOpenOn : Given → State → Inquiry → Unanswered → Type 0
+IsLeftOpenOn left begun asked Unsteady = IsUnsteadyOn left begun
+IsLeftOpenOn left begun asked (Fault fault) = IsUnansweredOn left begun asked fault
+
 -- the same, on a host behind the root's word
 abbrev pub HasInquired : Around → List ℕ → Inquiry → Answer → Type 0
 HasInquired a word asked answer = (begun : State) × a.root word begun × IsInquiredOn a.left begun asked answer
 
--- or none was opened: the device failed, or memory was wanting
-abbrev pub IsUnanswered : Around → List ℕ → Inquiry → AdministrationFault → Type 0
-IsUnanswered a word asked fault =
+-- or there is none from it, or none was opened: the device failed, or memory was wanting
+abbrev pub IsUnanswered : Around → List ℕ → Inquiry → Unanswered → Type 0
+IsUnanswered a word asked Unsteady = (begun : State) × a.root word begun × IsUnsteadyOn a.left begun
+IsUnanswered a word asked (Fault fault) =
     ((begun : State) × a.root word begun × IsUnansweredOn a.left begun asked fault)
     ⊎ (a.unopened × (((fault ≡ opening_faults.Device) × a.failed) ⊎ (fault ≡ opening_faults.NoMemory)))
+
+-- a root that changes again and again is told as one whose lock another program holds
+abbrev pub unanswered_answer : Unanswered → Answer
+unanswered_answer Unsteady = opening_answer (Locked Administration)
+unanswered_answer (Fault fault) = opening_answer (Opening fault)
 
 -- the answer under a root, or why there is none
 abbrev pub IsInquired : Around → List ℕ → Inquiry → Answer → Type 0
 IsInquired a word asked answer = HasInquired a word asked answer
-    ⊎ ((fault : AdministrationFault) × IsUnanswered a word asked fault × (answer ≡ opening_answer (Opening fault)))
+    ⊎ ((why : Unanswered) × IsUnanswered a word asked why × (answer ≡ unanswered_answer why))
 
 -- the path of a question is read first, and only where it names one is the root opened
 abbrev pub IsReadAnswer : Around → List ℕ → Result Inquiry (List ℕ) → Answer → Type 0

@@ -10,7 +10,7 @@ ghost use Rattle.command_line.specs.Changes.{HasEndedChange, IsDivertOf, IsUndiv
 ghost use Rattle.command_line.specs.Packages.{HasEndedWork, HasWorkedUnder, work_of};
 ghost use Rattle.command_line.specs.Endings.{with_notes};
 ghost use Rattle.command_line.specs.Printing.{HasPrinted, IsLeft, output_left, status_left, units_answer, units_of};
-ghost use Rattle.command_line.specs.Queries.{IsInquired, IsQueryAnswer, bad_path_answer, inquiry_of};
+ghost use Rattle.command_line.specs.Queries.{IsInquired, IsQueryAnswer, bad_path_answer, inquiry_of, unanswered_answer};
 ghost use Rattle.command_line.specs.Reports.{HasEndedAs, IsAnswerOf, IsHelpAnswer, IsReadChange, comparison_answer, done_answer, ended_answer, has_units, memory_answer, names_answer, opens_root, prints, report_answer, trees_answer, version_answer, work_answer};
 ghost use Rattle.command_line.specs.Roots.{IsRootFault, around, locked_line, opening_answer};
 ghost use Rattle.command_line.specs.Unpacks.{HasUnpacked};
@@ -27,6 +27,7 @@ use crate::hosts::Hosts;
 use crate::packages::{Work, policy_of, work_under};
 use crate::printing::{Flow, Printer};
 use crate::questions::{Inquiry, bad_path, inquire_under, inquiry_of};
+use crate::steady::Unanswered;
 use crate::unpacking::{Done, unpack};
 use command_words::{
     Asked, Comparison, Configuring, Diverting, Query, Removing, ScriptStreams, Topic, Undiverting,
@@ -469,6 +470,17 @@ fn undiverted<S: Hosts>(
     }
 }
 
+// A root that changes again and again is told as one whose lock another program holds.
+fn unanswered(alloc: Global, why: Unanswered) -> Result<Answer, AllocError>
+    ensures answer { IfOk result (λ answer. answer ≡ unanswered_answer why) }
+    ensures bound { IfOk result (λ answer. answer.status ≤ 2) }
+{
+    match why {
+        Unanswered::Unsteady => not_opened(alloc, &NotOpened::Locked(Lock::Administration)),
+        Unanswered::Fault(fault) => not_opened(alloc, &NotOpened::Opening(fault)),
+    }
+}
+
 fn inquired<S: Hosts>(
     alloc: Global,
     hosts: &mut S,
@@ -482,7 +494,7 @@ fn inquired<S: Hosts>(
 {
     match inquire_under(alloc, hosts, root, asked) {
         Ok(answer) => Ok(answer),
-        Err(fault) => not_opened(alloc, &NotOpened::Opening(fault)),
+        Err(why) => unanswered(alloc, why),
     }
 }
 

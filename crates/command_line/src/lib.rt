@@ -23,7 +23,10 @@
 //!
 //! For a question the answer is its text over what it reads of the records, lists and diversions
 //! that stand on the host behind the root's word, which was only looked at (`IsInquiredOn`), or the
-//! first damage of what it reads (`IsUnansweredOn`). Where another program holds the root, that is
+//! first damage of what it reads (`IsUnansweredOn`). What a command changes is looked at before an
+//! answer and behind it, and only an answer with the same before it and behind it is told
+//! (`settle`, whatever others do to what is asked); where there is none among ten, that is told as
+//! a lock that is held, and never where nobody else writes (`IsUnsteadyOn`). Where another program holds the root, that is
 //! told of a command with the root's word, and no root was opened. For help it is a screen on the topic, on standard output;
 //! where the words ask for nothing a text on standard error ends with the screen of the subcommand
 //! that they name. A fault of the device is told only where one was counted.
@@ -52,6 +55,8 @@ mod packages;
 mod printing;
 mod questions;
 mod reading;
+mod shown;
+mod steady;
 mod unpacking;
 mod writing;
 

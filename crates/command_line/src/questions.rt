@@ -3,16 +3,18 @@ ghost use Rattle.std.specs.Prelude.{◌≡◌, ◌≤◌, IfErr, IfOk, IsTrue, R
 ghost use Rattle.host_core.specs.Host.{Reads, Silent};
 ghost use Rattle.host_core.specs.Paths.{Path as APath};
 ghost use Rattle.administration.specs.Fault.{CountsAdministration};
-ghost use Rattle.command_line.specs.Queries.{HasInquired, IsAnsweredFrom, IsInquiredOn, IsUnanswered, IsUnansweredOn, IsUnread, bad_path_answer, inquiry_of, on_path, package_answer, search_answer, text_answer};
+ghost use Rattle.command_line.specs.Queries.{HasInquired, IsAnsweredFrom, IsInquiredOn, IsLeftOpenOn, IsUnanswered, IsUnread, bad_path_answer, inquiry_of, on_path, package_answer, reads_info, search_answer, text_answer};
 ghost use Rattle.command_line.specs.Roots.{around};
 ghost use Rattle.command_line.specs.declared.questions.Inquiry.TheVariants.{Search, Truename};
 
 use crate::answer::{Answer, complained, printed, told};
 use crate::hosts::Hosts;
+use crate::shown::Shown;
+use crate::steady::{Unanswered, settle};
 use administration::AdministrationFault;
 use command_words::Question;
-use host_core::{Host, RootPath};
-use inquiries::{audit, list, list_diversions, list_files, search, status, truename};
+use host_core::{Host, HostFault, RootPath};
+use inquiries::{Glance, audit, list, list_diversions, list_files, search, status, truename};
 use shown_lines::line;
 use std::alloc::{AllocError, Global};
 use texts::{Bytes, Text};
@@ -143,20 +145,60 @@ fn inquire<H: Host>(
     }
 }
 
+// Whether the names in `info/` are looked at too, where what is damaged there is read.
+fn reads_info(asked: &Inquiry) -> bool
+    ensures { result ≡ reads_info asked.now }
+{
+    match asked {
+        Inquiry::Audit => true,
+        Inquiry::Diversions => false,
+        Inquiry::List => false,
+        Inquiry::ListFiles(_) => false,
+        Inquiry::Search(_) => false,
+        Inquiry::Status(_) => false,
+        Inquiry::Truename { .. } => false,
+    }
+}
+
+/// The host of a root that is only looked at.
+struct Looked<H: Host> {
+    host: H,
+}
+
+impl<H: Host> Shown for Looked<H> {
+    ghost use Rattle.command_line.specs.Queries.{HasAnswered, HasMissed, HasShown};
+
+    ghost glanced = { λ asked old new glance. HasShown asked (H.state old.host) (H.state new.host) glance };
+
+    ghost missed = { λ asked old new fault. HasMissed (H.state old.host) (H.state new.host) fault };
+
+    ghost answered = { λ asked old new result. HasAnswered asked (H.state old.host) (H.state new.host) result };
+
+    fn glance(&mut self, alloc: Global, asked: &Inquiry) -> Result<Glance, HostFault> {
+        Glance::take(alloc, &mut self.host, reads_info(asked))
+    }
+
+    fn answer(&mut self, alloc: Global, asked: &Inquiry) -> Result<Answer, AdministrationFault> {
+        inquire(alloc, &mut self.host, asked)
+    }
+}
+
 // The answer from the host of the root, which is given back.
 fn inquire_on<S: Hosts>(
     alloc: Global,
     hosts: &mut S,
-    mut host: S::Opened,
+    host: S::Opened,
     asked: &Inquiry,
-) -> Result<Answer, AdministrationFault>
+) -> Result<Answer, Unanswered>
     ensures answer { IfOk result (IsInquiredOn (S.left hosts.new) (S.Opened.state host) asked.now) }
     ensures bound { IfOk result (λ answer. answer.status ≤ 2) }
-    ensures refused { IfErr result (IsUnansweredOn (S.left hosts.new) (S.Opened.state host)
+    ensures refused { IfErr result (IsLeftOpenOn (S.left hosts.new) (S.Opened.state host)
         asked.now) }
     ensures faults { S.faults hosts.old ≤ S.faults hosts.new }
 {
-    let answer = inquire(alloc, &mut host, asked);
+    let mut looked = Looked { host };
+    let answer = settle(alloc, &mut looked, asked);
+    let Looked { host } = looked;
     hosts.close_root(host);
     answer
 }
@@ -167,7 +209,7 @@ pub(crate) fn inquire_under<S: Hosts>(
     hosts: &mut S,
     root: &Text,
     asked: &Inquiry,
-) -> Result<Answer, AdministrationFault>
+) -> Result<Answer, Unanswered>
     ensures answer { IfOk result (HasInquired (around S.Hosts hosts.old hosts.new) root.now
         asked.now) }
     ensures bound { IfOk result (λ answer. answer.status ≤ 2) }
@@ -176,6 +218,6 @@ pub(crate) fn inquire_under<S: Hosts>(
 {
     match hosts.look_at_root(root.as_str()) {
         Ok(host) => inquire_on(alloc, hosts, host, asked),
-        Err(fault) => Err(AdministrationFault::from(fault)),
+        Err(fault) => Err(Unanswered::Fault(AdministrationFault::from(fault))),
     }
 }

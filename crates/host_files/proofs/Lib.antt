@@ -6,3 +6,4 @@ pub mod Replayed
 pub mod RememberedLaws
 pub mod Supposed
 mod CutOff
+mod Meeting

@@ -10,3 +10,4 @@ pub mod Unsynced
 pub mod Shown
 pub mod Replay
 pub mod FilesState
+pub mod Walked

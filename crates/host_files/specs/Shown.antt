@@ -25,6 +25,7 @@ use Rattle.host_files.specs.Places.{place_of, place_in, IsEntry}
 use Rattle.host_files.specs.Remembered.{IsNew}
 use Rattle.host_files.specs.SystemCalls.{changes_in, Looks, start_call}
 use Rattle.host_files.specs.Unsynced.{IsListed, is_readable}
+use Rattle.host_files.specs.Walked.{Includes, IsWalked}
 use Rattle.host_files.specs.declared.record.Asked.{Asked}
 use Rattle.host_files.specs.declared.record.Asked.TheVariants as asked
 use Rattle.host_files.specs.declared.record.Noted.{Noted}
@@ -186,9 +187,11 @@ administration_calls front =
     ∷ ask.SyncDirectory (place_of front (codes "/var/lib/dpkg/info"))
     ∷ ask.SyncDirectory (place_of front (codes "/var/lib/dpkg")) ∷ []
 
--- all of every file system was brought to the disk, or these directories and those of the administration
+-- all of every file system was brought to the disk; or each of these directories, those of the administration, and all that was met
+-- below the root
 abbrev pub IsRootBrought : List ℕ → List (String Global) → List SystemCall → Type 0
-IsRootBrought front directories made = (made ≡ ask.SyncSystem ∷ []) ⊎ (made ≡ administration_calls front ++ sync_calls front directories)
+IsRootBrought front directories made =
+    (made ≡ ask.SyncSystem ∷ []) ⊎ (Includes (administration_calls front ++ sync_calls front directories) made × IsWalked front made)
 
 -- a file was synced by itself, or with all of the file system that it lies on
 abbrev pub IsOnDisk : List ℕ → List SystemCall → Unsynced → Type 0

@@ -1,12 +1,12 @@
 -- The system's calls, as the trace has them.
-use Rattle.std.specs.Prelude.{◌≡◌, ℕ, List, [], ◌∷◌, Option, option_map, string_bytes}
+use Rattle.std.specs.Prelude.{◌≡◌, ℕ, List, [], ◌∷◌, Option, option_map, map, string_bytes}
 use Rattle.std.specs.Fs.{metadata_mode}
 use Rattle.std.specs.Process.{command_program, command_args, command_dir, exit_code}
 use Rattle.std.specs.declared.alloc.Global.{Global}
 use Rattle.std.specs.declared.fs.Metadata.{Metadata}
 use Rattle.std.specs.declared.process.Command.{Command}
 use Rattle.host_files.specs.declared.trace.SystemCall.{SystemCall}
-use Rattle.host_files.specs.declared.trace.SystemCall.TheVariants.{Look, Create, Append, MakeDirectory, OpenMade, SeenMade, SetOwnerMade, SetModeMade, SetTimeMade, SetModeSeen, Rename, Link, MakeLink, Unlink, RemoveDirectory, Gone, SyncFile, SyncMade, SyncDirectory, SyncDevice, SyncSystem, Start, End, UnlinkAt, RemoveDirectoryAt}
+use Rattle.host_files.specs.declared.trace.SystemCall.TheVariants.{Look, Create, Append, MakeDirectory, OpenMade, SeenMade, SetOwnerMade, SetModeMade, SetTimeMade, SetModeSeen, Rename, Link, MakeLink, Unlink, RemoveDirectory, Gone, SyncFile, SyncMade, SyncDirectory, Names, Apart, SyncDevice, SyncSystem, Start, End, UnlinkAt, RemoveDirectoryAt}
 use Rattle.host_files.specs.declared.trace.Request.{Request}
 use Rattle.host_files.specs.declared.trace.Request.TheVariants as request
 
@@ -41,6 +41,8 @@ requested request.Gone = Gone
 requested (request.SyncFile p) = SyncFile p.now
 requested request.SyncMade = SyncMade
 requested (request.SyncDirectory p) = SyncDirectory p.now
+requested (request.Names p names) = Names p.now (map string_bytes names.now)
+requested (request.Apart p) = Apart p.now
 requested (request.SyncDevice device p) = SyncDevice device p.now
 requested request.SyncSystem = SyncSystem
 requested (request.Start command) = start_call command.now
@@ -71,6 +73,8 @@ changes_in (Gone ∷ made) = Gone ∷ changes_in made
 changes_in (SyncFile p ∷ made) = changes_in made
 changes_in (SyncMade ∷ made) = changes_in made
 changes_in (SyncDirectory p ∷ made) = changes_in made
+changes_in (Names p names ∷ made) = changes_in made
+changes_in (Apart p ∷ made) = changes_in made
 changes_in (SyncDevice device p ∷ made) = changes_in made
 changes_in (SyncSystem ∷ made) = changes_in made
 changes_in (Start program args directory ∷ made) = Start program args directory ∷ changes_in made

@@ -13,7 +13,9 @@
 //! GiB, that a barrier syncs the directories in which names changed, and that what was made gets its
 //! owner, mode and time through what is open of it, and what goes is taken from its directory, which
 //! is open (`IsTakenFrom`). A file that was written is listed until it is on the disk, and a sync of
-//! all files syncs each that is listed, or all of its file system (`AreOnDisk`).
+//! all files syncs each that is listed, or all of its file system (`AreOnDisk`). Where all of the root is
+//! to be there and the program `sync` can't be had, each file and directory is synced that is met
+//! below the root (`IsWalked`).
 //!
 //! That nothing stands at a path is told only where the last look told nothing there, or that no
 //! directory stands above it (`IsAbsentBy`). The rights that a file lends are taken by what is open
@@ -46,6 +48,7 @@ mod syncing;
 mod system;
 mod told;
 mod trace;
+mod walking;
 mod way;
 mod written;
 

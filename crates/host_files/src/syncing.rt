@@ -11,6 +11,7 @@ use crate::changed::Changed;
 use crate::root::Root;
 use crate::steps::place_of_step;
 use crate::system::System;
+use crate::walking::walk;
 use crate::written::{Unsynced, Written};
 use host_core::{HostFault, RootPath};
 use std::fs::Metadata;
@@ -169,8 +170,8 @@ fn flush_administration(system: &mut System, root: &Root) -> Result<(), HostFaul
     system.sync_directory(root, "/var/lib/dpkg/updates")
 }
 
-// Brings all of every file system to the disk; where the program `sync` can't be had, the directories of the
-// administration and these.
+// Brings all of every file system to the disk; where the program `sync` can't be had, these directories, those of the
+// administration, and all that is met below the root.
 fn flush_any(system: &mut System, root: &Root, changed: &Changed) -> Result<(), HostFault>
     requires begun { system.old.trace.calls ≡ [] }
     ensures same { changes_in system.new.trace.calls ≡ [] }
@@ -182,7 +183,8 @@ fn flush_any(system: &mut System, root: &Root, changed: &Changed) -> Result<(), 
         return Ok(());
     }
     flush_directories(system, root, changed)?;
-    flush_administration(system, root)
+    flush_administration(system, root)?;
+    walk(system, root)
 }
 
 /// Brings all that stands under the root to the disk.

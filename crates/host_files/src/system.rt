@@ -1,18 +1,19 @@
 // The calls of the operating system that change something, start a program or look at a path. Each function makes one
 // and keeps it in the trace; an error of one that a step makes is one by which it was declined, or a fault of the device.
-ghost use Rattle.std.specs.Prelude.{◌≡◌, ◌∷◌, [], ℕ, List, Err, None, true, false, is_some, IfErr, IfOk, IfSome, OnOk, OnErr, string_bytes};
+ghost use Rattle.std.specs.Prelude.{◌≡◌, ◌∷◌, [], ℕ, List, Err, None, true, false, is_some, map, IfErr, IfOk, IfSome, OnOk, OnErr, string_bytes};
 ghost use Rattle.std.specs.IoError.{raw_os_error};
 ghost use Rattle.std.specs.Process.{exit_code};
 ghost use Rattle.host_core.specs.declared.fault.HostFault.TheVariants.{Declined, Device, NoMemory};
 ghost use Rattle.host_files.specs.Faults.{IsFaultOf, IsOfStep, IsUndeclined, step_fault_of};
-ghost use Rattle.host_files.specs.declared.trace.SystemCall.TheVariants.{Create, Append, MakeDirectory, OpenMade, SeenMade, SetOwnerMade, SetModeMade, SetTimeMade, SetModeSeen, Rename, Link, MakeLink, Unlink, RemoveDirectory, Gone, SyncFile, SyncMade, SyncDirectory, SyncDevice, SyncSystem, End, UnlinkAt, RemoveDirectoryAt};
+ghost use Rattle.host_files.specs.declared.trace.SystemCall.TheVariants.{Create, Append, MakeDirectory, OpenMade, SeenMade, SetOwnerMade, SetModeMade, SetTimeMade, SetModeSeen, Rename, Link, MakeLink, Unlink, RemoveDirectory, Gone, SyncFile, SyncMade, SyncDirectory, Names, Apart, SyncDevice, SyncSystem, End, UnlinkAt, RemoveDirectoryAt};
 ghost use Rattle.host_files.specs.Shown.{IsNotBegun};
 ghost use Rattle.host_files.specs.SystemCalls.{changes_in, Looks, start_call};
 ghost use Rattle.host_files.specs.Places.{place_of};
 
 use crate::changed::directory_of;
-use crate::disk::{access_of, fault_of, stat};
+use crate::disk::{access_of, fault_of, is_absent, stat};
 use crate::errors::{is_declined, is_start_error};
+use crate::looking::is_no_text;
 use crate::opened::Opened;
 use crate::root::Root;
 use crate::trace::{Request, Trace};
@@ -20,7 +21,8 @@ use crate::way::open_by_way;
 use crate::written::{Identity, Unsynced};
 use host_core::{Access, HostFault, Modified};
 use libc::types::timespec;
-use std::fs::{DirBuilder, File, Metadata, OpenOptions, Permissions};
+use std::alloc::Global;
+use std::fs::{DirBuilder, DirEntry, File, Metadata, OpenOptions, Permissions};
 use std::io::{Error, Write};
 use std::os::fd::AsRawFd;
 use std::os::unix::fs::{
@@ -166,6 +168,31 @@ fn set_modified(made: &File, time: Modified) -> io::Result<()> {
 // Brings what is open to the disk.
 fn sync(rt: &HostRuntime, place: &str) -> io::Result<()> {
     fs::open(rt, place)?.sync_all()
+}
+
+// A name that isn't text is passed over: by such a one nothing can be opened.
+fn add_text(alloc: Global, entry: io::Result<DirEntry>, names: &mut Vec<String>) -> io::Result<()> {
+    match entry {
+        Ok(entry) => {
+            names.push(String::from_str(alloc, entry.file_name())?)?;
+            Ok(())
+        }
+        Err(error) if is_no_text(&error) => Ok(()),
+        Err(error) => Err(error),
+    }
+}
+
+fn text_names(rt: &HostRuntime, place: &str) -> io::Result<Vec<String>> {
+    let mut names = Vec::new(rt.alloc());
+    let entries = match fs::read_dir(rt, place) {
+        Ok(entries) => entries,
+        Err(error) if is_absent(&error) => return Ok(names),
+        Err(error) => return Err(error),
+    };
+    for entry in entries {
+        add_text(rt.alloc(), entry, &mut names)?;
+    }
+    Ok(names)
 }
 
 impl System {
@@ -662,6 +689,48 @@ impl System {
             Ok(()) => Ok(()),
             Err(error) => Err(self.fault_at(place, error)),
         }
+    }
+
+    /// A file that was just seen there; where it is gone nothing is to be brought to the disk.
+    pub(crate) fn sync_seen(&mut self, place: String) -> Result<(), HostFault>
+        ensures made { OnOk result (self.new.trace.calls ≡ SyncFile (string_bytes place)
+            ∷ self.old.trace.calls) }
+        ensures same { changes_in self.new.trace.calls ≡ changes_in self.old.trace.calls }
+        ensures fault { IfErr result IsUndeclined }
+    {
+        self.trace = self.trace.with(&Request::SyncFile(place.as_str()));
+        match sync(&self.rt, place.as_str()) {
+            Ok(()) => Ok(()),
+            Err(error) if is_absent(&error) => Ok(()),
+            Err(error) => Err(self.fault_at(place, error)),
+        }
+    }
+
+    /// The names in a directory under the root that are text; none where it is gone.
+    pub(crate) fn names_in(&mut self, root: &Root, path: &str) -> Result<Vec<String>, HostFault>
+        ensures told { IfOk result (λ names. self.new.trace.calls ≡ Names
+            (place_of (string_bytes root.now.front) path.now) (map string_bytes names.items)
+            ∷ self.old.trace.calls) }
+        ensures same { changes_in self.new.trace.calls ≡ changes_in self.old.trace.calls }
+        ensures fault { IfErr result IsUndeclined }
+    {
+        let place = root.place(path)?;
+        match text_names(&self.rt, place.as_str()) {
+            Ok(names) => {
+                self.trace = self
+                    .trace
+                    .with(&Request::Names(place.as_str(), names.as_slice()));
+                Ok(names)
+            }
+            Err(error) => Err(self.fault_at(place, error)),
+        }
+    }
+
+    /// Keeps that a directory lies on another file system.
+    pub(crate) fn pass_over(&mut self, place: &str)
+        ensures { self.new.trace.calls ≡ Apart place.now ∷ self.old.trace.calls }
+    {
+        self.trace = self.trace.with(&Request::Apart(place));
     }
 
     /// Nothing where the program is one that can't be started, or is missing. Where memory was wanting nothing was started.

@@ -49,6 +49,10 @@ pub enum SystemCall {
     SyncMade,
     /// the names in a directory
     SyncDirectory(Text),
+    /// the names in a directory that are text, as it told them
+    Names(Text, Texts),
+    /// a directory was seen at that path that lies on another file system than the root
+    Apart(Text),
     /// all of the file system with this number: the program `sync` was told a directory of it, and ended with 0
     SyncDevice(u64, Text),
     /// all of every file system: the program `sync` was told none, and ended with 0
@@ -83,6 +87,8 @@ pub(crate) enum Request<'a> {
     SyncFile(&'a str),
     SyncMade,
     SyncDirectory(&'a str),
+    Names(&'a str, &'a [String]),
+    Apart(&'a str),
     SyncDevice(u64, &'a str),
     SyncSystem,
     Start(&'a Command),

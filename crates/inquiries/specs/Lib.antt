@@ -1,1 +1,2 @@
+pub mod Glances
 pub mod Read

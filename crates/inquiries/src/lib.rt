@@ -9,13 +9,21 @@
 //! lists and the diversions; `truename` and `list_diversions` the diversions. Damage is told of the
 //! first of these that can't be read, behind a look whether the root is a directory, and of nothing
 //! else (`finds`); a directory that is missing holds nothing.
+//!
+//! What is proved of an answer is so of a root that nobody changes meanwhile. `Glance::take` tells
+//! what a command would change (`IsGlance`: what stands at `status`, the names in `updates/`, and
+//! for an audit those in `info/`), and `is_same` compares two of them: what differs is told
+//! (`exact`), and two glances at one world are the same (`same`).
 #![tactic(auto)]
 
 mod files;
+mod glance;
 mod places;
 mod reading;
 mod records;
 
 pub use files::{audit, list_files, search};
+pub use glance::Glance;
 pub use places::{list_diversions, truename};
+pub use reading::read_all;
 pub use records::{list, status};

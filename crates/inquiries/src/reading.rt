@@ -92,7 +92,7 @@ fn read_rest<H: Host>(
 }
 
 /// The records, all lists and the diversions.
-pub(crate) fn read_all<H: Host>(alloc: Global, host: &mut H) -> Result<Opened, AdministrationFault>
+pub fn read_all<H: Host>(alloc: Global, host: &mut H) -> Result<Opened, AdministrationFault>
     ensures finds { IsTrue (H.state host.new).honest
         → Finds all_parts (H.state host.old).world (fault_in result) }
     ensures held { IfOk result

@@ -17,5 +17,6 @@ mod places;
 mod records;
 
 pub use files::{files_text, search_text};
+pub use paths::path_text;
 pub use places::{diversions_text, truename_text};
-pub use records::{audit_text, list_text, status_text};
+pub use records::{audit_text, is_settled, list_text, status_text};

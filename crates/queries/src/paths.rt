@@ -6,7 +6,8 @@ use host_core::RootPath;
 use shown_lines::line;
 use std::alloc::{AllocError, Global};
 
-pub(crate) fn path_text(path: &RootPath) -> &str
+/// A path as it is told: the root as `/`.
+pub fn path_text(path: &RootPath) -> &str
     ensures { result.now ≡ path_text path.now }
 {
     match path.as_str() {

@@ -109,7 +109,8 @@ fn is_final(state: State) -> bool
     }
 }
 
-fn is_settled(flag: Flag, state: State) -> bool
+/// Whether nothing has to be done with a package of this flag and state.
+pub fn is_settled(flag: Flag, state: State) -> bool
     ensures { result ≡ is_settled flag state }
 {
     match flag {

@@ -1,0 +1,7 @@
+pub mod Above
+pub mod Following
+pub mod Flatness
+mod Going
+pub mod Clearing
+mod Kept
+mod Progressing

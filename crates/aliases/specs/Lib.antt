@@ -1,0 +1,7 @@
+pub mod Aliases
+pub mod Entries
+pub mod Links
+pub mod Reading
+pub mod Stops
+pub mod Table
+pub mod Ways

@@ -1,0 +1,150 @@
+// The table of aliases, and the places of paths by it.
+ghost use Rattle.std.specs.Prelude.{◌≡◌, ◌++◌, ◌∷◌, [], false, true, IsTrue, IfOk, OnOk, OnErr, MatchOption, ◌↔◌, string_bytes};
+ghost use Rattle.host_core.specs.Paths.{is_path, is_ship_text};
+ghost use Rattle.aliases.specs.Aliases.{is_alias, led, way_to, followed, resolved};
+ghost use Rattle.aliases.specs.Table.{is_place, IsTable};
+
+use crate::names::cut_at_slash;
+use host_core::{RootPath, ShipPath};
+use indexmap::IndexMap;
+use std::alloc::{AllocError, Global};
+use std::marker::Model;
+
+/// Aliases by the places where they stand.
+#[derive(Drop)]
+pub struct Aliases {
+    alloc: Global,
+    targets: IndexMap<String, RootPath>,
+}
+
+impl Model for Aliases {
+    ghost use Rattle.std.specs.Prelude.{List, string_bytes};
+    ghost use Rattle.aliases.specs.Aliases.{Alias};
+    ghost use Rattle.aliases.specs.Entries.{aliases_of};
+    ghost use Rattle.aliases.specs.Table.{IsTable};
+
+    ghost Value = { List Alias };
+
+    ghost view = { λ t. aliases_of string_bytes t.targets.entries };
+
+    ghost invariant = { λ t. IsTable (aliases_of string_bytes t.targets.entries) };
+}
+
+impl Aliases {
+    pub fn none(alloc: Global) -> Self
+        ensures { result ≡ [] }
+    {
+        Aliases {
+            alloc,
+            targets: IndexMap::new(alloc),
+        }
+    }
+
+    pub fn is_empty(&self) -> bool
+        ensures { IsTrue result ↔ (self.now ≡ []) }
+    {
+        self.targets.is_empty()
+    }
+
+    /// What holds of each table.
+    pub fn law(&self)
+        ensures { IsTable self.now }
+    {
+        let _ = &self.targets;
+    }
+
+    /// Whether an alias stands at a path.
+    pub fn has(&self, path: &str) -> bool
+        ensures { result ≡ is_alias self.now path.now }
+    {
+        self.targets.contains_key(path)
+    }
+
+    /// Where an alias leads; any other path is itself.
+    pub fn led<'a>(&'a self, path: &'a str) -> &'a str
+        ensures { result.now ≡ led self.now path.now }
+    {
+        match self.targets.get(path) {
+            Some(target) => target.as_str(),
+            None => path,
+        }
+    }
+
+    /// The directory of a way, with the slash behind it.
+    pub(crate) fn onward(&self, way: &str) -> Result<String, AllocError>
+        ensures { IfOk result (λ next. string_bytes next ≡ led self.now way.now ++ 47 ∷ []) }
+    {
+        let mut next = String::from_str(self.alloc, self.led(way))?;
+        next.push('/')?;
+        Ok(next)
+    }
+
+    // A path with the aliases above it followed.
+    fn way_to(&self, path: &str) -> Result<String, AllocError>
+        ensures { IfOk result (λ way. string_bytes way ≡ way_to self.now path.now) }
+    {
+        let mut way = String::new(self.alloc);
+        let mut rest = path;
+        while let Some((name, behind)) = cut_at_slash(rest) {
+            way.push_str(name)?;
+            way = self.onward(way.as_str())?;
+            rest = behind;
+        }
+        way.push_str(rest)?;
+        Ok(way)
+    }
+
+    // The place of a path, where it is another than the path.
+    fn place_behind(&self, path: &str) -> Result<Option<ShipPath>, AllocError>
+        ensures { IfOk result (λ o. MatchOption o (is_ship_text (followed self.now path.now) ≡ false)
+            (λ p. (is_ship_text (followed self.now path.now) ≡ true)
+            × (p ≡ followed self.now path.now))) }
+    {
+        let way = self.way_to(path)?;
+        ShipPath::parse(self.alloc, self.led(way.as_str()))
+    }
+
+    /// The place of a path that a package may ship.
+    pub fn resolve(&self, path: &ShipPath) -> Result<ShipPath, AllocError>
+        ensures { IfOk result (λ p. p ≡ resolved self.now path.now) }
+    {
+        if self.is_empty() {
+            return path.copy();
+        }
+        match self.place_behind(path.as_str())? {
+            Some(place) => Ok(place),
+            None => path.copy(),
+        }
+    }
+
+    /// The place of any path.
+    pub fn resolve_path(&self, path: &RootPath) -> Result<RootPath, AllocError>
+        ensures { IfOk result (λ p. p ≡ resolved self.now path.now) }
+    {
+        if self.is_empty() {
+            return path.copy();
+        }
+        if let Some(place) = self.place_behind(path.as_str())? {
+            return place.at();
+        }
+        path.copy()
+    }
+
+    /// Adds an alias.
+    pub(crate) fn push(&mut self, place: &RootPath, target: RootPath) -> Result<(), AllocError>
+        requires place { is_place place.now ≡ true }
+        requires target { is_path target ≡ true }
+        requires new { is_alias self.old place.now ≡ false }
+        ensures ok { OnOk result
+            (self.new ≡ self.old ++ record { place = place.now; target = target } ∷ []) }
+        ensures err { OnErr result (self.new ≡ self.old) }
+    {
+        let text = String::from_str(self.alloc, place.as_str())?;
+        self.targets.insert(text, target)?;
+        Ok(())
+    }
+
+    pub(crate) fn alloc(&self) -> Global {
+        self.alloc
+    }
+}

@@ -1,0 +1,15 @@
+pub mod Splits
+pub mod Overlaying
+pub mod Maps
+pub mod Listed
+pub mod Listings
+pub mod Steps
+pub mod Telling
+pub mod Sound
+pub mod Kept
+pub mod Failures
+pub mod Calls
+pub mod ListingLooks
+pub mod Synced
+pub mod Told
+pub mod Differing

@@ -1,0 +1,9 @@
+pub mod Standings
+pub mod Able
+pub mod Doings
+pub mod Failing
+pub mod Layers
+pub mod Trees
+pub mod TreeLaws
+pub mod Looked
+pub mod Overlays

@@ -1,0 +1,6 @@
+pub mod Sums
+pub mod Tables
+pub mod Differences
+pub mod Verified
+pub mod Told
+pub mod Counting

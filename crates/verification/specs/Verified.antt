@@ -1,0 +1,100 @@
+-- What a verification of packages tells.
+use Rattle.std.specs.Prelude.{◌≡◌, ◌+◌, ◌==◌, ◌||◌, ℕ, length, Bool, true, false, List, [], ◌∷◌, ◌++◌, Option, Some, None, codes, is_some, map, filter, count_by, flat_map, if◌then◌else◌}
+use Rattle.std.specs.List.{list_any}
+use Rattle.std.specs.Str.{bytes_eq}
+use Rattle.host_core.specs.Host.{Needs, State, faults}
+use Rattle.host_core.specs.Paths.{Path}
+use Rattle.host_core.specs.World.{World}
+use Rattle.host_core.specs.declared.node.Node.{Node}
+use Rattle.diversions.specs.Places.{place}
+use Rattle.diversions.specs.declared.entry.Diversion.{Diversion}
+use Rattle.file_lists.specs.Owners.{AreLists, paths_of}
+use Rattle.file_lists.specs.declared.paths.PackageList.{PackageList}
+use Rattle.status_records.specs.Records.{record_in}
+use Rattle.status_records.specs.Words.{flag_word, state_word}
+use Rattle.status_records.specs.declared.record.Record.{Record}
+use Rattle.status_records.specs.declared.words.State.TheVariants.{NotInstalled, ConfigFiles, HalfInstalled, Unpacked, HalfConfigured, Installed}
+use Rattle.status_records.specs.declared.words.State.{State as APackageState}
+use Rattle.shown_lines.specs.Lines.{line}
+use Rattle.queries.specs.Records.{is_settled}
+use Rattle.inquiries.specs.Read.{HasAll}
+use Rattle.verification.specs.Sums.{sums_at, sums_path}
+use Rattle.verification.specs.Differences.{difference_at, difference_lines, known_digest}
+use Rattle.verification.specs.declared.difference.Difference.{Difference}
+use Rattle.verification.specs.declared.difference.Difference.TheVariants.{Unread}
+
+-- no names stand for all packages
+abbrev pub is_wanted : List (List ℕ) → List ℕ → Bool
+is_wanted names name = (length names == 0) || list_any (bytes_eq name) names
+
+-- the records that are verified, in the order of their names
+abbrev pub wanted : List (List ℕ) → List Record → List Record
+wanted names table = filter (λ r. is_wanted names r.name) table
+
+-- `refused NAME Unknown`, of a name without a record
+abbrev pub unknown_lines : List Record → List ℕ → List ℕ
+unknown_lines table name = if is_some (record_in table name) then [] else line (codes "refused " ++ (name ++ codes " Unknown"))
+
+-- `cut PKG STATE FLAG`, of a package with which work was cut off
+abbrev pub cut_lines : Record → List ℕ
+cut_lines r = if is_settled r.flag r.state then [] else line (codes "cut " ++ (r.name ++ (codes " " ++ (state_word r.state ++ (codes " " ++ flag_word r.flag)))))
+
+-- the states in which a package has its files
+abbrev pub has_files : APackageState → Bool
+has_files NotInstalled = false
+has_files ConfigFiles = false
+has_files HalfInstalled = false
+has_files Unpacked = true
+has_files HalfConfigured = true
+has_files Installed = true
+
+-- a listed path, with the record of the package that lists it
+abbrev pub Listing : Type 0
+Listing = Record × Path
+
+-- the paths of a package that has its files, in the order of its list
+abbrev pub listings_of : List PackageList → Record → List Listing
+listings_of lists r = if has_files r.state then map (λ path. (r, path)) (paths_of lists r.name) else []
+
+-- a look at what stands at the place of a listed path, and whether the device failed at it
+pub record Look : Type 0 where
+  pub at : Listing
+  pub failed : Bool
+
+-- what it told: the difference, or that there is no knowing
+abbrev pub told_by : Bool → Option Node → Option (List ℕ) → Option Difference
+told_by true _ known = Some Unread
+told_by false node known = difference_at node known
+
+-- its line, if it has one: what stands at the path's place is compared with what is known of the path
+abbrev pub look_lines : List Diversion → World → Look → List ℕ
+look_lines entries w l =
+    let r = l.at.0 in
+    let path = l.at.1 in
+    difference_lines path r.name (told_by l.failed (w (place entries r.name path)) (known_digest r.conffiles (sums_at (w (sums_path r.name))) path))
+
+-- names without a record, packages with which work was cut off, and then each path that differs
+abbrev pub verified_text : List (List ℕ) → List Record → List Diversion → World → List Look → List ℕ
+verified_text names table entries w looks =
+    flat_map (unknown_lines table) names ++ (flat_map cut_lines (wanted names table) ++ flat_map (look_lines entries w) looks)
+
+-- At each of these listed paths one look was taken, in their order; the device failed as often as a look did, and text was
+-- added by what the looks told.
+pub record AddsLooks (entries : List Diversion) (listings : List Listing) (old new : State) (before after : List ℕ) : Type 0 where
+  pub looks : List Look
+  pub each : map (λ l. l.at) looks ≡ listings
+  pub failed : faults new ≡ faults old + count_by (λ l. l.failed) looks
+  pub told : Needs new (λ w. after ≡ before ++ flat_map (look_lines entries w) looks)
+
+-- The text that is told: of the records, lists and diversions that stand there, with one look at each listed path of the packages
+-- that are verified. The device failed as often as a look did.
+pub record IsVerified (names : List (List ℕ)) (old new : State) (text : List ℕ) : Type 0 where
+  pub table : List Record
+  pub lists : List PackageList
+  pub entries : List Diversion
+  pub read : Needs new (HasAll table lists entries)
+  pub order : AreLists lists
+  pub looks : List Look
+  pub each : map (λ l. l.at) looks ≡ flat_map (listings_of lists) (wanted names table)
+  pub failed : faults new ≡ faults old + count_by (λ l. l.failed) looks
+  pub told : Needs new (λ w. text ≡ verified_text names table entries w looks)
