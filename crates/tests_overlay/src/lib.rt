@@ -1,9 +1,7 @@
-//! Rows of steps over a root in memory that they leave as it was: what is found over it, and below.
+//! Rows over a root in memory that they leave as it was: what is found over it, and below.
 #![tactic(auto)]
 
 #[cfg(test)]
-mod acts;
-#[cfg(test)]
-mod looks;
+mod root;
 #[cfg(test)]
 mod rows;

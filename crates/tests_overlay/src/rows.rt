@@ -1,123 +1,78 @@
-// A root that holds some things, over which others are made, moved and taken away.
-use crate::acts::{Act, call, carry_out, file, path_of};
-use host_core::{Access, Host, Node, Outcome, Script};
-use host_memory::MemoryHost;
+// An administration is opened over a root, files and a directory go, and scripts are called: the root holds what it held.
+use crate::root::{names_in, path_of, root_of, text_at};
+use file_removal::{Leaving, remove_owned};
+use host_core::{Call, Host, HostFault, Keep, Outcome, Places, Script, Side};
 use host_overlay::{AssumedFailure, Overlay};
+use opening::open_administration;
 use std::alloc::{AllocError, Global};
-use std::str;
 use std::test::Fail;
-use texts::Text;
+use texts::{Text, Texts};
 
+const UNPACKED: &str = "Package: alpha\nStatus: install ok unpacked\nVersion: 1.0\n";
+
+const HALF_CONFIGURED: &str = "Package: alpha\nStatus: install ok half-configured\nVersion: 1.0\n";
+
+const INSTALLED: &str = "Package: alpha\nStatus: install ok installed\nVersion: 1.0\n";
+
+// What two units left that were broken off, and a directory with a file that lends rights.
 const HELD: &[(&str, &str)] = &[
-    ("/etc/a", "a"),
-    ("/etc/b", "b"),
-    ("/etc/old", "/"),
-    ("/etc/set", "!s"),
-    ("/usr/bin/x", "x"),
+    ("/usr/share/a", "/"),
+    ("/usr/share/a/set", "set"),
+    ("/usr/share/b", "b"),
+    ("/var/lib/dpkg/status", UNPACKED),
+    ("/var/lib/dpkg/tmp.ci/preinst", "script"),
+    ("/var/lib/dpkg/updates/0001", HALF_CONFIGURED),
+    ("/var/lib/dpkg/updates/0003", INSTALLED),
 ];
 
-// Each kind of step, some over what others made, and over what stands below.
-const ACTS: &[Act] = &[
-    Act::Write("/etc", "new.dpkg-inst", "n"),
-    Act::Move("/etc/new.dpkg-inst", "/etc", "new"),
-    Act::Move("/etc/a", "/usr/bin", "moved"),
-    Act::HardLink("/etc/b", "/etc", "again"),
-    Act::Take("/usr/bin/x"),
-    Act::MakeDir("/etc", "made"),
-    Act::MakeLink("/etc/made", "link", "b"),
-    Act::RemoveDir("/etc/old"),
-    Act::Lower("/etc/set"),
-    Act::Move("/etc/new", "/etc/made", "here"),
-    Act::Flush,
+const NAMES: &[(&str, &str)] = &[
+    ("/usr/share", " a b"),
+    ("/usr/share/a", " set"),
+    ("/var/lib/dpkg", " status tmp.ci updates"),
+    ("/var/lib/dpkg/updates", " 0001 0003"),
 ];
 
-const LEFT: &[(&str, &str)] = &[
-    ("/etc/a", ""),
-    ("/etc/again", "b"),
-    ("/etc/b", "b"),
-    ("/etc/made", "/"),
-    ("/etc/made/here", "!n"),
-    ("/etc/made/link", "@b"),
-    ("/etc/new", ""),
-    ("/etc/new.dpkg-inst", ""),
-    ("/etc/old", ""),
-    ("/etc/set", "s"),
-    ("/usr/bin/moved", "a"),
-    ("/usr/bin/x", ""),
+// The later note is merged, and what goes is gone.
+const FOUND: &[(&str, &str)] = &[
+    ("/usr/share/a", ""),
+    ("/usr/share/a/set", ""),
+    ("/usr/share/b", "b"),
+    ("/var/lib/dpkg/info", "/"),
+    ("/var/lib/dpkg/status", INSTALLED),
+    ("/var/lib/dpkg/status.dpkg-inst", ""),
+    ("/var/lib/dpkg/tmp.ci", ""),
+    ("/var/lib/dpkg/updates/0001", ""),
 ];
 
-const LISTED: &[(&str, &[&str])] = &[
-    ("/etc", &["again", "b", "made", "set"]),
-    ("/etc/made", &["here", "link"]),
-    ("/etc/old", &[]),
-    ("/usr/bin", &["moved"]),
+const NAMES_FOUND: &[(&str, &str)] = &[
+    ("/usr/share", " b"),
+    ("/usr/share/a", ""),
+    ("/var/lib/dpkg", " info status updates"),
+    ("/var/lib/dpkg/updates", ""),
 ];
 
-fn node_of(alloc: Global, text: &str) -> Result<Node, AllocError> {
-    if text == "/" {
-        let access = Access::own(0o755);
-        return Ok(Node::Dir { access });
-    }
-    match text.strip_prefix("!") {
-        Some(text) => file(alloc, text, 0o4755),
-        None => file(alloc, text, 0o644),
-    }
-}
+// The paths at which something else stands than below, and whether something does.
+const CHANGED: &[(&str, bool)] = &[
+    ("/usr/share/a", false),
+    ("/usr/share/a/set", false),
+    ("/var/lib/dpkg/info", true),
+    ("/var/lib/dpkg/status", true),
+    ("/var/lib/dpkg/status.dpkg-inst", false),
+    ("/var/lib/dpkg/tmp.ci", false),
+    ("/var/lib/dpkg/tmp.ci/preinst", false),
+    ("/var/lib/dpkg/updates/0001", false),
+    ("/var/lib/dpkg/updates/0003", false),
+];
 
-fn root_of(alloc: Global) -> Result<MemoryHost, AllocError> {
-    let mut host = MemoryHost::new(alloc)?;
-    for (path, text) in HELD {
-        host.place(&path_of(alloc, path)?, node_of(alloc, text)?)?;
+fn leaving(alloc: Global) -> Result<Vec<Leaving>, AllocError> {
+    let mut leaving = Vec::new(alloc);
+    for path in ["/usr/share/a", "/usr/share/a/set"] {
+        leaving.push(Leaving {
+            place: path_of(alloc, path)?,
+            goes: true,
+        })?;
     }
-    Ok(host)
-}
-
-fn filed(alloc: Global, text: &[u8], access: Access) -> Result<String, AllocError> {
-    let mut filed = String::new(alloc);
-    if access.mode & 0o6000 != 0 {
-        filed.push_str("!")?;
-    }
-    filed.push_str(str::from_utf8(text).unwrap_or("no text"))?;
-    Ok(filed)
-}
-
-// What stands at a path: a file by what it holds, behind a `!` if it lends its owner's rights, a directory as `/`, a link as
-// `@` with its target.
-fn text_at<H: Host>(alloc: Global, host: &mut H, path: &str) -> Result<String, AllocError> {
-    match host.node(&path_of(alloc, path)?) {
-        Ok(Some(Node::File { bytes, access })) => filed(alloc, bytes.as_slice(), access),
-        Ok(Some(Node::Dir { .. })) => String::from_str(alloc, "/"),
-        Ok(Some(Node::Link { target })) => format!(in alloc; "@{}", target.as_str()),
-        Ok(None) => Ok(String::new(alloc)),
-        Err(_) => Err(AllocError),
-    }
-}
-
-// The names in a directory, in order, each behind a space.
-fn names_in<H: Host>(alloc: Global, host: &mut H, path: &str) -> Result<String, AllocError> {
-    let Ok(listing) = host.list(&path_of(alloc, path)?) else {
-        return Err(AllocError);
-    };
-    let mut names = Vec::new(alloc);
-    for name in listing.names.as_slice() {
-        names.push(String::from_str(alloc, name.as_str())?)?;
-    }
-    names.sort()?;
-    let mut text = String::new(alloc);
-    for name in &names {
-        text.push_str(" ")?;
-        text.push_str(name.as_str())?;
-    }
-    Ok(text)
-}
-
-fn spaced(alloc: Global, names: &[&str]) -> Result<String, AllocError> {
-    let mut text = String::new(alloc);
-    for name in names {
-        text.push_str(" ")?;
-        text.push_str(name)?;
-    }
-    Ok(text)
+    Ok(leaving)
 }
 
 fn named(alloc: Global, package: &str, word: &str) -> Result<AssumedFailure, AllocError> {
@@ -128,6 +83,33 @@ fn named(alloc: Global, package: &str, word: &str) -> Result<AssumedFailure, All
     })
 }
 
+fn call_of(alloc: Global, package: &str, script: Script, word: &str) -> Result<Call, AllocError> {
+    let mut args = Texts::new(alloc);
+    args.push(Text::from_str(alloc, word)?)?;
+    Ok(Call {
+        side: Side::New,
+        package: Text::from_str(alloc, package)?,
+        script,
+        at: path_of(alloc, "/")?,
+        args,
+    })
+}
+
+// How a script call ends.
+fn called<H: Host>(
+    alloc: Global,
+    host: &mut H,
+    package: &str,
+    script: Script,
+    word: &str,
+) -> Result<Outcome, HostFault> {
+    let call = call_of(alloc, package, script, word)?;
+    let places = Places {
+        items: Vec::new(alloc),
+    };
+    host.run(&call, &Keep { places: &places })
+}
+
 fn is_exit(outcome: Outcome, code: i32) -> bool {
     match outcome {
         Outcome::Exit(found) => found == code,
@@ -136,24 +118,22 @@ fn is_exit(outcome: Outcome, code: i32) -> bool {
 }
 
 #[test]
-fn steps_stay_over_the_root(rt: HostRuntime) -> Result<(), Fail> {
+fn the_root_holds_what_it_held(rt: HostRuntime) -> Result<(), Fail> {
     let alloc = rt.alloc();
-    let mut overlay = Overlay::over(alloc, root_of(alloc)?, Vec::new(alloc));
-    for it in ACTS {
-        assert!(rt; carry_out(alloc, &mut overlay, it).is_ok());
-    }
-    for (path, text) in LEFT {
+    let mut overlay = Overlay::over(alloc, root_of(alloc, HELD)?, Vec::new(alloc));
+    assert!(rt; open_administration(alloc, &mut overlay).is_ok());
+    assert!(rt; remove_owned(&mut overlay, leaving(alloc)?.as_slice()).is_ok());
+    for (path, text) in FOUND {
         assert_eq!(rt;
             text_at(alloc, &mut overlay, path)?.as_str(),
             *text,
             "{path}"
         );
     }
-    for (path, names) in LISTED {
-        let wanted = spaced(alloc, names)?;
+    for (path, names) in NAMES_FOUND {
         assert_eq!(rt;
             names_in(alloc, &mut overlay, path)?.as_str(),
-            wanted.as_str(),
+            *names,
             "{path}"
         );
     }
@@ -162,11 +142,28 @@ fn steps_stay_over_the_root(rt: HostRuntime) -> Result<(), Fail> {
     for (path, text) in HELD {
         assert_eq!(rt; text_at(alloc, &mut below, path)?.as_str(), *text, "{path}");
     }
-    assert_eq!(rt;
-        names_in(alloc, &mut below, "/etc")?.as_str(),
-        " a b old set"
-    );
-    assert_eq!(rt; names_in(alloc, &mut below, "/usr/bin")?.as_str(), " x");
+    for (path, names) in NAMES {
+        assert_eq!(rt;
+            names_in(alloc, &mut below, path)?.as_str(),
+            *names,
+            "{path}"
+        );
+    }
+    Ok(())
+}
+
+#[test]
+fn the_changed_paths_are_told(rt: HostRuntime) -> Result<(), Fail> {
+    let alloc = rt.alloc();
+    let mut overlay = Overlay::over(alloc, root_of(alloc, HELD)?, Vec::new(alloc));
+    assert!(rt; open_administration(alloc, &mut overlay).is_ok());
+    assert!(rt; remove_owned(&mut overlay, leaving(alloc)?.as_slice()).is_ok());
+    let changes = overlay.changes()?;
+    assert_eq!(rt; changes.len(), CHANGED.len());
+    for (change, (path, stands)) in changes.iter().zip(CHANGED) {
+        assert_eq!(rt; change.path.as_str(), *path);
+        assert_eq!(rt; change.stands, *stands, "{path}");
+    }
     Ok(())
 }
 
@@ -176,14 +173,14 @@ fn calls_fail_once_where_that_is_assumed(rt: HostRuntime) -> Result<(), Fail> {
     let mut failing = Vec::new(alloc);
     failing.push(named(alloc, "alpha", "install")?)?;
     failing.push(named(alloc, "beta", "upgrade")?)?;
-    let mut overlay = Overlay::over(alloc, root_of(alloc)?, failing);
+    let mut overlay = Overlay::over(alloc, root_of(alloc, HELD)?, failing);
     for (package, script, word, code) in [
         ("alpha", Script::Preinst, "upgrade", 0),
         ("alpha", Script::Postinst, "install", 0),
         ("alpha", Script::Preinst, "install", 1),
         ("alpha", Script::Preinst, "install", 0),
     ] {
-        let Ok(outcome) = call(alloc, &mut overlay, package, script, word) else {
+        let Ok(outcome) = called(alloc, &mut overlay, package, script, word) else {
             return Err(AllocError)?;
         };
         assert!(rt; is_exit(outcome, code), "{package} {word}");
@@ -196,12 +193,12 @@ fn calls_fail_once_where_that_is_assumed(rt: HostRuntime) -> Result<(), Fail> {
 #[test]
 fn a_fault_below_is_told(rt: HostRuntime) -> Result<(), Fail> {
     let alloc = rt.alloc();
-    let mut below = root_of(alloc)?;
+    let mut below = root_of(alloc, HELD)?;
     below.fail_read(1);
     let mut overlay = Overlay::over(alloc, below, Vec::new(alloc));
-    assert_eq!(rt; text_at(alloc, &mut overlay, "/etc/a")?.as_str(), "a");
-    assert!(rt; overlay.node(&path_of(alloc, "/etc/a")?).is_err());
+    assert_eq!(rt; text_at(alloc, &mut overlay, "/usr/share/b")?.as_str(), "b");
+    assert!(rt; overlay.node(&path_of(alloc, "/usr/share/b")?).is_err());
     assert_eq!(rt; overlay.events().len(), 1);
-    assert_eq!(rt; text_at(alloc, &mut overlay, "/etc/a")?.as_str(), "a");
+    assert_eq!(rt; text_at(alloc, &mut overlay, "/usr/share/b")?.as_str(), "b");
     Ok(())
 }
