@@ -1,15 +1,16 @@
 -- The directory above a directory.
-use Rattle.std.proofs.Common.{◌≡◌, ◌≢◌, suc, ◌<◌, ◌||◌, ℕ, Bool, true, false, cond, List, [], ◌∷◌, ◌++◌, length, get_or, take, drop, nat_eq, Option, Some, None, refl, sym, ap, ◌∙◌, arith}
+use Rattle.std.proofs.Common.{◌≡◌, ◌≢◌, inl, inr, suc, ◌<◌, ◌||◌, ℕ, Bool, true, false, cond, List, [], ◌∷◌, ◌++◌, length, get_or, take, drop, nat_eq, Option, Some, None, refl, sym, ap, ◌∙◌, arith}
 use denote.Ref.{Bor}
 use Rattle.std.specs.Prelude.{MatchOption}
-use Rattle.std.specs.Str.Pattern.{RFindsChar}
+use Rattle.std.specs.Str.Pattern.{LacksTextAt, RFindsChar}
 use Rattle.std.proofs.lemmas.Bool.{eqb-true, true≢false, false≢true, or_parts, or_right, ne_eqb}
-use Rattle.std.proofs.lemmas.List.{take-append-drop}
+use Rattle.std.proofs.lemmas.List.{append-nil, take-append-drop}
 use Rattle.std.proofs.lemmas.List.Folds.{list_any-append}
 use Rattle.std.proofs.lemmas.Str.Pattern.{NoCharPasses-char, drop_at_char, IsSplitOnceResult, split_parts}
 use Rattle.host_core.specs.Paths.{Path, is_path}
 use Rattle.host_core.specs.Tree.{has_slash}
 use Rattle.host_core.proofs.PathLaws.{front_is_path}
+use Rattle.aliases.specs.Aliases.{IsOn}
 use Rattle.aliases.specs.Links.{above}
 
 -- no byte is a slash
@@ -18,6 +19,11 @@ pub free_from_places : (p : Path) → ((i : ℕ) → i < length p → get_or p i
 free_from_places [] away = refl
 free_from_places (b ∷ p) away =
     ap (λ t. t || has_slash p) (ne_eqb b 47 (away 0 (omega arith))) ∙ free_from_places p (λ i lt e. away (suc i) (omega (arith, lt)) e)
+
+-- a path that doesn't begin so isn't there or below
+pub lacks_on : (place path : Path) → LacksTextAt place path 0 → IsOn place path → ⊥
+lacks_on place path lacks (inl same) = lacks [] (sym (append-nil path) ∙ ap (λ (p : Path). p ++ []) (sym same))
+lacks_on place path lacks (inr below) = lacks (47 ∷ below.0) below.1
 
 -- what stands before the first slash, and behind it
 pub cut_parts : (text : Path) (r : Option (Bor Path × Bor Path)) → IsSplitOnceResult 47 text r → MatchOption r (has_slash text ≡ false) (λ x. (text ≡ x.0.now ++ 47 ∷ x.1.now) × (has_slash x.0.now ≡ false))

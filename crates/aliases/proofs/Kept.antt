@@ -42,7 +42,7 @@ module _ {K : Type 0} (key : K → List ℕ) where
 
 -- an alias more
 
-turned : (p q : Path) → bytes_eq p q ≡ false → bytes_eq q p ≡ false
+pub turned : (p q : Path) → bytes_eq p q ≡ false → bytes_eq q p ≡ false
 turned p q other = false_from_ne_true (bytes_eq q p) (λ same. true≢false (sym ((bytes_eq-Decides p q).1 (sym ((bytes_eq-Decides q p).0 same))) ∙ other))
 
 pub alias_more : (aliases : List Alias) (a : Alias) (p : Path) → is_alias (aliases ++ a ∷ []) p ≡ is_alias aliases p || (bytes_eq p a.place || false)

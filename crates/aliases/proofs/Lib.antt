@@ -4,4 +4,6 @@ pub mod Flatness
 mod Going
 pub mod Clearing
 mod Kept
+mod Tables
 mod Progressing
+mod Remembered

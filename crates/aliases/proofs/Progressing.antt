@@ -89,7 +89,7 @@ led_other : (aliases : List Alias) (a : Alias) (p : Path) → bytes_eq p a.place
 led_other [] a p other = ap (λ t. cond t a.target p) other
 led_other (b ∷ aliases) a p other = ap (λ (q : Path). cond (bytes_eq p b.place) b.target q) (led_other aliases a p other)
 
-settled_more : (w : World) (aliases : List Alias) (a : Alias) (p : Path) → is_linked w a.place ≡ true → IsSettled w aliases p → (led (aliases ++ a ∷ []) p ≡ led aliases p) × IsSettled w (aliases ++ a ∷ []) p
+pub settled_more : (w : World) (aliases : List Alias) (a : Alias) (p : Path) → is_linked w a.place ≡ true → IsSettled w aliases p → (led (aliases ++ a ∷ []) p ≡ led aliases p) × IsSettled w (aliases ++ a ∷ []) p
 settled_more w aliases a p linked (inl is) = (led_first aliases a p is, inl (alias_more aliases a p ∙ ap (λ t. t || (bytes_eq p a.place || false)) is))
 settled_more w aliases a p linked (inr none) =
     (led_other aliases a p (false_from_ne_true (bytes_eq p a.place) (λ same. true≢false (sym linked ∙ sym (ap (is_linked w) ((bytes_eq-Decides p a.place).0 same)) ∙ none))), inr none)
@@ -98,6 +98,9 @@ settled_more w aliases a p linked (inr none) =
 
 pub looked_known : (honest : Bool) (w : World) (way : Path) (aliases : List Alias) → is_alias aliases way ≡ true → HasLooked honest w way aliases aliases
 looked_known honest w way aliases is = record { added = []; kept = sym (append-nil aliases); looked = λ h. settled (inl is) }
+
+pub looked_settled : (honest : Bool) (w : World) (way : Path) (aliases : List Alias) → (IsTrue honest → IsSettled w aliases way) → HasLooked honest w way aliases aliases
+looked_settled honest w way aliases here = record { added = []; kept = sym (append-nil aliases); looked = λ h. settled (here h) }
 
 pub looked_plain : (honest : Bool) (w : World) (way : Path) (aliases : List Alias) → (IsTrue honest → is_linked w way ≡ false) → HasLooked honest w way aliases aliases
 looked_plain honest w way aliases none = record { added = []; kept = sym (append-nil aliases); looked = λ h. settled (inr (none h)) }
@@ -193,7 +196,7 @@ progress_start w path now = record { front = []; is = refl; came = refl; settled
 no_place : (w : World) (a : Alias) → IsAliasIn w a → a.place ≢ []
 no_place w a in_world root = false≢true (sym (ap (λ (p : Path). is_link (node_at w p)) root) ∙ in_world.link)
 
-linked_alias : (w : World) (a : Alias) → IsAliasIn w a → is_linked w a.place ≡ true
+pub linked_alias : (w : World) (a : Alias) → IsAliasIn w a → is_linked w a.place ≡ true
 linked_alias w a in_world = ap (λ b. b && is_some (leads_to w a.place)) in_world.link ∙ ap is_some in_world.leads
 
 joined : (path front rest name behind : Path) → path ≡ front ++ rest → rest ≡ name ++ 47 ∷ behind → path ≡ (front ++ (name ++ 47 ∷ [])) ++ behind

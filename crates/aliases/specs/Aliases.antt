@@ -14,6 +14,10 @@ pub record Alias : Type 0 where
 abbrev pub is_alias : List Alias → Path → Bool
 is_alias aliases path = list_any (λ a. bytes_eq path a.place) aliases
 
+-- whether one of these aliases leads to the path
+abbrev pub is_target : List Alias → Path → Bool
+is_target aliases path = list_any (λ a. bytes_eq path a.target) aliases
+
 -- where an alias leads; any other path is itself
 abbrev pub led : List Alias → Path → Path
 led [] path = path

@@ -1,5 +1,6 @@
 -- What is known of the directories on a way that was looked at.
 use Rattle.std.specs.Prelude.{◌≡◌, ◌⊎◌, ◌&&◌, Bool, true, false, IsTrue, is_some, Option, Some, None, List, [], ◌∷◌, ◌++◌}
+use Rattle.std.specs.List.{AllByRecursion}
 use Rattle.host_core.specs.Paths.{Path}
 use Rattle.host_core.specs.World.{World}
 use Rattle.host_core.specs.declared.node.Kind.{Kind}
@@ -22,6 +23,10 @@ is_link_kind (Some kind.SymbolicLink) = true
 -- an alias is there, or no link to a directory
 abbrev pub IsSettled : World → List Alias → Path → Type 0
 IsSettled w aliases path = (is_alias aliases path ≡ true) ⊎ (is_linked w path ≡ false)
+
+-- each of these directories is settled
+abbrev pub AreSettled : World → List Alias → List Path → Type 0
+AreSettled w aliases looked = AllByRecursion (IsSettled w aliases) looked
 
 -- what a look at a directory adds: nothing where it is settled, else its alias
 pub data Looked (w : World) (way : Path) (old : List Alias) : List Alias → Type 0 where

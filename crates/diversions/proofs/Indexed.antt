@@ -14,7 +14,7 @@ use Rattle.host_core.specs.Paths.{Path}
 use Rattle.diversions.specs.declared.entry.Diversion.{Diversion}
 use Rattle.diversions.specs.Entries.{is_diverted, is_target, entry_of, without, IsFree, IsTable}
 use Rattle.diversions.specs.Index.{entries_of, IsIndex}
-use Rattle.diversions.specs.Targets.{entry_to}
+use Rattle.diversions.specs.Targets.{entry_named}
 use Rattle.diversions.proofs.Tables.{turned, table_last, table_without, without_none}
 
 abbrev AreKeyed : {K : Type 0} → (K → List ℕ) → List (K × Diversion) → Type 0
@@ -35,11 +35,11 @@ some_entry (d ∷ entries) p = at (bytes_eq p d.path) (some_entry entries p)
     at false rest = rest
 
 -- an entry that isn't the one looked for is passed over
-pub none_to : (entries : List Diversion) (p : Path) → is_target entries p ≡ false → entry_to entries p ≡ None
+pub none_to : (entries : List Diversion) (p : Path) → is_target entries p ≡ false → entry_named entries p ≡ None
 none_to [] p none = refl
 none_to (d ∷ entries) p none =
     let parts = or_parts (bytes_eq p d.target) (is_target entries p) none in
-    ap (λ b. cond b (Some d) (entry_to entries p)) parts.0 ∙ none_to entries p parts.1
+    ap (λ b. cond b (Some d) (entry_named entries p)) parts.0 ∙ none_to entries p parts.1
 
 pub copied_some : (r : Option (Bor Diversion)) → is_some r ≡ is_some (option_copied r)
 copied_some None = refl

@@ -11,4 +11,5 @@ pub mod Owners
 pub mod Passing
 pub mod Stopping
 pub mod Losing
+pub mod Aliased
 pub mod Readiness

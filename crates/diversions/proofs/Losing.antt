@@ -1,10 +1,10 @@
 -- What a loss of power leaves of a diversion that is being added or taken away.
-use Rattle.std.proofs.Common.{◌≡◌, ◌≢◌, ◌⊎◌, ◌||◌, inl, inr, Bool, true, false, List, ◌∷◌, ◌++◌, [], Option, Some, None, cond, refl, sym, ap, subst, ◌∙◌, IsTrue}
+use Rattle.std.proofs.Common.{◌≡◌, ◌||◌, inl, inr, Bool, true, false, List, ◌∷◌, ◌++◌, [], Option, refl, sym, ap, subst, ◌∙◌, IsTrue}
 use Rattle.std.specs.Str.{bytes_eq}
 use Rattle.std.proofs.lemmas.Bool.{or_right}
 use Rattle.std.proofs.lemmas.Slice.Eq.{bytes_eq-Decides}
 use Rattle.host_core.specs.Paths.{Path, is_ship_text}
-use Rattle.host_core.specs.World.{World, put}
+use Rattle.host_core.specs.World.{World}
 use Rattle.host_core.specs.Events.{follow_all}
 use Rattle.host_core.specs.Host.{AtEachMoment, State}
 use Rattle.host_core.specs.Loss.{IsLikeAStop, ScriptsAvoid}
@@ -17,14 +17,16 @@ use Rattle.administration.specs.Places.{diversions_path, temporary}
 use Rattle.scattered_losses.specs.Scattered.{LosesScattered}
 use Rattle.scattered_losses.specs.Turns.{TakeTurns}
 use Rattle.scattered_losses.proofs.TakingTurns.{turns_like_a_stop}
-use Rattle.diversions.specs.Changes.{IsAdding, IsRemoving, IsUnderWay, diverted, diverted_twice, doubled_if, moved_if, restored, restored_twice}
-use Rattle.diversions.specs.Entries.{IsTable, entry_of, without}
+use Rattle.aliases.specs.Aliases.{resolved}
+use Rattle.diversions.specs.Changes.{IsAdding, IsRemoving, IsUnderWay, diverted, diverted_twice, doubled_if, moved_if, undiverted, undiverted_twice}
+use Rattle.diversions.specs.Entries.{IsTable, without}
 use Rattle.diversions.specs.Lines.{HasEntries}
-use Rattle.diversions.specs.Places.{truename, target_of}
-use Rattle.diversions.specs.Sights.{moves_node, sight_of}
+use Rattle.diversions.specs.Sights.{moves_back, moves_node, sight_of}
 use Rattle.diversions.specs.Turns.{IsLeftWhole, is_change_name}
+use Rattle.diversions.specs.Ways.{Ways, truename}
 use Rattle.diversions.specs.declared.entry.Diversion.{Diversion}
 use Rattle.diversions.specs.declared.refusal.Seen.{Seen}
+use Rattle.diversions.proofs.Aliased.{resolved_ships, true_ships}
 use Rattle.diversions.proofs.Moving.{own_other}
 use Rattle.diversions.proofs.Turning.{either_path}
 
@@ -79,24 +81,22 @@ module _ (begun old new : State) (left : World) (h : IsTrue new.honest) (settled
       left_whole moves from to entries old.world (follow_all stop.stop old.world) left ship_from ship_to (like.whole from (from_there from to) (proper from ship_from)) (like.whole to (to_there from to) (proper to ship_to)) (like.whole diversions_path (table_there from to) refl) doubles goes twice once
       (since_stop (λ so_far. IsUnderWay doubles goes entries old.world) old new stop.added stop.stop h since stop.events stop.is)
 
-pub adding_left : (begun old new : State) (left : World) (entries : List Diversion) (d : Diversion) (rename : Bool) (seen : Seen) → IsTrue new.honest → IsSettled new.events → is_ship_text d.path ≡ true → is_ship_text d.target ≡ true
-    → ScriptsAvoid (is_change_name d.path d.target) begun new → TakeTurns (is_change_name d.path d.target) old new → LosesScattered begun old new left → AtEachMoment (IsAdding entries d rename seen) old new
-    → IsLeftWhole (moves_node rename seen.listed (sight_of rename old.world d.path d.target)) d.path d.target (entries ++ d ∷ []) old.world left
-adding_left begun old new left entries d rename seen h settled ship_path ship_target scripts turns loses since =
-    left_by begun old new left h settled (moves_node rename seen.listed (sight_of rename old.world d.path d.target)) d.path d.target (entries ++ d ∷ []) ship_path ship_target scripts turns loses (diverted_twice d rename seen) (diverted d rename seen) refl refl since
+pub adding_left : (begun old new : State) (left : World) (ways : Ways) (d : Diversion) (rename : Bool) (seen : Seen)
+    → (let from = resolved ways.aliases d.path in let to = resolved ways.aliases d.target in
+    IsTrue new.honest → IsSettled new.events → is_ship_text d.path ≡ true → is_ship_text d.target ≡ true → ScriptsAvoid (is_change_name from to) begun new → TakeTurns (is_change_name from to) old new → LosesScattered begun old new left
+    → AtEachMoment (IsAdding ways d rename seen) old new → IsLeftWhole (moves_node rename seen.listed (sight_of rename old.world from to)) from to (ways.entries ++ d ∷ []) old.world left)
+adding_left begun old new left ways d rename seen h settled ship_path ship_target scripts turns loses since =
+    let from = resolved ways.aliases d.path in
+    let to = resolved ways.aliases d.target in
+    left_by begun old new left h settled (moves_node rename seen.listed (sight_of rename old.world from to)) from to (ways.entries ++ d ∷ []) (resolved_ships ways.aliases d.path ship_path) (resolved_ships ways.aliases d.target ship_target) scripts turns loses
+    (diverted_twice ways d rename seen) (diverted ways d rename seen) refl refl since
 
--- a truename is shipped, where the path is
-true_ships : (entries : List Diversion) (path : Path) → IsTable entries → is_ship_text path ≡ true → is_ship_text (truename entries path) ≡ true
-true_ships [] path table ships = ships
-true_ships (d ∷ entries) path table ships = by (bytes_eq path d.path) (true_ships entries path table.3 ships)
-  where
-    by : (b : Bool) → is_ship_text (truename entries path) ≡ true → is_ship_text (target_of (cond b (Some d) (entry_of entries path)) path) ≡ true
-    by true rest = table.0.target.path
-    by false rest = rest
-
-pub removing_left : (begun old new : State) (left : World) (entries : List Diversion) (path : Path) (rename : Bool) → IsTrue new.honest → IsSettled new.events → IsTable entries → is_ship_text path ≡ true
-    → ScriptsAvoid (is_change_name (truename entries path) path) begun new → TakeTurns (is_change_name (truename entries path) path) old new → LosesScattered begun old new left → AtEachMoment (IsRemoving entries path rename) old new
-    → IsLeftWhole (moves_node rename false (sight_of rename old.world (truename entries path) path)) (truename entries path) path (without path entries) old.world left
-removing_left begun old new left entries path rename h settled table ship scripts turns loses since =
-    let target = truename entries path in
-    left_by begun old new left h settled (moves_node rename false (sight_of rename old.world target path)) target path (without path entries) (true_ships entries path table ship) ship scripts turns loses (restored_twice path target rename) (restored path target rename) refl refl since
+pub removing_left : (begun old new : State) (left : World) (ways : Ways) (path : Path) (rename : Bool)
+    → (let from = truename ways path in let to = resolved ways.aliases path in
+    IsTrue new.honest → IsSettled new.events → IsTable ways.entries → is_ship_text path ≡ true → ScriptsAvoid (is_change_name from to) begun new → TakeTurns (is_change_name from to) old new → LosesScattered begun old new left
+    → AtEachMoment (IsRemoving ways path rename) old new → IsLeftWhole (moves_back rename old.world from to) from to (without path ways.entries) old.world left)
+removing_left begun old new left ways path rename h settled table ship scripts turns loses since =
+    let from = truename ways path in
+    let to = resolved ways.aliases path in
+    left_by begun old new left h settled (moves_back rename old.world from to) from to (without path ways.entries) (true_ships ways path table ship) (resolved_ships ways.aliases path ship) scripts turns loses
+    (undiverted_twice ways path rename) (undiverted ways path rename) refl refl since

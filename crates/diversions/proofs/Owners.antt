@@ -4,7 +4,9 @@ use Rattle.std.proofs.lemmas.Bool.{false≢true, false_from_ne_true}
 use Rattle.std.proofs.lemmas.Slice.Eq.{bytes_eq-Decides}
 use Rattle.host_core.specs.Paths.{Path}
 use Rattle.diversions.specs.Entries.{entry_of}
-use Rattle.diversions.specs.Places.{truename, target_of}
+use Rattle.aliases.specs.Aliases.{resolved}
+use Rattle.diversions.specs.Places.{target_of}
+use Rattle.diversions.specs.Ways.{Ways, entry_at, or_else, truename}
 use Rattle.diversions.specs.Refusals.{same_owner, is_owned, owner_conditions, first_holding}
 use Rattle.diversions.specs.declared.entry.Owner.{Owner}
 use Rattle.diversions.specs.declared.entry.Owner.TheVariants.{Local, Package}
@@ -46,5 +48,6 @@ module _ (entries : List Diversion) (p q : Path) (owner : Owner) (same : p ≡ q
     pub owner_own : d.owner ≡ owner → first_holding (owner_conditions entries q owner) ≡ None
     owner_own is = judged true (same_owner_from d.owner owner is)
 
-    pub own_target : d.target ≡ truename entries q
-    own_target = ap (λ o. target_of o q) here
+-- the entry of the listed name is the one that counts
+pub own_target : (ways : Ways) (p q : Path) (d : Diversion) → p ≡ q → Some d ≡ entry_of ways.entries p → resolved ways.aliases d.target ≡ truename ways q
+own_target ways p q d same found = ap (λ o. resolved ways.aliases (target_of (or_else o (entry_at ways.aliases ways.entries (resolved ways.aliases q))) q)) (found ∙ ap (entry_of ways.entries) same)

@@ -18,17 +18,21 @@ use Rattle.host_core.specs.declared.node.Access.{Access}
 use Rattle.host_core.specs.declared.node.Node.{Node}
 use Rattle.host_core.specs.declared.node.Node.TheVariants.{File, Dir, Link}
 use Rattle.administration.proofs.WholeFiles.{no_directory_file}
-use Rattle.diversions.specs.Changes.{BeginsOnDisk, CanMove, IsBroughtFirst, OnDone, diversion_of, doubled_if, moved_if}
+use Rattle.aliases.specs.Aliases.{resolved}
+use Rattle.diversions.specs.Changes.{BeginsOnDisk, CanMove, IsBroughtFirst, OnDone, diversion_of, doubled_if, moved_if, restored, restored_twice}
 use Rattle.diversions.specs.Entries.{is_diverted, is_target, IsTable, IsWellFormed}
 use Rattle.diversions.specs.Names.{front_of}
-use Rattle.diversions.specs.Refusals.{has_same, first_holding, move_conditions, add_conditions, owner_conditions, is_target_taken, answer_of, remove_answer}
-use Rattle.diversions.specs.Sights.{brings_first, sight_of, is_directory_kind, is_loose_kind, moves_node, same_access, same_loose, same_node}
+use Rattle.std.specs.List.{list_any}
+use Rattle.diversions.specs.Refusals.{has_same, first_holding, move_conditions, add_conditions, back_conditions, owner_conditions, is_name_taken, is_one_place, is_path_taken, is_place_taken, is_rival, is_target_taken, answer_of, remove_answer}
+use Rattle.diversions.specs.Routes.{route_of}
+use Rattle.diversions.specs.Sights.{brings_first, sight_of, is_directory_kind, is_loose_kind, moves_back, moves_node, same_access, same_loose, same_node}
+use Rattle.diversions.specs.Ways.{Ways, truename}
 use Rattle.diversions.specs.declared.entry.Diversion.{Diversion}
-use Rattle.diversions.specs.Places.{truename}
 use Rattle.diversions.specs.declared.entry.Owner.{Owner}
 use Rattle.diversions.specs.declared.refusal.Answer.{Answer}
 use Rattle.diversions.specs.declared.refusal.Refusal.TheVariants.{SamePath, Directory, AlreadyDiverted, TargetDiverted, Conffile, NoParent, TargetExists}
 use Rattle.diversions.specs.declared.refusal.Seen.{Seen}
+use Rattle.diversions.specs.declared.route.Route.{Route}
 use Rattle.diversions.specs.declared.sight.Sight.{Sight}
 use Rattle.diversions.proofs.Fronts.{parent_at_front}
 use Rattle.diversions.proofs.Tables.{apart, table_more}
@@ -128,6 +132,23 @@ can_move moves brings rename listed sight w from to moved brought seen other shi
       above = parent_at_front w to ship (kind_directory (w (front_of to)) (ap (λ (s : Sight). is_directory_kind s.above) (sym seen) ∙ way.0));
     }
 
+-- a node that goes back
+pub can_move_back : (moves brings rename : Bool) (sight : Sight) (w : World) (from to : Path) → moves ≡ not (bytes_eq from to) && moves_node rename false sight → brings ≡ brings_first rename false sight → sight ≡ sight_of rename w from to → is_ship_text to ≡ true
+    → first_holding (move_conditions moves sight) ≡ None → moves ≡ true → CanMove brings from to w
+can_move_back moves brings rename sight w from to moved brought seen ship none is =
+    let both = and_parts (not (bytes_eq from to)) (moves_node rename false sight) (sym moved ∙ is) in
+    can_move true brings rename false sight w from to (sym both.1) brought seen (apart from to (not-true (bytes_eq from to) both.0)) ship (subst (λ b. first_holding (move_conditions b sight) ≡ None) is none) refl
+
+pub moved_back : (moves rename : Bool) (sight : Sight) (v w : World) (from to : Path) → moves ≡ not (bytes_eq from to) && moves_node rename false sight → sight ≡ sight_of rename w from to → v ≡ w → moved_if moves from to v ≡ restored to from rename w
+moved_back moves rename sight v w from to moved seen same = ap (λ b. moved_if b from to v) (moved ∙ ap (λ s. not (bytes_eq from to) && moves_node rename false s) seen) ∙ ap (moved_if (moves_back rename w from to) from to) same
+
+pub doubled_back : (moves rename : Bool) (sight : Sight) (v w : World) (from to : Path) → moves ≡ not (bytes_eq from to) && moves_node rename false sight → sight ≡ sight_of rename w from to → v ≡ w → doubled_if moves from to v ≡ restored_twice to from rename w
+doubled_back moves rename sight v w from to moved seen same = ap (λ b. doubled_if b from to v) (moved ∙ ap (λ s. not (bytes_eq from to) && moves_node rename false s) seen) ∙ ap (doubled_if (moves_back rename w from to) from to) same
+
+-- what is asked of a move back
+pub back_asked : (moves rename : Bool) (sight : Sight) (w : World) (from to : Path) → moves ≡ not (bytes_eq from to) && moves_node rename false sight → sight ≡ sight_of rename w from to → first_holding (move_conditions moves sight) ≡ first_holding (back_conditions w from to rename)
+back_asked moves rename sight w from to moved seen = ap (λ b. first_holding (move_conditions b sight)) moved ∙ ap (λ s. first_holding (move_conditions (not (bytes_eq from to) && moves_node rename false s) s)) seen
+
 pub moved_same : (moves rename listed : Bool) (sight : Sight) (v w : World) (from to : Path) → moves ≡ moves_node rename listed sight → sight ≡ sight_of rename w from to → v ≡ w → moved_if moves from to v ≡ moved_if (moves_node rename listed (sight_of rename w from to)) from to w
 moved_same moves rename listed sight v w from to moved seen same = ap (λ b. moved_if b from to v) (moved ∙ ap (moves_node rename listed) seen) ∙ ap (moved_if (moves_node rename listed (sight_of rename w from to)) from to) same
 
@@ -143,38 +164,45 @@ brought_behind rename listed sight brings a b c from to is seen reads begins h t
 
 -- an entry that isn't refused
 
-record Passes (sight : Sight) (entries : List Diversion) (d : Diversion) (rename : Bool) (seen : Seen) : Type 0 where
-  other : bytes_eq d.target d.path ≡ false
-  path : is_diverted entries d.path ≡ false
-  taken : is_target_taken entries d ≡ false
+record Passes (sight : Sight) (ways : Ways) (d : Diversion) (rename : Bool) (seen : Seen) : Type 0 where
+  other : is_one_place ways.aliases d.target d.path ≡ false
+  path : is_path_taken ways d ≡ false
+  taken : is_target_taken ways d ≡ false
   way : first_holding (move_conditions (moves_node rename seen.listed sight) sight) ≡ None
 
-passes : (sight : Sight) (entries : List Diversion) (d : Diversion) (rename : Bool) (seen : Seen) → first_holding (add_conditions sight entries d rename seen) ≡ None → Passes sight entries d rename seen
-passes sight entries d rename seen none =
+passes : (sight : Sight) (ways : Ways) (d : Diversion) (rename : Bool) (seen : Seen) → first_holding (add_conditions sight ways d rename seen) ≡ None → Passes sight ways d rename seen
+passes sight ways d rename seen none =
     let way = move_conditions (moves_node rename seen.listed sight) sight in
     let late = (Conffile, seen.conffile) ∷ way in
-    let middle = (TargetDiverted, is_target_taken entries d) ∷ late in
-    let early = (AlreadyDiverted, is_diverted entries d.path) ∷ middle in
+    let middle = (TargetDiverted, is_target_taken ways d) ∷ late in
+    let early = (AlreadyDiverted, is_path_taken ways d) ∷ middle in
     let directory = is_directory_kind sight.from || is_directory_kind sight.to in
-    let same = none_holds SamePath (bytes_eq d.target d.path) ((Directory, directory) ∷ early) none in
+    let same = none_holds SamePath (is_one_place ways.aliases d.target d.path) ((Directory, directory) ∷ early) none in
     let first = none_holds Directory directory early same.1 in
-    let second = none_holds AlreadyDiverted (is_diverted entries d.path) middle first.1 in
-    let third = none_holds TargetDiverted (is_target_taken entries d) late second.1 in
+    let second = none_holds AlreadyDiverted (is_path_taken ways d) middle first.1 in
+    let third = none_holds TargetDiverted (is_target_taken ways d) late second.1 in
     record { other = same.0; path = second.0; taken = third.0; way = (none_holds Conffile seen.conffile way third.1).1 }
 
-pub other_added : (sight : Sight) (entries : List Diversion) (d : Diversion) (rename : Bool) (seen : Seen) → first_holding (add_conditions sight entries d rename seen) ≡ None → d.path ≢ d.target
-other_added sight entries d rename seen none e = apart d.target d.path (passes sight entries d rename seen none).other (sym e)
+pub other_added : (sight : Sight) (ways : Ways) (d : Diversion) (rename : Bool) (seen : Seen) → first_holding (add_conditions sight ways d rename seen) ≡ None → resolved ways.aliases d.path ≢ resolved ways.aliases d.target
+other_added sight ways d rename seen none e = apart (resolved ways.aliases d.target) (resolved ways.aliases d.path) (passes sight ways d rename seen none).other (sym e)
 
-pub way_of_added : (sight : Sight) (entries : List Diversion) (d : Diversion) (rename : Bool) (seen : Seen) → first_holding (add_conditions sight entries d rename seen) ≡ None → first_holding (move_conditions (moves_node rename seen.listed sight) sight) ≡ None
-way_of_added sight entries d rename seen none = (passes sight entries d rename seen none).way
+pub other_along : (sight : Sight) (ways : Ways) (d : Diversion) (route : Route) (rename : Bool) (seen : Seen) → route ≡ route_of ways.aliases d.path d.target → first_holding (add_conditions sight ways d rename seen) ≡ None → route.from ≢ route.to
+other_along sight ways d route rename seen is none e = other_added sight ways d rename seen none (subst (λ (r : Route). r.from ≡ r.to) is e)
 
-pub table_with_added : (sight : Sight) (entries : List Diversion) (d : Diversion) (rename : Bool) (seen : Seen) → first_holding (add_conditions sight entries d rename seen) ≡ None → IsWellFormed d → IsTable entries → IsTable (entries ++ d ∷ [])
-table_with_added sight entries d rename seen none formed table =
-    let all = passes sight entries d rename seen none in
-    let two = or_parts (is_diverted entries d.target) (is_target entries d.target || is_target entries d.path) all.taken in
+pub way_of_added : (sight : Sight) (ways : Ways) (d : Diversion) (rename : Bool) (seen : Seen) → first_holding (add_conditions sight ways d rename seen) ≡ None → first_holding (move_conditions (moves_node rename seen.listed sight) sight) ≡ None
+way_of_added sight ways d rename seen none = (passes sight ways d rename seen none).way
+
+pub table_with_added : (sight : Sight) (ways : Ways) (d : Diversion) (rename : Bool) (seen : Seen) → first_holding (add_conditions sight ways d rename seen) ≡ None → IsWellFormed d → IsTable ways.entries → IsTable (ways.entries ++ d ∷ [])
+table_with_added sight ways d rename seen none formed table =
+    let entries = ways.entries in
+    let all = passes sight ways d rename seen none in
+    let path = or_parts (is_diverted entries d.path) (list_any (is_rival ways.aliases d) entries) all.path in
+    let names = or_parts (is_name_taken entries d) (list_any (is_place_taken ways.aliases d) entries) all.taken in
+    let two = or_parts (is_diverted entries d.target) (is_target entries d.target || is_target entries d.path) names.0 in
     let three = or_parts (is_target entries d.target) (is_target entries d.path) two.1 in
-    table_more entries d table record { path = formed.path; target = formed.target; owner = formed.owner; other = apart d.target d.path all.other }
-    record { not_diverted = all.path; no_target = three.1 } record { not_diverted = two.0; no_target = three.0 }
+    table_more entries d table
+    record { path = formed.path; target = formed.target; owner = formed.owner; other = λ same. apart (resolved ways.aliases d.target) (resolved ways.aliases d.path) all.other (ap (resolved ways.aliases) same) }
+    record { not_diverted = path.0; no_target = three.1 } record { not_diverted = two.0; no_target = three.0 }
 
 -- taking away
 
@@ -183,11 +211,12 @@ first_after [] b none = refl
 first_after ((x, true) ∷ a) b none = absurd (let e : Some x ≡ None = none in cc)
 first_after ((x, false) ∷ a) b none = first_after a b none
 
-pub remove_answered : (w : World) (entries : List Diversion) (path target : Path) (owner : Owner) (rename : Bool) (x : Answer) → first_holding (owner_conditions entries path owner) ≡ None → target ≡ truename entries path
-    → x ≡ answer_of (first_holding (move_conditions (moves_node rename false (sight_of rename w target path)) (sight_of rename w target path))) → x ≡ remove_answer w entries path owner rename
-remove_answered w entries path target owner rename x none is answered =
-    answered ∙ ap (λ (t : Path). answer_of (first_holding (move_conditions (moves_node rename false (sight_of rename w t path)) (sight_of rename w t path)))) is
-    ∙ ap answer_of (sym (first_after (owner_conditions entries path owner) (move_conditions (moves_node rename false (sight_of rename w (truename entries path) path)) (sight_of rename w (truename entries path) path)) none))
+pub remove_answered : (w : World) (ways : Ways) (path from to : Path) (owner : Owner) (rename : Bool) (x : Answer) → first_holding (owner_conditions ways.entries path owner) ≡ None → from ≡ truename ways path → to ≡ resolved ways.aliases path
+    → x ≡ answer_of (first_holding (back_conditions w from to rename)) → x ≡ remove_answer w ways path owner rename
+remove_answered w ways path from to owner rename x none is_from is_to answered =
+    answered ∙ ap (λ (p : Path). answer_of (first_holding (back_conditions w p to rename))) is_from
+    ∙ ap (λ (p : Path). answer_of (first_holding (back_conditions w (truename ways path) p rename))) is_to
+    ∙ ap answer_of (sym (first_after (owner_conditions ways.entries path owner) (back_conditions w (truename ways path) (resolved ways.aliases path) rename) none))
 
 pub if_ok : {T E : Type 0} {P Q : T → Type 0} (result : Result T E) → ((x : T) → P x → Q x) → IfOk result P → IfOk result Q
 if_ok (Ok x) so there = so x there
@@ -249,9 +278,10 @@ looked_around rename from to there taken above result a b c d e first second thi
 }
 
 -- the entry that is asked for
-pub brought_of : (table : List Diversion) (rename listed : Bool) (result : Result Answer HostFault) (a b : State) (p p2 t t2 : Path) (o o2 : Owner) → p ≡ p2 → t ≡ t2 → o ≡ o2
-    → (has_same table (diversion_of p t o) ≡ false → OnDone result (IsBroughtFirst rename listed p t a b)) → has_same table (diversion_of p2 t2 o2) ≡ false → OnDone result (IsBroughtFirst rename listed p2 t2 a b)
-brought_of table rename listed result a b p p2 t t2 o o2 e f g goes =
-    subst (λ x. has_same table (diversion_of p2 t2 x) ≡ false → OnDone result (IsBroughtFirst rename listed p2 t2 a b)) g
-    (subst (λ x. has_same table (diversion_of p2 x o) ≡ false → OnDone result (IsBroughtFirst rename listed p2 x a b)) f
-    (subst (λ x. has_same table (diversion_of x t o) ≡ false → OnDone result (IsBroughtFirst rename listed x t a b)) e goes))
+pub brought_of : (ways : Ways) (rename listed : Bool) (result : Result Answer HostFault) (a b : State) (p p2 t t2 : Path) (o o2 : Owner) → p ≡ p2 → t ≡ t2 → o ≡ o2
+    → (has_same ways.entries (diversion_of p t o) ≡ false → OnDone result (IsBroughtFirst rename listed (resolved ways.aliases p) (resolved ways.aliases t) a b))
+    → has_same ways.entries (diversion_of p2 t2 o2) ≡ false → OnDone result (IsBroughtFirst rename listed (resolved ways.aliases p2) (resolved ways.aliases t2) a b)
+brought_of ways rename listed result a b p p2 t t2 o o2 e f g goes =
+    subst (λ x. has_same ways.entries (diversion_of p2 t2 x) ≡ false → OnDone result (IsBroughtFirst rename listed (resolved ways.aliases p2) (resolved ways.aliases t2) a b)) g
+    (subst (λ x. has_same ways.entries (diversion_of p2 x o) ≡ false → OnDone result (IsBroughtFirst rename listed (resolved ways.aliases p2) (resolved ways.aliases x) a b)) f
+    (subst (λ x. has_same ways.entries (diversion_of x t o) ≡ false → OnDone result (IsBroughtFirst rename listed (resolved ways.aliases x) (resolved ways.aliases t) a b)) e goes))

@@ -1,5 +1,6 @@
 -- A change that was stopped on its way, asked for again.
 use Rattle.std.proofs.Common.{◌≡◌, ◌≢◌, ◌⊎◌, inl, inr, ◌||◌, ◌&&◌, Bool, true, false, not, cond, is_some, nat_eq, subst, List, [], ◌∷◌, ◌++◌, Option, Some, None, refl, sym, ap, ◌∙◌}
+use Rattle.std.specs.List.{list_any}
 use Rattle.std.specs.Str.{bytes_eq}
 use Rattle.std.proofs.lemmas.Bool.{and_right, and_from, and_parts, eq-eqb, or_from, or_parts, true≢false}
 use Rattle.std.proofs.lemmas.Slice.Eq.{bytes_eq-Decides}
@@ -12,19 +13,21 @@ use Rattle.host_core.proofs.WorldLaws.{put_same, put_other}
 use Rattle.administration.specs.Files.{KeepsBesideFile}
 use Rattle.administration.specs.Places.{diversions_path, temporary}
 use Rattle.diversions.specs.Again.{IsFinishedAgain}
-use Rattle.diversions.specs.Changes.{IsAdding, IsRemoving, IsRecording, IsSame, IsTableReady, diverted, doubled_if, restored, moved_if}
-use Rattle.diversions.specs.Entries.{entry_of, is_diverted, without, IsEntry, IsTable, IsWellFormed}
+use Rattle.aliases.specs.Aliases.{resolved}
+use Rattle.diversions.specs.Changes.{IsAdding, IsRemoving, IsRecording, IsSame, IsTableReady, IsUnderWay, diverted, doubled_if, moved_if, undiverted}
+use Rattle.diversions.specs.Entries.{entry_of, is_diverted, without, IsTable, IsWellFormed}
 use Rattle.diversions.specs.Lines.{HasDiversions}
-use Rattle.diversions.specs.Places.{truename, target_of}
-use Rattle.diversions.specs.Refusals.{first_holding, add_refusal, has_same, is_same, is_owned, is_target_taken, move_conditions, owner_conditions, remove_refusal, same_owner}
+use Rattle.diversions.specs.Refusals.{first_holding, add_refusal, back_conditions, has_same, is_one_place, is_path_taken, is_rival, is_same, is_target_taken, move_conditions, owner_conditions, remove_refusal, same_owner}
+use Rattle.diversions.specs.Ways.{Ways, truename}
 use Rattle.diversions.specs.Names.{front_of}
 use Rattle.diversions.specs.Sights.{brings_first, sight_of, is_directory_kind, is_loose_kind, moves_node, same_access, same_node}
 use Rattle.diversions.specs.declared.entry.Diversion.{Diversion}
 use Rattle.diversions.specs.declared.entry.Owner.{Owner}
 use Rattle.diversions.specs.declared.refusal.Refusal.{Refusal}
-use Rattle.diversions.specs.declared.refusal.Refusal.TheVariants.{SamePath, Directory, AlreadyDiverted, TargetDiverted, Conffile, NotDiverted, OtherOwner, NoParent, TargetExists}
+use Rattle.diversions.specs.declared.refusal.Refusal.TheVariants.{SamePath, Directory, AlreadyDiverted, TargetDiverted, Conffile, NoParent, TargetExists}
 use Rattle.diversions.specs.declared.refusal.Seen.{Seen}
 use Rattle.diversions.specs.declared.sight.Sight.{Sight}
+use Rattle.diversions.proofs.Aliased.{resolved_ships, true_ships}
 use Rattle.diversions.proofs.Moving.{no_directory_to, own_other}
 use Rattle.diversions.proofs.Owners.{same_owner_from}
 use Rattle.diversions.proofs.Passing.{can_move, first_after, kind_directory, none_holds, way_free}
@@ -182,52 +185,51 @@ module _ (rename listed : Bool) (from to : Path) (old now : World) (ship_from : 
 
 -- adding
 
-other_paths : (d : Diversion) → bytes_eq d.target d.path ≡ false → d.path ≢ d.target
-other_paths d other e = apart d.target d.path other (sym e)
-
-record AddsTo (w : World) (entries : List Diversion) (d : Diversion) (rename : Bool) (seen : Seen) : Type 0 where
-  pub other : bytes_eq d.target d.path ≡ false
-  pub no_directory : is_directory_kind (kind_of (w d.path)) || is_directory_kind (kind_of (w d.target)) ≡ false
-  pub path : is_diverted entries d.path ≡ false
-  pub taken : is_target_taken entries d ≡ false
+record AddsTo (w : World) (ways : Ways) (d : Diversion) (rename : Bool) (seen : Seen) : Type 0 where
+  pub other : is_one_place ways.aliases d.target d.path ≡ false
+  pub no_directory : is_directory_kind (kind_of (w (resolved ways.aliases d.path))) || is_directory_kind (kind_of (w (resolved ways.aliases d.target))) ≡ false
+  pub path : is_path_taken ways d ≡ false
+  pub taken : is_target_taken ways d ≡ false
   pub conffile : seen.conffile ≡ false
-  pub way : first_holding (move_conditions (moves_node rename seen.listed (sight_of rename w d.path d.target)) (sight_of rename w d.path d.target)) ≡ None
+  pub way : first_holding (move_conditions (moves_node rename seen.listed (sight_of rename w (resolved ways.aliases d.path) (resolved ways.aliases d.target))) (sight_of rename w (resolved ways.aliases d.path) (resolved ways.aliases d.target))) ≡ None
 
-adds : (w : World) (entries : List Diversion) (d : Diversion) (rename : Bool) (seen : Seen) → add_refusal w entries d rename seen ≡ None → AddsTo w entries d rename seen
-adds w entries d rename seen none =
-    let sight = sight_of rename w d.path d.target in
+adds : (w : World) (ways : Ways) (d : Diversion) (rename : Bool) (seen : Seen) → add_refusal w ways d rename seen ≡ None → AddsTo w ways d rename seen
+adds w ways d rename seen none =
+    let sight = sight_of rename w (resolved ways.aliases d.path) (resolved ways.aliases d.target) in
     let way = move_conditions (moves_node rename seen.listed sight) sight in
     let late = (Conffile, seen.conffile) ∷ way in
-    let middle = (TargetDiverted, is_target_taken entries d) ∷ late in
-    let early = (AlreadyDiverted, is_diverted entries d.path) ∷ middle in
+    let middle = (TargetDiverted, is_target_taken ways d) ∷ late in
+    let early = (AlreadyDiverted, is_path_taken ways d) ∷ middle in
     let directory = is_directory_kind sight.from || is_directory_kind sight.to in
-    let same = none_holds SamePath (bytes_eq d.target d.path) ((Directory, directory) ∷ early) none in
+    let same = none_holds SamePath (is_one_place ways.aliases d.target d.path) ((Directory, directory) ∷ early) none in
     let first = none_holds Directory directory early same.1 in
-    let second = none_holds AlreadyDiverted (is_diverted entries d.path) middle first.1 in
-    let third = none_holds TargetDiverted (is_target_taken entries d) late second.1 in
+    let second = none_holds AlreadyDiverted (is_path_taken ways d) middle first.1 in
+    let third = none_holds TargetDiverted (is_target_taken ways d) late second.1 in
     record { other = same.0; no_directory = first.0; path = second.0; taken = third.0; conffile = (none_holds Conffile seen.conffile way third.1).0; way = (none_holds Conffile seen.conffile way third.1).1 }
 
-added_again : (entries : List Diversion) (d : Diversion) (rename : Bool) (seen : Seen) (old now : World) → AddsTo old entries d rename seen → IsPassing rename seen.listed d.path d.target old now → add_refusal now entries d rename seen ≡ None
-added_again entries d rename seen old now before all =
-    let sight = sight_of rename now d.path d.target in
+added_again : (ways : Ways) (d : Diversion) (rename : Bool) (seen : Seen) (old now : World) → AddsTo old ways d rename seen → IsPassing rename seen.listed (resolved ways.aliases d.path) (resolved ways.aliases d.target) old now → add_refusal now ways d rename seen ≡ None
+added_again ways d rename seen old now before all =
+    let sight = sight_of rename now (resolved ways.aliases d.path) (resolved ways.aliases d.target) in
     let way = move_conditions (moves_node rename seen.listed sight) sight in
     let late = (Conffile, seen.conffile) ∷ way in
-    let middle = (TargetDiverted, is_target_taken entries d) ∷ late in
-    let early = (AlreadyDiverted, is_diverted entries d.path) ∷ middle in
+    let middle = (TargetDiverted, is_target_taken ways d) ∷ late in
+    let early = (AlreadyDiverted, is_path_taken ways d) ∷ middle in
     let directory = is_directory_kind sight.from || is_directory_kind sight.to in
-    passed_over SamePath (bytes_eq d.target d.path) ((Directory, directory) ∷ early) before.other
+    passed_over SamePath (is_one_place ways.aliases d.target d.path) ((Directory, directory) ∷ early) before.other
     (passed_over Directory directory early (all.no_directory before.no_directory)
-    (passed_over AlreadyDiverted (is_diverted entries d.path) middle before.path
-    (passed_over TargetDiverted (is_target_taken entries d) late before.taken
+    (passed_over AlreadyDiverted (is_path_taken ways d) middle before.path
+    (passed_over TargetDiverted (is_target_taken ways d) late before.taken
     (passed_over Conffile seen.conffile way before.conffile
     all.way))))
 
-pub adding_again : (entries : List Diversion) (d : Diversion) (rename : Bool) (seen : Seen) (old now : World) → IsWellFormed d → add_refusal old entries d rename seen ≡ None → IsAdding entries d rename seen old now
-    → IsFinishedAgain (entries ++ d ∷ []) (λ w. add_refusal w entries d rename seen) (diverted d rename seen) old now
-adding_again entries d rename seen old now formed none moment =
-    let before = adds old entries d rename seen none in
-    finished rename seen.listed d.path d.target old now formed.path.path formed.target.path (other_paths d before.other) (entries ++ d ∷ []) (λ w. add_refusal w entries d rename seen) none before.way
-    (added_again entries d rename seen old now before) moment
+pub adding_again : (ways : Ways) (d : Diversion) (rename : Bool) (seen : Seen) (old now : World) → IsWellFormed d → add_refusal old ways d rename seen ≡ None → IsAdding ways d rename seen old now
+    → IsFinishedAgain (ways.entries ++ d ∷ []) (λ w. add_refusal w ways d rename seen) (diverted ways d rename seen) old now
+adding_again ways d rename seen old now formed none moment =
+    let before = adds old ways d rename seen none in
+    let from = resolved ways.aliases d.path in
+    let to = resolved ways.aliases d.target in
+    finished rename seen.listed from to old now (resolved_ships ways.aliases d.path formed.path.path) (resolved_ships ways.aliases d.target formed.target.path) (λ e. apart to from before.other (sym e)) (ways.entries ++ d ∷ []) (λ w. add_refusal w ways d rename seen) none before.way
+    (added_again ways d rename seen old now before) moment
 
 entry_last : (entries : List Diversion) (d : Diversion) → is_diverted entries d.path ≡ false → entry_of (entries ++ d ∷ []) d.path ≡ Some d
 entry_last [] d free = ap (λ b. cond b (Some d) None) ((bytes_eq-Decides d.path d.path).1 refl)
@@ -235,32 +237,13 @@ entry_last (e ∷ entries) d free =
     let parts = or_parts (bytes_eq d.path e.path) (is_diverted entries d.path) free in
     ap (λ b. cond b (Some e) (entry_of (entries ++ d ∷ []) d.path)) parts.0 ∙ entry_last entries d parts.1
 
-pub added_is_there : (entries : List Diversion) (d : Diversion) (rename : Bool) (seen : Seen) (old : World) → add_refusal old entries d rename seen ≡ None → has_same (entries ++ d ∷ []) d ≡ true
-added_is_there entries d rename seen old none =
-    ap (λ o. is_same o d.target d.owner) (entry_last entries d (adds old entries d rename seen none).path)
+pub added_is_there : (ways : Ways) (d : Diversion) (rename : Bool) (seen : Seen) (old : World) → add_refusal old ways d rename seen ≡ None → has_same (ways.entries ++ d ∷ []) d ≡ true
+added_is_there ways d rename seen old none =
+    ap (λ o. is_same o d.target d.owner)
+    (entry_last ways.entries d (or_parts (is_diverted ways.entries d.path) (list_any (is_rival ways.aliases d) ways.entries) (adds old ways d rename seen none).path).0)
     ∙ and_from (bytes_eq d.target d.target) (same_owner d.owner d.owner) ((bytes_eq-Decides d.target d.target).1 refl) (same_owner_from d.owner d.owner refl)
 
 -- taking away
-
-record HasEntry (entries : List Diversion) (p : Path) : Type 0 where
-  pub entry : Diversion
-  pub found : entry_of entries p ≡ Some entry
-  pub same : p ≡ entry.path
-  pub is : IsEntry entry
-
-entry_there : (entries : List Diversion) (p : Path) → IsTable entries → is_diverted entries p ≡ true → HasEntry entries p
-entry_there [] p table there = absurd (true≢false (sym there))
-entry_there (d ∷ entries) p table there = at (λ h. entry_there entries p table.3 h) (bytes_eq p d.path) refl there
-  where
-    at : (is_diverted entries p ≡ true → HasEntry entries p) → (b : Bool) → bytes_eq p d.path ≡ b → b || is_diverted entries p ≡ true → HasEntry (d ∷ entries) p
-    at later true here any = record { entry = d; found = ap (λ b. cond b (Some d) (entry_of entries p)) here; same = (bytes_eq-Decides p d.path).0 here; is = table.0 }
-    at later false here any =
-        let rest = later any in
-        record { entry = rest.entry; found = ap (λ b. cond b (Some d) (entry_of entries p)) here ∙ rest.found; same = rest.same; is = rest.is }
-
-unturned : (b : Bool) → not b ≡ false → b ≡ true
-unturned true e = refl
-unturned false e = absurd (true≢false e)
 
 first_part : (a b : List (Refusal × Bool)) → first_holding (a ++ b) ≡ None → first_holding a ≡ None
 first_part [] b none = refl
@@ -275,23 +258,28 @@ both_none ((x, false) ∷ a) b first second = both_none a b first second
 second_part : (a b : List (Refusal × Bool)) → first_holding a ≡ None → first_holding (a ++ b) ≡ None → first_holding b ≡ None
 second_part a b first none = sym (first_after a b first) ∙ none
 
-owned_entry : (entries : List Diversion) (path : Path) (owner : Owner) → IsTable entries → first_holding (owner_conditions entries path owner) ≡ None → HasEntry entries path
-owned_entry entries path owner table owned =
-    entry_there entries path table (unturned (is_diverted entries path) (none_holds NotDiverted (not (is_diverted entries path)) ((OtherOwner, not (is_owned (entry_of entries path) owner)) ∷ []) owned).0)
+module _ (rename : Bool) (from to : Path) (old now : World) (ship_from : is_ship_text from ≡ true) (ship_to : is_ship_text to ≡ true) (entries : List Diversion) (refusal : World → Option Refusal) (free : refusal old ≡ None) where
+  abbrev Moves : Bool → World → Bool
+  Moves one w = not one && moves_node rename false (sight_of rename w from to)
 
--- a diversion goes to another path
-pub aimed_other : (entries : List Diversion) (path target : Path) (owner : Owner) → IsTable entries → first_holding (owner_conditions entries path owner) ≡ None → target ≡ truename entries path → target ≢ path
-aimed_other entries path target owner table owned is e =
-    let has = owned_entry entries path owner table owned in
-    has.is.other (sym (is ∙ ap (λ o. target_of o path) has.found) ∙ e ∙ has.same)
+  -- where both places are one nothing is moved
+  finished_back : (one : Bool) → bytes_eq from to ≡ one → first_holding (move_conditions (Moves one old) (sight_of rename old from to)) ≡ None → (first_holding (move_conditions (Moves one now) (sight_of rename now from to)) ≡ None → refusal now ≡ None)
+      → IsUnderWay (λ w. doubled_if (Moves one w) from to w) (λ w. moved_if (Moves one w) from to w) entries old now → IsFinishedAgain entries refusal (λ w. moved_if (Moves one w) from to w) old now
+  finished_back false apart_there way again moment = finished rename false from to old now ship_from ship_to (apart from to apart_there) entries refusal free way (λ all. again all.way) moment
+  finished_back true here way again (inl same) = inr (ap (λ w. w diversions_path) same, ap refusal same ∙ free, λ q no_file no_spare. ap (λ w. w q) same)
+  finished_back true here way again (inr (inl both)) = inr (ap (λ w. w diversions_path) both.0, ap refusal both.0 ∙ free, λ q no_file no_spare. ap (λ w. w q) both.0)
+  finished_back true here way again (inr (inr recording)) = at recording.table
+    where
+      at : (now diversions_path ≡ old diversions_path) ⊎ HasDiversions now entries → IsFinishedAgain entries refusal (λ w. w) old now
+      at (inl before) = inr (before, again refl, recording.rest)
+      at (inr after) = inl (after, recording.rest)
 
-pub removing_again : (entries : List Diversion) (path : Path) (owner : Owner) (rename : Bool) (old now : World) → IsTable entries → is_ship_text path ≡ true → remove_refusal old entries path owner rename ≡ None → IsRemoving entries path rename old now
-    → IsFinishedAgain (without path entries) (λ w. remove_refusal w entries path owner rename) (restored path (truename entries path) rename) old now
-removing_again entries path owner rename old now table ship none moment =
-    let target = truename entries path in
-    let way : World → List (Refusal × Bool) = λ w. move_conditions (moves_node rename false (sight_of rename w target path)) (sight_of rename w target path) in
-    let owned : first_holding (owner_conditions entries path owner) ≡ None = first_part (owner_conditions entries path owner) (way old) none in
-    let has = owned_entry entries path owner table owned in
-    let aimed : target ≡ has.entry.target = ap (λ o. target_of o path) has.found in
-    finished rename false target path old now (ap is_ship_text aimed ∙ has.is.target.path) ship (λ e. has.is.other (sym aimed ∙ e ∙ has.same)) (without path entries) (λ w. remove_refusal w entries path owner rename) none
-    (second_part (owner_conditions entries path owner) (way old) owned none) (λ all. both_none (owner_conditions entries path owner) (way now) owned all.way) moment
+pub removing_again : (ways : Ways) (path : Path) (owner : Owner) (rename : Bool) (old now : World) → IsTable ways.entries → is_ship_text path ≡ true → remove_refusal old ways path owner rename ≡ None → IsRemoving ways path rename old now
+    → IsFinishedAgain (without path ways.entries) (λ w. remove_refusal w ways path owner rename) (undiverted ways path rename) old now
+removing_again ways path owner rename old now table ship none moment =
+    let from = truename ways path in
+    let to = resolved ways.aliases path in
+    let asked = owner_conditions ways.entries path owner in
+    let owned : first_holding asked ≡ None = first_part asked (back_conditions old from to rename) none in
+    finished_back rename from to old now (true_ships ways path table ship) (resolved_ships ways.aliases path ship) (without path ways.entries) (λ w. remove_refusal w ways path owner rename) none (bytes_eq from to) refl
+    (second_part asked (back_conditions old from to rename) owned none) (λ way. both_none asked (back_conditions now from to rename) owned way) moment

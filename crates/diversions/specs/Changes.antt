@@ -5,13 +5,14 @@ use Rattle.host_core.specs.World.{World, moved, put, SyncRoot, IsDirectory, IsLo
 use Rattle.host_core.specs.Events.{Event, Did}
 use Rattle.host_core.specs.Host.{State, AllFailed}
 use Rattle.host_core.specs.declared.node.Node.{Node}
+use Rattle.aliases.specs.Aliases.{resolved}
 use Rattle.administration.specs.Files.{NoDirectory, KeepsBesideFile, IsReplacing}
 use Rattle.administration.specs.Places.{home_path, diversions_path, temporary}
 use Rattle.diversions.specs.Entries.{without}
 use Rattle.diversions.specs.Lines.{HasDiversions}
-use Rattle.diversions.specs.Places.{truename}
 use Rattle.diversions.specs.Refusals.{has_same}
-use Rattle.diversions.specs.Sights.{brings_first, sight_of, moves_node}
+use Rattle.diversions.specs.Sights.{brings_first, sight_of, moves_node, moves_back}
+use Rattle.diversions.specs.Ways.{Ways, truename}
 use Rattle.diversions.specs.Writing.{table_file}
 use Rattle.diversions.specs.declared.entry.Owner.{Owner}
 use Rattle.diversions.specs.declared.entry.Diversion.{Diversion}
@@ -105,37 +106,54 @@ IsBroughtFirst rename listed from to old new = IsTrue new.honest → brings_firs
 
 -- adding
 
--- the packaged files with the node of a diverted path at its target, where it is moved
-abbrev pub diverted : Diversion → Bool → Seen → World → World
-diverted d rename seen w = moved_if (moves_node rename seen.listed (sight_of rename w d.path d.target)) d.path d.target w
+-- the packaged files with the node of one place at another, where it is moved
+abbrev pub set_aside : Path → Path → Bool → Seen → World → World
+set_aside from to rename seen w = moved_if (moves_node rename seen.listed (sight_of rename w from to)) from to w
 
 -- the same with the node at both
-abbrev pub diverted_twice : Diversion → Bool → Seen → World → World
-diverted_twice d rename seen w = doubled_if (moves_node rename seen.listed (sight_of rename w d.path d.target)) d.path d.target w
+abbrev pub set_aside_twice : Path → Path → Bool → Seen → World → World
+set_aside_twice from to rename seen w = doubled_if (moves_node rename seen.listed (sight_of rename w from to)) from to w
+
+-- from the place of a diverted path to that of its target
+abbrev pub diverted : Ways → Diversion → Bool → Seen → World → World
+diverted ways d = set_aside (resolved ways.aliases d.path) (resolved ways.aliases d.target)
+
+abbrev pub diverted_twice : Ways → Diversion → Bool → Seen → World → World
+diverted_twice ways d = set_aside_twice (resolved ways.aliases d.path) (resolved ways.aliases d.target)
 
 -- a table with an entry more at its end, unless it has it
 abbrev pub with_entry : List Diversion → Diversion → List Diversion
 with_entry entries d = cond (has_same entries d) entries (entries ++ d ∷ [])
 
 -- nothing where the table has it; else the node is moved and the table written
-abbrev pub HasAdded : List Diversion → Diversion → Bool → Seen → World → World → Type 0
-HasAdded entries d rename seen old new = MatchBool (has_same entries d) (new ≡ old) (IsRecorded (entries ++ d ∷ []) (diverted d rename seen old) new)
+abbrev pub HasAdded : Ways → Diversion → Bool → Seen → World → World → Type 0
+HasAdded ways d rename seen old new =
+    MatchBool (has_same ways.entries d) (new ≡ old) (IsRecorded (ways.entries ++ d ∷ []) (diverted ways d rename seen old) new)
 
-abbrev pub IsAdding : List Diversion → Diversion → Bool → Seen → World → World → Type 0
-IsAdding entries d rename seen old now = IsUnderWay (diverted_twice d rename seen) (diverted d rename seen) (entries ++ d ∷ []) old now
+abbrev pub IsAdding : Ways → Diversion → Bool → Seen → World → World → Type 0
+IsAdding ways d rename seen old now =
+    IsUnderWay (diverted_twice ways d rename seen) (diverted ways d rename seen) (ways.entries ++ d ∷ []) old now
 
 -- taking away
 
--- the packaged files with the node of a target back at its path, where it is moved
+-- the packaged files with the node of a target's place back at that of its path, where it is moved
 abbrev pub restored : Path → Path → Bool → World → World
-restored path target rename w = moved_if (moves_node rename false (sight_of rename w target path)) target path w
+restored path target rename w = moved_if (moves_back rename w target path) target path w
 
 -- the same with the node at both
 abbrev pub restored_twice : Path → Path → Bool → World → World
-restored_twice path target rename w = doubled_if (moves_node rename false (sight_of rename w target path)) target path w
+restored_twice path target rename w = doubled_if (moves_back rename w target path) target path w
 
-abbrev pub HasRemoved : List Diversion → Path → Bool → World → World → Type 0
-HasRemoved entries path rename old new = IsRecorded (without path entries) (restored path (truename entries path) rename old) new
+-- by the table in which the diversion still stands
+abbrev pub undiverted : Ways → Path → Bool → World → World
+undiverted ways path = restored (resolved ways.aliases path) (truename ways path)
 
-abbrev pub IsRemoving : List Diversion → Path → Bool → World → World → Type 0
-IsRemoving entries path rename old now = IsUnderWay (restored_twice path (truename entries path) rename) (restored path (truename entries path) rename) (without path entries) old now
+abbrev pub undiverted_twice : Ways → Path → Bool → World → World
+undiverted_twice ways path = restored_twice (resolved ways.aliases path) (truename ways path)
+
+abbrev pub HasRemoved : Ways → Path → Bool → World → World → Type 0
+HasRemoved ways path rename old new = IsRecorded (without path ways.entries) (undiverted ways path rename old) new
+
+abbrev pub IsRemoving : Ways → Path → Bool → World → World → Type 0
+IsRemoving ways path rename old now =
+    IsUnderWay (undiverted_twice ways path rename) (undiverted ways path rename) (without path ways.entries) old now

@@ -5,6 +5,10 @@ pub mod Lines
 pub mod Index
 pub mod Reading
 pub mod Diverted
+pub mod Ways
+pub mod Held
+pub mod Routes
+pub mod Kept
 pub mod Names
 pub mod Sights
 pub mod Refusals

@@ -1,11 +1,13 @@
 -- Why a diversion isn't added or taken away (dpkg-divert(1)): conditions in the order in which they are looked for.
 use Rattle.std.specs.Prelude.{◌&&◌, ◌||◌, Bool, true, false, not, cond, is_some, List, [], ◌∷◌, ◌++◌, Option, Some, None}
+use Rattle.std.specs.List.{list_any}
 use Rattle.std.specs.Str.{bytes_eq}
 use Rattle.host_core.specs.Paths.{Path}
 use Rattle.host_core.specs.World.{World}
+use Rattle.aliases.specs.Aliases.{Alias, resolved}
 use Rattle.diversions.specs.Entries.{is_diverted, is_target, entry_of}
-use Rattle.diversions.specs.Places.{truename}
-use Rattle.diversions.specs.Sights.{sight_of, is_directory_kind, moves_node}
+use Rattle.diversions.specs.Sights.{sight_of, is_directory_kind, moves_node, moves_back}
+use Rattle.diversions.specs.Ways.{Ways, truename}
 use Rattle.diversions.specs.declared.entry.Owner.{Owner}
 use Rattle.diversions.specs.declared.entry.Owner.TheVariants.{Local, Package}
 use Rattle.diversions.specs.declared.entry.Diversion.{Diversion}
@@ -48,16 +50,40 @@ move_conditions moves sight =
     ∷ (TargetExists, moves && (is_some sight.to && not sight.same))
     ∷ []
 
--- the target stands in an entry already, or the path is the target of one
-abbrev pub is_target_taken : List Diversion → Diversion → Bool
-is_target_taken entries d = is_diverted entries d.target || (is_target entries d.target || is_target entries d.path)
+-- two names have one place
+abbrev pub is_one_place : List Alias → Path → Path → Bool
+is_one_place aliases one other = bytes_eq (resolved aliases one) (resolved aliases other)
 
-abbrev pub add_conditions : Sight → List Diversion → Diversion → Bool → Seen → List (Refusal × Bool)
-add_conditions sight entries d rename seen =
-    (SamePath, bytes_eq d.target d.path)
+-- an entry diverts the place of the path for another owner
+abbrev pub is_rival : List Alias → Diversion → Diversion → Bool
+is_rival aliases d e = is_one_place aliases e.path d.path && not (same_owner e.owner d.owner)
+
+-- the listed name is diverted, or its place is for another owner
+abbrev pub is_path_taken : Ways → Diversion → Bool
+is_path_taken ways d = is_diverted ways.entries d.path || list_any (is_rival ways.aliases d) ways.entries
+
+-- an entry diverts the same place for the same owner, by another name
+abbrev pub is_twin : List Alias → Diversion → Diversion → Bool
+is_twin aliases d e = is_one_place aliases e.path d.path && same_owner e.owner d.owner
+
+-- the target stands in an entry already, or the path is the target of one
+abbrev pub is_name_taken : List Diversion → Diversion → Bool
+is_name_taken entries d = is_diverted entries d.target || (is_target entries d.target || is_target entries d.path)
+
+-- the same of their places, of an entry that isn't a twin
+abbrev pub is_place_taken : List Alias → Diversion → Diversion → Bool
+is_place_taken aliases d e =
+    not (is_twin aliases d e) && (is_one_place aliases e.path d.target || (is_one_place aliases e.target d.target || is_one_place aliases e.target d.path))
+
+abbrev pub is_target_taken : Ways → Diversion → Bool
+is_target_taken ways d = is_name_taken ways.entries d || list_any (is_place_taken ways.aliases d) ways.entries
+
+abbrev pub add_conditions : Sight → Ways → Diversion → Bool → Seen → List (Refusal × Bool)
+add_conditions sight ways d rename seen =
+    (SamePath, is_one_place ways.aliases d.target d.path)
     ∷ (Directory, is_directory_kind sight.from || is_directory_kind sight.to)
-    ∷ (AlreadyDiverted, is_diverted entries d.path)
-    ∷ (TargetDiverted, is_target_taken entries d)
+    ∷ (AlreadyDiverted, is_path_taken ways d)
+    ∷ (TargetDiverted, is_target_taken ways d)
     ∷ (Conffile, seen.conffile)
     ∷ move_conditions (moves_node rename seen.listed sight) sight
 
@@ -67,23 +93,30 @@ owner_conditions entries path owner =
     ∷ (OtherOwner, not (is_owned (entry_of entries path) owner))
     ∷ []
 
--- the node goes back from the target
-abbrev pub remove_conditions : Sight → List Diversion → Path → Owner → Bool → List (Refusal × Bool)
-remove_conditions sight entries path owner rename = owner_conditions entries path owner ++ move_conditions (moves_node rename false sight) sight
+-- what moving a node back from the place of a target needs
+abbrev pub back_conditions : World → Path → Path → Bool → List (Refusal × Bool)
+back_conditions w target path rename = move_conditions (moves_back rename w target path) (sight_of rename w target path)
 
-abbrev pub add_refusal : World → List Diversion → Diversion → Bool → Seen → Option Refusal
-add_refusal w entries d rename seen = first_holding (add_conditions (sight_of rename w d.path d.target) entries d rename seen)
+-- the node goes back from the place of the target to that of the path
+abbrev pub remove_conditions : World → Ways → Path → Owner → Bool → List (Refusal × Bool)
+remove_conditions w ways path owner rename =
+    owner_conditions ways.entries path owner ++ back_conditions w (truename ways path) (resolved ways.aliases path) rename
 
-abbrev pub remove_refusal : World → List Diversion → Path → Owner → Bool → Option Refusal
-remove_refusal w entries path owner rename = first_holding (remove_conditions (sight_of rename w (truename entries path) path) entries path owner rename)
+-- what is moved goes from the place of the path to that of the target
+abbrev pub add_refusal : World → Ways → Diversion → Bool → Seen → Option Refusal
+add_refusal w ways d rename seen =
+    first_holding (add_conditions (sight_of rename w (resolved ways.aliases d.path) (resolved ways.aliases d.target)) ways d rename seen)
+
+abbrev pub remove_refusal : World → Ways → Path → Owner → Bool → Option Refusal
+remove_refusal w ways path owner rename = first_holding (remove_conditions w ways path owner rename)
 
 abbrev pub answer_of : Option Refusal → Answer
 answer_of None = Done
 answer_of (Some refusal) = Refused refusal
 
 -- the very same diversion again is done before every refusal
-abbrev pub add_answer : World → List Diversion → Diversion → Bool → Seen → Answer
-add_answer w entries d rename seen = cond (has_same entries d) Done (answer_of (add_refusal w entries d rename seen))
+abbrev pub add_answer : World → Ways → Diversion → Bool → Seen → Answer
+add_answer w ways d rename seen = cond (has_same ways.entries d) Done (answer_of (add_refusal w ways d rename seen))
 
-abbrev pub remove_answer : World → List Diversion → Path → Owner → Bool → Answer
-remove_answer w entries path owner rename = answer_of (remove_refusal w entries path owner rename)
+abbrev pub remove_answer : World → Ways → Path → Owner → Bool → Answer
+remove_answer w ways path owner rename = answer_of (remove_refusal w ways path owner rename)

@@ -51,6 +51,10 @@ is_loose_kind (Some kind.SymbolicLink) = true
 abbrev pub moves_node : Bool → Bool → Sight → Bool
 moves_node rename listed sight = rename && (not listed && is_loose_kind sight.from)
 
+-- the same from the place of a target back to that of its path, where they are two
+abbrev pub moves_back : Bool → World → Path → Path → Bool
+moves_back rename w target path = not (bytes_eq target path) && moves_node rename false (sight_of rename w target path)
+
 -- with rename a file or link stands where one is to be moved: a command that was stopped may have put it there
 abbrev pub brings_first : Bool → Bool → Sight → Bool
 brings_first rename listed sight = rename && (not listed && is_loose_kind sight.to)

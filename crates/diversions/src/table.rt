@@ -6,7 +6,7 @@ ghost use Rattle.std.specs.String.{string_bytes};
 ghost use Rattle.diversions.specs.declared.entry.Diversion.{Diversion as ADiversion};
 ghost use Rattle.diversions.specs.Entries.{is_diverted, is_target, entry_of, without, IsFree, IsTable};
 ghost use Rattle.diversions.specs.Index.{entries_of, IsIndex};
-ghost use Rattle.diversions.specs.Targets.{entry_to};
+ghost use Rattle.diversions.specs.Targets.{entry_named};
 
 use crate::entry::Diversion;
 use indexmap::map::Values;
@@ -23,6 +23,12 @@ pub(crate) struct Table {
 }
 
 impl Model for Table {
+    ghost use Rattle.std.specs.Prelude.{List};
+    ghost use Rattle.std.specs.HashSet.{contains_text};
+    ghost use Rattle.std.specs.String.{string_bytes};
+    ghost use Rattle.diversions.specs.declared.entry.Diversion.{Diversion as ADiversion};
+    ghost use Rattle.diversions.specs.Index.{entries_of, IsIndex};
+
     ghost Value = { List ADiversion };
 
     ghost view = { λ t. entries_of t.entries.entries };
@@ -64,6 +70,10 @@ impl Table {
         }
     }
 
+    pub(crate) fn alloc(&self) -> Global {
+        self.alloc
+    }
+
     /// What holds of each table.
     pub(crate) fn law(&self)
         ensures { IsTable self.now }
@@ -98,9 +108,9 @@ impl Table {
         self.targets.contains(path)
     }
 
-    /// The entry that has a path as its target. Only where there is one the entries are gone over.
-    pub(crate) fn entry_to(&self, target: &str) -> Option<&Diversion>
-        ensures { option_copied result ≡ entry_to self.now target.now }
+    /// The entry whose target is this name. Only where there is one the entries are gone over.
+    pub(crate) fn entry_named(&self, target: &str) -> Option<&Diversion>
+        ensures { option_copied result ≡ entry_named self.now target.now }
     {
         if !self.is_target(target) {
             return None;

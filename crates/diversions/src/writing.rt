@@ -14,6 +14,7 @@ ghost use Rattle.diversions.specs.Writing.{entry_text, table_text};
 
 use crate::entry::{Diversion, Owner};
 use crate::moves::{bring, move_node};
+use crate::route::Route;
 use crate::sight::Way;
 use crate::table::Table;
 use administration::{DIVERSIONS, replace};
@@ -109,20 +110,21 @@ fn save<H: Host>(alloc: Global, host: &mut H, node: &Node) -> Result<(), HostFau
 fn carry_out<H: Host>(
     alloc: Global,
     host: &mut H,
-    from: &ShipPath,
-    to: &ShipPath,
+    route: &Route,
     way: Way,
     node: &Node,
 ) -> Result<(), HostFault>
     requires file { IsFile node.now }
     requires ready { Needs (H.state host.old) IsTableReady }
     requires can { Needs (H.state host.old)
-        (λ w. IsTrue way.moves → CanMove way.brings from.now to.now w) }
+        (λ w. IsTrue way.moves → CanMove way.brings route.now.from route.now.to w) }
     ensures done { Leaves result
         (λ old new.
-        IsReplaced diversions_path node.now (moved_if way.moves from.now to.now old) new)
+        IsReplaced diversions_path node.now
+        (moved_if way.moves route.now.from route.now.to old) new)
         (H.state host.old) (H.state host.new) }
-    ensures any_moment { AtEachMoment (IsCarrying node.now way.moves from.now to.now)
+    ensures any_moment { AtEachMoment
+        (IsCarrying node.now way.moves route.now.from route.now.to)
         (H.state host.old) (H.state host.new) }
     ensures brought { IsTrue way.brings
         → OnOk result (BeginsOnDisk (H.state host.old) (H.state host.new)) }
@@ -130,10 +132,10 @@ fn carry_out<H: Host>(
     ensures silent { Silent (H.state host.old) (H.state host.new) }
     ensures counts { Counts (H.state host.old) (H.state host.new) result }
 {
-    from.law();
-    to.law();
+    route.from.law();
+    route.to.law();
     bring(host, way.brings)?;
-    move_node(host, from, to, way.moves, way.brings)?;
+    move_node(host, &route.from, &route.to, way.moves, way.brings)?;
     save(alloc, host, node)
 }
 
@@ -143,19 +145,20 @@ pub(crate) fn record_new<H: Host>(
     host: &mut H,
     table: &Table,
     entry: &Diversion,
+    route: &Route,
     way: Way,
 ) -> Result<(), HostFault>
     requires may { IsTable (table.now ++ entry.now ∷ []) }
     requires ready { Needs (H.state host.old) IsTableReady }
     requires can { Needs (H.state host.old)
-        (λ w. IsTrue way.moves → CanMove way.brings entry.now.path entry.now.target w) }
+        (λ w. IsTrue way.moves → CanMove way.brings route.now.from route.now.to w) }
     ensures done { Leaves result
         (λ old new. IsRecorded (table.now ++ entry.now ∷ [])
-        (moved_if way.moves entry.now.path entry.now.target old) new)
+        (moved_if way.moves route.now.from route.now.to old) new)
         (H.state host.old) (H.state host.new) }
     ensures any_moment { AtEachMoment
-        (IsUnderWay (doubled_if way.moves entry.now.path entry.now.target)
-        (moved_if way.moves entry.now.path entry.now.target) (table.now ++ entry.now ∷ []))
+        (IsUnderWay (doubled_if way.moves route.now.from route.now.to)
+        (moved_if way.moves route.now.from route.now.to) (table.now ++ entry.now ∷ []))
         (H.state host.old) (H.state host.new) }
     ensures brought { IsTrue way.brings
         → OnOk result (BeginsOnDisk (H.state host.old) (H.state host.new)) }
@@ -163,31 +166,32 @@ pub(crate) fn record_new<H: Host>(
     ensures silent { Silent (H.state host.old) (H.state host.new) }
     ensures counts { Counts (H.state host.old) (H.state host.new) result }
 {
-    entry.path.law();
-    entry.target.law();
+    route.from.law();
+    route.to.law();
     let node = file_of(text_with(alloc, table, entry)?);
-    carry_out(alloc, host, &entry.path, &entry.target, way, &node)
+    carry_out(alloc, host, route, way, &node)
 }
 
-/// Moves the node at the target of a path's entry back, where it is to be moved, and writes the table without the entry.
+/// Moves a node back, where it is to be moved, and writes the table without the entry of a path.
 pub(crate) fn record_without<H: Host>(
     alloc: Global,
     host: &mut H,
     table: &Table,
     path: &ShipPath,
-    target: &ShipPath,
+    route: &Route,
     way: Way,
 ) -> Result<(), HostFault>
     requires ready { Needs (H.state host.old) IsTableReady }
     requires can { Needs (H.state host.old)
-        (λ w. IsTrue way.moves → CanMove way.brings target.now path.now w) }
+        (λ w. IsTrue way.moves → CanMove way.brings route.now.from route.now.to w) }
     ensures done { Leaves result
         (λ old new.
-        IsRecorded (without path.now table.now) (moved_if way.moves target.now path.now old) new)
+        IsRecorded (without path.now table.now)
+        (moved_if way.moves route.now.from route.now.to old) new)
         (H.state host.old) (H.state host.new) }
     ensures any_moment { AtEachMoment
-        (IsUnderWay (doubled_if way.moves target.now path.now)
-        (moved_if way.moves target.now path.now) (without path.now table.now))
+        (IsUnderWay (doubled_if way.moves route.now.from route.now.to)
+        (moved_if way.moves route.now.from route.now.to) (without path.now table.now))
         (H.state host.old) (H.state host.new) }
     ensures brought { IsTrue way.brings
         → OnOk result (BeginsOnDisk (H.state host.old) (H.state host.new)) }
@@ -196,8 +200,8 @@ pub(crate) fn record_without<H: Host>(
     ensures counts { Counts (H.state host.old) (H.state host.new) result }
 {
     table.law();
-    path.law();
-    target.law();
+    route.from.law();
+    route.to.law();
     let node = file_of(text_without(alloc, table, path.as_str())?);
-    carry_out(alloc, host, target, path, way, &node)
+    carry_out(alloc, host, route, way, &node)
 }

@@ -1,5 +1,6 @@
 use Rattle.std.proofs.Common.{◌∙◌, ap, sym, subst}
 use Rattle.diversions.specs.Entries.{IsShipLine, is_owner}
+use Rattle.diversions.specs.Held.{ways_of}
 use Rattle.diversions.proofs.Passing.{brought_of}
 use Rattle.diversions.proofs.Turning.{goes_here}
 use Rattle.diversions.proofs.changing.add_diversion.Goals as goal
@@ -22,5 +23,5 @@ add_entry-requires-clause-formed g c = record {
 
 pub returns-clause-brought : goal.returns-clause-brought
 returns-clause-brought g c =
-    brought_of c.args.table.now c.args.rename c.args.seen.listed c.add_entry.result (g.H.Host.state c.args.host.now) (g.H.Host.state c.add_entry.new.host) _ _ _ _ _ _
+    brought_of (ways_of c.args.ways.now) c.args.rename c.args.seen.listed c.add_entry.result (g.H.Host.state c.args.host.now) (g.H.Host.state c.add_entry.new.host) _ _ _ _ _ _
     c.in_ok-copy.ensures c.in_ok-copy-2.ensures c.in_ok-copy-3.ensures c.add_entry.ensures.brought

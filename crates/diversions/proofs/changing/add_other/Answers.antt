@@ -1,67 +1,19 @@
-use Rattle.std.proofs.Common.{◌≡◌, ◌++◌, ◌∷◌, [], None, inl, refl, sym, subst, ◌∙◌}
-use Rattle.host_core.proofs.Moments.{since_reads}
-use Rattle.diversions.specs.Changes.{CanMove, diverted, diverted_twice, doubled_if, moved_if}
-use Rattle.diversions.specs.Refusals.{first_holding, move_conditions}
-use Rattle.diversions.proofs.Moving.{since_sight}
-use Rattle.diversions.proofs.Passing.{brought_behind, can_move, doubled_same, moved_same, other_added, table_with_added, way_of_added}
-use Rattle.diversions.proofs.Turning.{looks_turn, looks_then_turn, later_by}
+use Rattle.std.proofs.Common.{subst}
+use Rattle.std.specs.Prelude.{◌++◌, ◌∷◌, []}
+use Rattle.host_core.specs.Host.{AtEachMoment}
+use Rattle.diversions.specs.Changes.{IsBroughtFirst, IsUnderWay, OnDone, set_aside, set_aside_twice}
+use Rattle.diversions.specs.declared.route.Route.{Route}
+use Rattle.diversions.proofs.Turning.{goes_here}
 use Rattle.diversions.proofs.changing.add_other.Goals as goal
 
-pub returns-in_err-sight-clause-any_moment : goal.returns-in_err-sight-clause-any_moment
-returns-in_err-sight-clause-any_moment g c = since_reads _ _ _ c.look_around.ensures.looks.reads (λ fs all. inl refl)
-
-pub returns-in_err-sight-clause-turns : goal.returns-in_err-sight-clause-turns
-returns-in_err-sight-clause-turns g c = looks_turn _ _ c.look_around.ensures.looks.reads
-
-pub returns-in-Some-clause-any_moment : goal.returns-in-Some-clause-any_moment
-returns-in-Some-clause-any_moment g c = since_reads _ _ _ c.look_around.ensures.looks.reads (λ fs all. inl refl)
-
-pub returns-in-Some-clause-turns : goal.returns-in-Some-clause-turns
-returns-in-Some-clause-turns g c = looks_turn _ _ c.look_around.ensures.looks.reads
-
-pub enter-requires-clause-may : goal.enter-requires-clause-may
-enter-requires-clause-may g c =
-    table_with_added c.in_ok-sight.sight c.args.table.now c.args.entry.now c.args.rename c.args.seen (sym c.add_refusal.ensures ∙ c.in_default.is) c.requires.formed c.law.ensures
-
-pub enter-requires-clause-can : goal.enter-requires-clause-can
-enter-requires-clause-can g c = λ h moves.
-    let d = c.args.entry.now in
-    let way = c.way_of-way.result in
-    let none = sym c.add_refusal.ensures ∙ c.in_default.is in
-    subst (CanMove way.brings d.path d.target) (sym c.look_around.ensures.looks.reads.world)
-    (can_move way.moves way.brings c.args.rename c.args.seen.listed c.in_ok-sight.sight _ d.path d.target c.way_of-way.ensures.moves c.way_of-way.ensures.brings (c.in_ok-sight.ensures.looks.found h)
-    (other_added c.in_ok-sight.sight c.args.table.now d c.args.rename c.args.seen none) c.requires.formed.target.path
-    (subst (λ b. first_holding (move_conditions b c.in_ok-sight.sight) ≡ None) (sym c.way_of-way.ensures.moves)
-    (way_of_added c.in_ok-sight.sight c.args.table.now d c.args.rename c.args.seen none)) moves)
-
-pub returns-in_err-enter-clause-any_moment : goal.returns-in_err-enter-clause-any_moment
-returns-in_err-enter-clause-any_moment g c =
-    let d = c.args.entry.now in
-    let way = c.way_of-way.result in
-    let same = c.look_around.ensures.looks.reads.world in
-    since_sight (doubled_if way.moves d.path d.target) (diverted_twice d c.args.rename c.args.seen) (moved_if way.moves d.path d.target) (diverted d c.args.rename c.args.seen) (c.args.table.now ++ d ∷ []) _ _ _ c.look_around.ensures.looks.reads
-    (λ h. doubled_same way.moves c.args.rename c.args.seen.listed c.in_ok-sight.sight _ _ d.path d.target c.way_of-way.ensures.moves (c.in_ok-sight.ensures.looks.found (c.enter.ensures.silent.honest h)) same)
-    (λ h. moved_same way.moves c.args.rename c.args.seen.listed c.in_ok-sight.sight _ _ d.path d.target c.way_of-way.ensures.moves (c.in_ok-sight.ensures.looks.found (c.enter.ensures.silent.honest h)) same)
-    c.enter.ensures.any_moment
-
-pub returns-in_err-enter-clause-turns : goal.returns-in_err-enter-clause-turns
-returns-in_err-enter-clause-turns g c = looks_then_turn _ _ _ c.look_around.ensures.looks.reads (later_by _ _ _ c.enter.ensures.any_moment) c.enter.ensures.turns
+pub returns-in_err-route-clause-turns : goal.returns-in_err-route-clause-turns
+returns-in_err-route-clause-turns g c = goes_here _
 
 pub returns-clause-any_moment : goal.returns-clause-any_moment
 returns-clause-any_moment g c =
-    let d = c.args.entry.now in
-    let way = c.way_of-way.result in
-    let same = c.look_around.ensures.looks.reads.world in
-    since_sight (doubled_if way.moves d.path d.target) (diverted_twice d c.args.rename c.args.seen) (moved_if way.moves d.path d.target) (diverted d c.args.rename c.args.seen) (c.args.table.now ++ d ∷ []) _ _ _ c.look_around.ensures.looks.reads
-    (λ h. doubled_same way.moves c.args.rename c.args.seen.listed c.in_ok-sight.sight _ _ d.path d.target c.way_of-way.ensures.moves (c.in_ok-sight.ensures.looks.found (c.enter.ensures.silent.honest h)) same)
-    (λ h. moved_same way.moves c.args.rename c.args.seen.listed c.in_ok-sight.sight _ _ d.path d.target c.way_of-way.ensures.moves (c.in_ok-sight.ensures.looks.found (c.enter.ensures.silent.honest h)) same)
-    c.enter.ensures.any_moment
-
-pub returns-clause-turns : goal.returns-clause-turns
-returns-clause-turns g c = looks_then_turn _ _ _ c.look_around.ensures.looks.reads (later_by _ _ _ c.enter.ensures.any_moment) c.enter.ensures.turns
+    subst (λ (r : Route). AtEachMoment (IsUnderWay (set_aside_twice r.from r.to c.args.rename c.args.seen) (set_aside r.from r.to c.args.rename c.args.seen) (c.args.ways.now.entries ++ c.args.entry.now ∷ [])) (g.H.Host.state c.args.host.now) (g.H.Host.state c.add_along.new.host))
+    c.in_ok-route.ensures c.add_along.ensures.any_moment
 
 pub returns-clause-brought : goal.returns-clause-brought
 returns-clause-brought g c =
-    let d = c.args.entry.now in
-    brought_behind c.args.rename c.args.seen.listed c.in_ok-sight.sight c.way_of-way.result.brings (g.H.Host.state c.args.host.now) (g.H.Host.state c.look_around.new.host) (g.H.Host.state c.enter.new.host) d.path d.target c.way_of-way.ensures.brings
-    (λ h. c.in_ok-sight.ensures.looks.found (c.enter.ensures.silent.honest h)) c.look_around.ensures.looks.reads (λ is. c.in_ok-enter.ensures.brought is)
+    subst (λ (r : Route). OnDone c.add_along.result (IsBroughtFirst c.args.rename c.args.seen.listed r.from r.to (g.H.Host.state c.args.host.now) (g.H.Host.state c.add_along.new.host))) c.in_ok-route.ensures c.add_along.ensures.brought

@@ -16,14 +16,14 @@ returns-in_err-bring-clause-turns g c = λ none area h. (turns_still area _ _ h 
 
 pub move_node-requires : goal.move_node-requires
 move_node-requires g c = record {
-  can = λ h moves. subst (CanMove c.args.way.brings c.args.from.now c.args.to.now) (sym (since_now _ _ _ c.bring.ensures.any_moment h)) (c.requires.can (c.bring.ensures.silent.honest h) moves);
+  can = λ h moves. subst (CanMove c.args.way.brings c.args.route.now.from c.args.route.now.to) (sym (since_now _ _ _ c.bring.ensures.any_moment h)) (c.requires.can (c.bring.ensures.silent.honest h) moves);
 }
 
 pub returns-in_err-move_node-clause-any_moment : goal.returns-in_err-move_node-clause-any_moment
 returns-in_err-move_node-clause-any_moment g c =
     let way = c.args.way in
-    let from = c.args.from.now in
-    let to = c.args.to.now in
+    let from = c.args.route.now.from in
+    let to = c.args.route.now.to in
     let a = g.H.Host.state c.args.host.now in
     let b = g.H.Host.state c.bring.new.host in
     since_then (λ so_far. IsCarrying c.args.node.now way.moves from to a.world) _ _ _ (since_weaker _ _ _ _ (λ so_far w is. inl is) c.bring.ensures.any_moment)
@@ -47,8 +47,8 @@ returns-in_err-move_node-clause-turns g c = λ none area h.
 pub save-requires-clause-ready : goal.save-requires-clause-ready
 save-requires-clause-ready g c = λ h.
     let way = c.args.way in
-    let from = c.args.from.now in
-    let to = c.args.to.now in
+    let from = c.args.route.now.from in
+    let to = c.args.route.now.to in
     let hb = c.move_node.ensures.silent.honest h in
     let ha = c.bring.ensures.silent.honest hb in
     let a = g.H.Host.state c.args.host.now in
@@ -59,8 +59,8 @@ save-requires-clause-ready g c = λ h.
 pub returns-clause-done : goal.returns-clause-done
 returns-clause-done g c = λ h.
     let way = c.args.way in
-    let from = c.args.from.now in
-    let to = c.args.to.now in
+    let from = c.args.route.now.from in
+    let to = c.args.route.now.to in
     let hc = c.save.ensures.silent.honest h in
     let hb = c.move_node.ensures.silent.honest hc in
     let a = g.H.Host.state c.args.host.now in
@@ -73,8 +73,8 @@ returns-clause-done g c = λ h.
 pub returns-clause-any_moment : goal.returns-clause-any_moment
 returns-clause-any_moment g c =
     let way = c.args.way in
-    let from = c.args.from.now in
-    let to = c.args.to.now in
+    let from = c.args.route.now.from in
+    let to = c.args.route.now.to in
     let a = g.H.Host.state c.args.host.now in
     let b = g.H.Host.state c.bring.new.host in
     let mid = g.H.Host.state c.move_node.new.host in

@@ -16,7 +16,7 @@ returns-clause-done g c = λ h.
     let b = c.carry_out.ensures.silent.honest h in
     let left = without c.args.path.now c.args.table.now in
     on_ok c.carry_out.result (λ replaced. recorded_by left _ _ _ (file_is left _ _ c.file_of-node.ensures (c.in_ok-text_without.ensures ∙ ap (λ (p : Path). table_text (without p c.args.table.now)) c.as_str.ensures)) (table_without c.args.path.now c.args.table.now c.law.ensures)
-    (ready_moved c.args.way.moves c.args.way.brings c.args.target.now c.args.path.now _ c.law-3.ensures c.law-2.ensures (c.requires.ready b) (c.requires.can b)) replaced)
+    (ready_moved c.args.way.moves c.args.way.brings c.args.route.now.from c.args.route.now.to _ c.law-2.ensures c.law-3.ensures (c.requires.ready b) (c.requires.can b)) replaced)
     (c.carry_out.ensures.done h)
 
 pub returns-clause-any_moment : goal.returns-clause-any_moment
@@ -24,6 +24,6 @@ returns-clause-any_moment g c =
     let left = without c.args.path.now c.args.table.now in
     since_weaker_if _ _ _ _ (λ h so_far w is.
     let b = c.carry_out.ensures.silent.honest h in
-    under_way_by c.args.way.moves c.args.target.now c.args.path.now left _ _ w (file_is left _ _ c.file_of-node.ensures (c.in_ok-text_without.ensures ∙ ap (λ (p : Path). table_text (without p c.args.table.now)) c.as_str.ensures)) (table_without c.args.path.now c.args.table.now c.law.ensures)
-    (home_stays c.args.way.moves c.args.target.now c.args.path.now _ c.law-3.ensures c.law-2.ensures) (ready_moved c.args.way.moves c.args.way.brings c.args.target.now c.args.path.now _ c.law-3.ensures c.law-2.ensures (c.requires.ready b) (c.requires.can b)) (ready_doubled c.args.way.moves c.args.way.brings c.args.target.now c.args.path.now _ c.law-2.ensures (c.requires.ready b) (c.requires.can b)) is)
+    under_way_by c.args.way.moves c.args.route.now.from c.args.route.now.to left _ _ w (file_is left _ _ c.file_of-node.ensures (c.in_ok-text_without.ensures ∙ ap (λ (p : Path). table_text (without p c.args.table.now)) c.as_str.ensures)) (table_without c.args.path.now c.args.table.now c.law.ensures)
+    (home_stays c.args.way.moves c.args.route.now.from c.args.route.now.to _ c.law-2.ensures c.law-3.ensures) (ready_moved c.args.way.moves c.args.way.brings c.args.route.now.from c.args.route.now.to _ c.law-2.ensures c.law-3.ensures (c.requires.ready b) (c.requires.can b)) (ready_doubled c.args.way.moves c.args.way.brings c.args.route.now.from c.args.route.now.to _ c.law-3.ensures (c.requires.ready b) (c.requires.can b)) is)
     c.carry_out.ensures.any_moment
