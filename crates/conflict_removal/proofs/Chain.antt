@@ -4,7 +4,7 @@ use Rattle.std.proofs.lemmas.List.{drop_more, take_more}
 use Rattle.std.proofs.lemmas.List.Elements.{Contains-append_left, Contains-push}
 use Rattle.host_core.specs.Host.{State}
 use Rattle.host_core.specs.declared.call.Call.{Call}
-use Rattle.diversions.specs.declared.entry.Diversion.{Diversion}
+use Rattle.diversions.specs.Ways.{Ways}
 use Rattle.status_records.specs.Records.{record_in}
 use Rattle.status_records.specs.declared.record.Record.{Record}
 use Rattle.unit_stages.specs.Holding.{Holding}
@@ -22,9 +22,9 @@ first_of_three None b c = refl
 first_of_three (Some call) b c = refl
 
 -- one more
-module _ (entries : List Diversion) (name : List ℕ) (own : Option Call) (after : Holding) (t : State) (now : List Called) where
-  pub removed_more : (names : List (List ℕ)) (failed : Option Call) (before mid : Holding) (s m : State) (told between : List Called) → HaveBeenRemoved entries names failed before mid s m told between
-      → IsRemovedOrGone entries name own mid after m t between now → HaveBeenRemoved entries (names ++ name ∷ []) (first_failed failed own) before after s t told now
+module _ (ways : Ways) (name : List ℕ) (own : Option Call) (after : Holding) (t : State) (now : List Called) where
+  pub removed_more : (names : List (List ℕ)) (failed : Option Call) (before mid : Holding) (s m : State) (told between : List Called) → HaveBeenRemoved ways names failed before mid s m told between
+      → IsRemovedOrGone ways name own mid after m t between now → HaveBeenRemoved ways (names ++ name ∷ []) (first_failed failed own) before after s t told now
   removed_more [] failed before mid s m told between none one = (
     own,
     None,
@@ -32,9 +32,9 @@ module _ (entries : List Diversion) (name : List ℕ) (own : Option Call) (after
     t,
     now,
     ap (λ (f : Option Call). first_failed f own) none.0 ∙ first_alone own,
-    subst (λ (l : List Called). IsRemovedOrGone entries name own before after s t l now) none.3
-        (subst (λ (x : State). IsRemovedOrGone entries name own before after x t between now) none.2
-        (subst (λ (h : Holding). IsRemovedOrGone entries name own h after m t between now) none.1 one)),
+    subst (λ (l : List Called). IsRemovedOrGone ways name own before after s t l now) none.3
+        (subst (λ (x : State). IsRemovedOrGone ways name own before after x t between now) none.2
+        (subst (λ (h : Holding). IsRemovedOrGone ways name own h after m t between now) none.1 one)),
     (refl, refl, refl, refl),
   )
   removed_more (first ∷ names) failed before mid s m told between some one = (

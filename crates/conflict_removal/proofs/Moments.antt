@@ -6,7 +6,7 @@ use Rattle.host_core.specs.Events.{Event}
 use Rattle.host_core.specs.Host.{Needs, Since, State}
 use Rattle.host_core.proofs.Moments.{since_then, since_weaker_if}
 use Rattle.host_core.specs.declared.call.Call.{Call}
-use Rattle.diversions.specs.declared.entry.Diversion.{Diversion}
+use Rattle.diversions.specs.Ways.{Ways}
 use Rattle.file_lists.specs.Filed.{Filed}
 use Rattle.removal_engine.specs.Units.{HasCalled, IsAmidUnit, given}
 use Rattle.removal_engine.specs.declared.extent.Extent.TheVariants.{InFavour}
@@ -27,18 +27,18 @@ order_found d f w order = (
   },
 )
 
-module _ (entries : List Diversion) where
-  next_start : (names : List (List ℕ)) (h : Holding) (w : World) → IsAmidNext entries names h w [] w
+module _ (ways : Ways) where
+  next_start : (names : List (List ℕ)) (h : Holding) (w : World) → IsAmidNext ways names h w [] w
   next_start [] h w = (refl, refl)
   next_start (name ∷ names) h w = inl (refl, refl)
 
-  unit_found : (name : List ℕ) (h : Holding) (old now : World) (so_far : List Event) → CanBeOpened old → IsAmidUnit (given InFavour name entries h) old so_far now → CanBeOpened now
+  unit_found : (name : List ℕ) (h : Holding) (old now : World) (so_far : List Event) → CanBeOpened old → IsAmidUnit (given InFavour name ways h) old so_far now → CanBeOpened now
   unit_found name h old now so_far found (inl only) = subst CanBeOpened (sym only.0) found
   unit_found name h old now so_far found (inr amid) = (amid.running.table, amid.running.opens)
 
   module _ (names : List (List ℕ)) where
     -- nothing is done yet
-    pub since_removals_start : (d : Recorded) (f : Filed) (s : State) → Needs s (IsInOrder d f.lists) → Since (IsAmidRemovals entries names (holding d f) s) s s
+    pub since_removals_start : (d : Recorded) (f : Filed) (s : State) → Needs s (IsInOrder d f.lists) → Since (IsAmidRemovals ways names (holding d f) s) s s
     since_removals_start d f s order = record {
       added = [];
       events = sym (append-nil s.events);
@@ -66,11 +66,11 @@ module _ (entries : List Diversion) where
 
     -- the next one behind those that are done
     module _ (done left : List (List ℕ)) (name : List ℕ) (are : names ≡ done ++ name ∷ left) (failed : Option Call) (before : Holding) (d : Recorded) (f : Filed) (s m t : State) (told between : List Called)
-        (removed : HaveBeenRemoved entries done failed before (holding d f) s m told between) where
-      pub since_removal : Needs m (IsInOrder d f.lists) → Since (IsAmidRemovals entries names before s) s m → Since (IsAmidUnit (given InFavour name entries (holding d f)) m.world) m t → Since (IsAmidRemovals entries names before s) s t
+        (removed : HaveBeenRemoved ways done failed before (holding d f) s m told between) where
+      pub since_removal : Needs m (IsInOrder d f.lists) → Since (IsAmidRemovals ways names before s) s m → Since (IsAmidUnit (given InFavour name ways (holding d f)) m.world) m t → Since (IsAmidRemovals ways names before s) s t
       since_removal order first second =
-          since_then (IsAmidRemovals entries names before s) s m t first
-          (since_weaker_if (IsAmidUnit (given InFavour name entries (holding d f)) m.world) (λ so_far. IsAmidRemovals entries names before s (first.added ++ so_far)) m t
+          since_then (IsAmidRemovals ways names before s) s m t first
+          (since_weaker_if (IsAmidUnit (given InFavour name ways (holding d f)) m.world) (λ so_far. IsAmidRemovals ways names before s (first.added ++ so_far)) m t
           (λ h so_far w amid. record {
             done = done;
             left = name ∷ left;
@@ -91,11 +91,11 @@ module _ (entries : List Diversion) where
           }) second)
 
       -- it is broken off
-      pub called_next : (now : List Called) → HasCalled (given InFavour name entries (holding d f)) m t between now → HaveCalled entries names before s t told now
+      pub called_next : (now : List Called) → HasCalled (given InFavour name ways (holding d f)) m t between now → HaveCalled ways names before s t told now
       called_next now called = record { done = done; left = name ∷ left; are = are; failed = failed; mid = holding d f; m = m; between = between; removed = removed; called = called }
 
     -- the calls of all of them
-    pub called_all : (failed : Option Call) (before after : Holding) (s t : State) (told now : List Called) → HaveBeenRemoved entries names failed before after s t told now → HaveCalled entries names before s t told now
+    pub called_all : (failed : Option Call) (before after : Holding) (s t : State) (told now : List Called) → HaveBeenRemoved ways names failed before after s t told now → HaveCalled ways names before s t told now
     called_all failed before after s t told now removed = record {
       done = names;
       left = [];

@@ -7,7 +7,7 @@ use Rattle.host_core.specs.World.{World}
 use Rattle.host_core.specs.Events.{Event, scripts_of}
 use Rattle.host_core.specs.Host.{Silent, State}
 use Rattle.host_core.specs.declared.call.Call.{Call}
-use Rattle.diversions.specs.declared.entry.Diversion.{Diversion}
+use Rattle.diversions.specs.Ways.{Ways}
 use Rattle.removal_engine.specs.Units.{HasCalled, HasEnded, HasRemoved, IsAmidUnit, IsRemovable, given}
 use Rattle.removal_engine.specs.declared.extent.Extent.TheVariants.{InFavour}
 use Rattle.status_db.specs.Recorded.{Recorded}
@@ -49,10 +49,10 @@ pub record IsInOrderWith (h : Holding) (w : World) : Type 0 where
 abbrev pub CanBeOpened : World → Type 0
 CanBeOpened w = (table : List Record) × IsOpenable table w
 
-module _ (entries : List Diversion) where
+module _ (ways : Ways) where
   -- One of them, as its record is then: it is removed from its files on, or passed over where nothing of it can be.
   pub data IsRemovedOrGone (name : List ℕ) (failed : Option Call) (before after : Holding) (s t : State) (told now : List Called) : Type 0 where
-    removed : HasRemoved (given InFavour name entries before) failed after s t told now → HasEnded InFavour name failed before.records after.records
+    removed : HasRemoved (given InFavour name ways before) failed after s t told now → HasEnded InFavour name failed before.records after.records
         → (IsTrue t.honest → IsInOrderWith after t.world) → IsRemovedOrGone name failed before after s t told now
     passed : (IsRemovable InFavour before.records name → ⊥) → failed ≡ None → after ≡ before → t ≡ s → now ≡ told → IsRemovedOrGone name failed before after s t told now
 
@@ -66,7 +66,7 @@ module _ (entries : List Diversion) where
   -- the next one is under way
   abbrev pub IsAmidNext : List (List ℕ) → Holding → World → List Event → World → Type 0
   IsAmidNext [] h old so_far now = (now ≡ old) × (scripts_of so_far ≡ [])
-  IsAmidNext (name ∷ names) h old so_far now = IsAmidUnit (given InFavour name entries h) old so_far now
+  IsAmidNext (name ∷ names) h old so_far now = IsAmidUnit (given InFavour name ways h) old so_far now
 
   -- At each moment some are removed, and the next is under way; the next opening finds records.
   pub record IsAmidRemovals (names : List (List ℕ)) (before : Holding) (s : State) (so_far : List Event) (now : World) : Type 0 where
@@ -90,7 +90,7 @@ module _ (entries : List Diversion) where
   -- the calls of the next one: none where no one is left, or the first of those that it may make
   abbrev pub HasCalledNext : List (List ℕ) → Holding → State → State → List Called → List Called → Type 0
   HasCalledNext [] h s t told now = Silent s t × (now ≡ told)
-  HasCalledNext (name ∷ names) h s t told now = HasCalled (given InFavour name entries h) s t told now
+  HasCalledNext (name ∷ names) h s t told now = HasCalled (given InFavour name ways h) s t told now
 
   -- The calls, whatever the answer: all of some, and the first of those of the next.
   pub record HaveCalled (names : List (List ℕ)) (before : Holding) (s t : State) (told now : List Called) : Type 0 where

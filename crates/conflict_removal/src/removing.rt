@@ -47,9 +47,9 @@ fn remove_one<H: Host>(
 ) -> Result<Option<Call>, HostFault>
     requires order { Needs (H.state host.old)
         (IsInOrder administration.old.database administration.old.lists.lists) }
-    requires open { IsOpen diversions.now.entries administration.old }
+    requires open { IsOpen diversions.now.ways administration.old }
     ensures removed { IfOk result
-        (λ failed. IsRemovedOrGone diversions.now.entries name.now failed
+        (λ failed. IsRemovedOrGone diversions.now.ways name.now failed
         (holding_of administration.old) (holding_of administration.new)
         (H.state host.old) (H.state host.new) told.old.items told.new.items) }
     ensures others { OnOk result
@@ -60,13 +60,13 @@ fn remove_one<H: Host>(
     ensures order { OnOk result
         (Needs (H.state host.new)
         (IsInOrder administration.new.database administration.new.lists.lists)) }
-    ensures open { OnOk result (IsOpen diversions.now.entries administration.new) }
+    ensures open { OnOk result (IsOpen diversions.now.ways administration.new) }
     ensures told { HasCalled
-        (given InFavour name.now diversions.now.entries (holding_of administration.old))
+        (given InFavour name.now diversions.now.ways (holding_of administration.old))
         (H.state host.old) (H.state host.new) told.old.items told.new.items }
     ensures any_moment { AtEachMomentOf
         (IsAmidUnit
-        (given InFavour name.now diversions.now.entries (holding_of administration.old)))
+        (given InFavour name.now diversions.now.ways (holding_of administration.old)))
         (H.state host.old) (H.state host.new) }
     ensures counts { Counts (H.state host.old) (H.state host.new) result }
 {
@@ -104,9 +104,9 @@ pub fn remove_in_favour<H: Host>(
 ) -> Result<Option<Call>, HostFault>
     requires order { Needs (H.state host.old)
         (IsInOrder administration.old.database administration.old.lists.lists) }
-    requires open { IsOpen diversions.now.entries administration.old }
+    requires open { IsOpen diversions.now.ways administration.old }
     ensures removed { IfOk result
-        (λ failed. HaveBeenRemoved diversions.now.entries names.now failed
+        (λ failed. HaveBeenRemoved diversions.now.ways names.now failed
         (holding_of administration.old) (holding_of administration.new)
         (H.state host.old) (H.state host.new) told.old.items told.new.items) }
     ensures others { OnOk result
@@ -117,11 +117,11 @@ pub fn remove_in_favour<H: Host>(
     ensures order { OnOk result
         (Needs (H.state host.new)
         (IsInOrder administration.new.database administration.new.lists.lists)) }
-    ensures open { OnOk result (IsOpen diversions.now.entries administration.new) }
-    ensures told { HaveCalled diversions.now.entries names.now (holding_of administration.old)
+    ensures open { OnOk result (IsOpen diversions.now.ways administration.new) }
+    ensures told { HaveCalled diversions.now.ways names.now (holding_of administration.old)
         (H.state host.old) (H.state host.new) told.old.items told.new.items }
     ensures any_moment { Since
-        (IsAmidRemovals diversions.now.entries names.now (holding_of administration.old)
+        (IsAmidRemovals diversions.now.ways names.now (holding_of administration.old)
         (H.state host.old))
         (H.state host.old) (H.state host.new) }
     ensures counts { Counts (H.state host.old) (H.state host.new) result }

@@ -6,9 +6,8 @@ use Rattle.host_core.specs.Paths.{Path}
 use Rattle.host_core.specs.World.{World, is_directory, kind_of}
 use Rattle.host_core.specs.declared.node.Node.{Node}
 use Rattle.host_core.specs.declared.node.Node.TheVariants.{File, Dir, Link}
-use Rattle.diversions.specs.Places.{place}
+use Rattle.diversions.specs.Ways.{place, Ways}
 use Rattle.diversions.specs.Sights.{is_directory_kind}
-use Rattle.diversions.specs.declared.entry.Diversion.{Diversion}
 use Rattle.disappearance.specs.Verdicts.{are_directories}
 
 -- a directory by its kind
@@ -18,19 +17,19 @@ directory_kind (Some (File bytes access)) = refl
 directory_kind (Some (Dir access)) = refl
 directory_kind (Some (Link target)) = refl
 
-module _ (entries : List Diversion) (name : List ℕ) (w : World) (paths : List Path) where
+module _ (ways : Ways) (name : List ℕ) (w : World) (paths : List Path) where
   abbrev stands : Path → Bool
-  stands path = is_directory (w (place entries name path))
+  stands path = is_directory (w (place ways name path))
 
-  module _ (i : ℕ) (x : Path) (lt : i < length paths) (at : x ≡ get_or paths i x) (v : World) (same : v ≡ w) (is : Bool) (found : is ≡ is_directory (v (place entries name x))) where
+  module _ (i : ℕ) (x : Path) (lt : i < length paths) (at : x ≡ get_or paths i x) (v : World) (same : v ≡ w) (is : Bool) (found : is ≡ is_directory (v (place ways name x))) where
     here : is ≡ stands (get_or paths i x)
-    here = found ∙ ap (λ (u : World). is_directory (u (place entries name x))) same ∙ ap stands at
+    here = found ∙ ap (λ (u : World). is_directory (u (place ways name x))) same ∙ ap stands at
 
-    pub directories_more : is ≡ true → are_directories entries name w (take i paths) ≡ true → are_directories entries name w (take (i + 1) paths) ≡ true
+    pub directories_more : is ≡ true → are_directories ways name w (take i paths) ≡ true → are_directories ways name w (take (i + 1) paths) ≡ true
     directories_more so before = list_all_more stands paths i x lt ∙ ap (λ (b : Bool). b && stands (get_or paths i x)) before ∙ (sym here ∙ so)
 
-    pub directories_stop : is ≡ false → are_directories entries name w paths ≡ false
+    pub directories_stop : is ≡ false → are_directories ways name w paths ≡ false
     directories_stop away = list_all_at stands paths i x lt (sym here ∙ away)
 
-  pub directories_all : (i : ℕ) → length paths ≤ i → are_directories entries name w (take i paths) ≡ true → are_directories entries name w paths ≡ true
-  directories_all i end before = subst (λ (ps : List Path). are_directories entries name w ps ≡ true) (take_all i paths end) before
+  pub directories_all : (i : ℕ) → length paths ≤ i → are_directories ways name w (take i paths) ≡ true → are_directories ways name w paths ≡ true
+  directories_all i end before = subst (λ (ps : List Path). are_directories ways name w ps ≡ true) (take_all i paths end) before

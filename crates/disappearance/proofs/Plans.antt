@@ -14,7 +14,7 @@ use Rattle.undo_rows.specs.declared.rows.Called.{Called}
 use Rattle.undo_rows.specs.declared.rows.Owner.{Owner}
 use Rattle.undo_rows.specs.declared.rows.Row.{Row}
 use Rattle.undo_rows.specs.Telling.{Begun, IsCutShort}
-use Rattle.diversions.specs.declared.entry.Diversion.{Diversion}
+use Rattle.diversions.specs.Ways.{Ways}
 use Rattle.file_lists.specs.Owners.{AreListPaths}
 use Rattle.removal_engine.proofs.Deeds.{ArePlannedFit, IsStillStage, all_same_records, deeds_records, stages_fit, stages_settleable}
 use Rattle.removal_engine.proofs.Tables.{is_named, named, none_listed}
@@ -101,26 +101,26 @@ module _ (incoming version name : List ℕ) (h : Holding) (w : World) (honest : 
 none_after : (name : List ℕ) (parts : List Part) (h : Holding) → parts ≡ [] → after_parts name parts h ≡ h
 none_after name parts h none = ap (λ (ps : List Part). after_parts name ps h) none
 
-restored_same : (name : List ℕ) (entries : List Diversion) (owners : List Owner) (restore : List Part) (before after : Holding) (s t : State) → restore ≡ [] → HasRestored name entries owners restore before after s t → after ≡ before
-restored_same name entries owners restore before after s t none (HasRestored.restored unfailed does is) = is ∙ none_after name restore before none
-restored_same name entries owners restore before after s t none (HasRestored.left some same is) = is
+restored_same : (name : List ℕ) (ways : Ways) (owners : List Owner) (restore : List Part) (before after : Holding) (s t : State) → restore ≡ [] → HasRestored name ways owners restore before after s t → after ≡ before
+restored_same name ways owners restore before after s t none (HasRestored.restored unfailed does is) = is ∙ none_after name restore before none
+restored_same name ways owners restore before after s t none (HasRestored.left some same is) = is
 
-run_none : (name : List ℕ) (entries : List Diversion) (rest : List Stage) (failed : Option Call) (before after : Holding) (s t : State) (told now : List Called) → rest ≡ [] → HaveRun name entries rest failed before after s t told now → after ≡ before
-run_none name entries rest failed before after s t told now none run = (subst (λ (ss : List Stage). HaveRun name entries ss failed before after s t told now) none run).1
+run_none : (name : List ℕ) (ways : Ways) (rest : List Stage) (failed : Option Call) (before after : Holding) (s t : State) (told now : List Called) → rest ≡ [] → HaveRun name ways rest failed before after s t told now → after ≡ before
+run_none name ways rest failed before after s t told now none run = (subst (λ (ss : List Stage). HaveRun name ways ss failed before after s t told now) none run).1
 
-module _ (name : List ℕ) (entries : List Diversion) (row : Row) where
-  pub call_same : (call : List Stage) (failed : Option Call) (before after : Holding) (s t : State) (told now : List Called) → map planned call ≡ stage_of [] row ∷ [] → HaveRun name entries call failed before after s t told now → after ≡ before
+module _ (name : List ℕ) (ways : Ways) (row : Row) where
+  pub call_same : (call : List Stage) (failed : Option Call) (before after : Holding) (s t : State) (told now : List Called) → map planned call ≡ stage_of [] row ∷ [] → HaveRun name ways call failed before after s t told now → after ≡ before
   call_same [] failed before after s t told now are run = absurd (nothing_planned (stage_of [] row) are)
   call_same (stage ∷ rest) failed before after s t told now are (inl passed) =
       let nothing = no_part stage.parts.items (ap (λ (p : Planned). p.parts) (one_is stage rest (stage_of [] row) are)) in
-      run_none name entries rest failed (after_parts name stage.parts.items before) after passed.mid t passed.more now (one_alone stage rest (stage_of [] row) are) passed.further
+      run_none name ways rest failed (after_parts name stage.parts.items before) after passed.mid t passed.more now (one_alone stage rest (stage_of [] row) are) passed.further
       ∙ none_after name stage.parts.items before nothing
   call_same (stage ∷ rest) failed before after s t told now are (inr failing) =
       let is = one_is stage rest (stage_of [] row) are in
       let nothing = no_part stage.parts.items (ap (λ (p : Planned). p.parts) is) in
       let unrestored = no_part stage.restore.items (ap (λ (p : Planned). p.restore) is) in
       let undo = failing.fell.undo in
-      restored_same name entries undo.owners stage.restore.items (after_parts name stage.parts.items before) after undo.undone t unrestored undo.restored
+      restored_same name ways undo.owners stage.restore.items (after_parts name stage.parts.items before) after undo.undone t unrestored undo.restored
       ∙ none_after name stage.parts.items before nothing
 
 -- behind the call nothing is called
@@ -144,18 +144,18 @@ quiet_calls (stage ∷ rest) r failed ts are (inr fails) =
     let quiet = ap (λ (p : Planned). p.row.forward) (one_is stage rest (gone_stage r) are) in
     absurd (none_some fails.call (sym quiet ∙ fails.forward))
 
-module _ (name : List ℕ) (entries : List Diversion) (gone : List Stage) (r : Record) (are : map planned gone ≡ gone_stage r ∷ []) where
-  pub gone_untold : (failed : Option Call) (before after : Holding) (s t : State) (told now : List Called) → HaveRun name entries gone failed before after s t told now → (failed ≡ None) × (now ≡ told)
+module _ (name : List ℕ) (ways : Ways) (gone : List Stage) (r : Record) (are : map planned gone ≡ gone_stage r ∷ []) where
+  pub gone_untold : (failed : Option Call) (before after : Holding) (s t : State) (told now : List Called) → HaveRun name ways gone failed before after s t told now → (failed ≡ None) × (now ≡ told)
   gone_untold failed before after s t told now run =
-      let made = run_made name entries gone failed before after s t told now run in
+      let made = run_made name ways gone failed before after s t told now run in
       let quiet = quiet_calls gone r failed made.ts are made.has in
       (quiet.0, made.tells ∙ ap (λ (ts : List Ran). told ++ map told_of ts) quiet.1 ∙ append-nil told)
 
   -- and it doesn't fail
-  pub gone_taken : (failed : Option Call) (before after : Holding) (s t : State) (told now : List Called) → HaveRun name entries gone failed before after s t told now → HaveRun name entries gone None before after s t now now
+  pub gone_taken : (failed : Option Call) (before after : Holding) (s t : State) (told now : List Called) → HaveRun name ways gone failed before after s t told now → HaveRun name ways gone None before after s t now now
   gone_taken failed before after s t told now run =
       let quiet = gone_untold failed before after s t told now run in
-      subst (λ (x : List Called). HaveRun name entries gone None before after s t x now) (sym quiet.1) (subst (λ (o : Option Call). HaveRun name entries gone o before after s t told now) quiet.0 run)
+      subst (λ (x : List Called). HaveRun name ways gone None before after s t x now) (sym quiet.1) (subst (λ (o : Option Call). HaveRun name ways gone o before after s t told now) quiet.0 run)
 
   gone_after : (ss : List Stage) (before : Holding) → map planned ss ≡ gone_stage r ∷ [] → (after_stages name ss before).records ≡ drop_record name before.records
   gone_after [] before is = absurd (nothing_planned (gone_stage r) is)
@@ -165,9 +165,9 @@ module _ (name : List ℕ) (entries : List Diversion) (gone : List Stage) (r : R
       ∙ ap (λ (p : Planned). deeds_records name p.parts before.records) (one_is stage rest (gone_stage r) is)
 
   -- and the record is gone
-  pub gone_records : (before after : Holding) (s t : State) (told now : List Called) → HaveRun name entries gone None before after s t told now → after.records ≡ drop_record name before.records
+  pub gone_records : (before after : Holding) (s t : State) (told now : List Called) → HaveRun name ways gone None before after s t told now → after.records ≡ drop_record name before.records
   gone_records before after s t told now run =
-      ap (λ (h : Holding). h.records) (run_left name entries gone None before after s t told now run) ∙ gone_after gone before are
+      ap (λ (h : Holding). h.records) (run_left name ways gone None before after s t told now run) ∙ gone_after gone before are
 
   no_next : (more : List Ran) (cut : List Event) → more ≡ [] → IsCutShort more cut → cut ≡ []
   no_next more cut none (inl is) = is

@@ -8,7 +8,7 @@ use Rattle.administration.proofs.Within.{taken_more}
 use Rattle.host_core.specs.Host.{State, Since}
 use Rattle.host_core.proofs.Moments.{since_then, since_weaker_if}
 use Rattle.host_core.specs.declared.call.Call.{Call}
-use Rattle.diversions.specs.declared.entry.Diversion.{Diversion}
+use Rattle.diversions.specs.Ways.{Ways}
 use Rattle.file_lists.specs.declared.paths.PackageList.{PackageList}
 use Rattle.removal_engine.proofs.Tables.{drop_other, drop_own}
 use Rattle.status_records.specs.Records.{drop_record, record_in}
@@ -49,14 +49,14 @@ dropped_none name rs q none = record_in-drop_record name rs q ∙ by (bytes_eq n
     by true = refl
     by false = none
 
-module _ (incoming version : List ℕ) (entries : List Diversion) where
-  pub none_yet : (h : Holding) (s : State) (told : List Called) → HaveDisappeared incoming version entries [] [] None h h s s told told
+module _ (incoming version : List ℕ) (ways : Ways) where
+  pub none_yet : (h : Holding) (s : State) (told : List Called) → HaveDisappeared incoming version ways [] [] None h h s s told told
   none_yet h s told = (refl, refl, refl {a = h}, refl {a = s}, refl {a = told})
 
   -- one more is decided
   decided_last : (done : List Losing) (l : Losing) (names own : List (List ℕ)) (failed next : Option Call) (before mid after : Holding) (s m t : State) (told between now : List Called)
-      → HaveDisappeared incoming version entries done names failed before mid s m told between → IsDecided incoming version entries l own next mid after m t between now
-      → HaveDisappeared incoming version entries (done ++ l ∷ []) (names ++ own) (first_failed failed next) before after s t told now
+      → HaveDisappeared incoming version ways done names failed before mid s m told between → IsDecided incoming version ways l own next mid after m t between now
+      → HaveDisappeared incoming version ways (done ++ l ∷ []) (names ++ own) (first_failed failed next) before after s t told now
   decided_last [] l names own failed next before mid after s m t told between now run decided = record {
     own = own;
     more = [];
@@ -67,9 +67,9 @@ module _ (incoming version : List ℕ) (entries : List Diversion) where
     mid = after;
     m = t;
     between = now;
-    decided = subst (λ (h : Holding). IsDecided incoming version entries l own next h after s t told now) run.2
-        (subst (λ (x : State). IsDecided incoming version entries l own next mid after x t told now) run.3
-        (subst (λ (x : List Called). IsDecided incoming version entries l own next mid after m t x now) run.4 decided));
+    decided = subst (λ (h : Holding). IsDecided incoming version ways l own next h after s t told now) run.2
+        (subst (λ (x : State). IsDecided incoming version ways l own next mid after x t told now) run.3
+        (subst (λ (x : List Called). IsDecided incoming version ways l own next mid after m t x now) run.4 decided));
     further = none_yet after t now;
   }
   decided_last (x ∷ done) l names own failed next before mid after s m t told between now run decided = record {
@@ -88,11 +88,11 @@ module _ (incoming version : List ℕ) (entries : List Diversion) where
 
   -- at first
 
-  next_start : (losing : List Losing) (h : Holding) (s : State) → IsAmidNext incoming version entries losing h s [] s.world
+  next_start : (losing : List Losing) (h : Holding) (s : State) → IsAmidNext incoming version ways losing h s [] s.world
   next_start [] h s = (refl, refl)
   next_start (l ∷ ls) h s = IsAmidOne.looking refl refl
 
-  pub amid_start : (losing : List Losing) (d : Recorded) (ls : List PackageList) (h : Holding) (s : State) (told : List Called) → (IsTrue s.honest → IsInOrder d ls s.world) → Since (IsAmidDisappearances incoming version entries losing h s) s s
+  pub amid_start : (losing : List Losing) (d : Recorded) (ls : List PackageList) (h : Holding) (s : State) (told : List Called) → (IsTrue s.honest → IsInOrder d ls s.world) → Since (IsAmidDisappearances incoming version ways losing h s) s s
   amid_start losing d ls h s told order = record {
     added = [];
     events = sym (append-nil s.events);
@@ -121,21 +121,21 @@ module _ (incoming version : List ℕ) (entries : List Diversion) where
 
   -- one more of them
   module _ (losing : List Losing) (i : ℕ) (l : Losing) (lt : i < length losing) (at : l ≡ get_or losing i l) (names : List (List ℕ)) (failed : Option Call) (before mid : Holding) (s m : State) (told between : List Called)
-      (run : HaveDisappeared incoming version entries (take i losing) names failed before mid s m told between) where
+      (run : HaveDisappeared incoming version ways (take i losing) names failed before mid s m told between) where
     from_here : drop i losing ≡ l ∷ drop (i + 1) losing
     from_here = drop-cons losing i l lt ∙ ap (λ p. p ∷ drop (suc i) losing) (sym at) ∙ ap (λ n. l ∷ drop n losing) (sym (add-one i))
 
-    pub decided_more : (own all : List (List ℕ)) (next : Option Call) (after : Holding) (t : State) (now : List Called) → all ≡ names ++ own → IsDecided incoming version entries l own next mid after m t between now
-        → HaveDisappeared incoming version entries (take (i + 1) losing) all (first_failed failed next) before after s t told now
+    pub decided_more : (own all : List (List ℕ)) (next : Option Call) (after : Holding) (t : State) (now : List Called) → all ≡ names ++ own → IsDecided incoming version ways l own next mid after m t between now
+        → HaveDisappeared incoming version ways (take (i + 1) losing) all (first_failed failed next) before after s t told now
     decided_more own all next after t now are decided =
-        subst (λ (ns : List (List ℕ)). HaveDisappeared incoming version entries (take (i + 1) losing) ns (first_failed failed next) before after s t told now) (sym are)
-        (subst (λ (ls : List Losing). HaveDisappeared incoming version entries ls (names ++ own) (first_failed failed next) before after s t told now) (sym (taken_more losing i l lt at))
+        subst (λ (ns : List (List ℕ)). HaveDisappeared incoming version ways (take (i + 1) losing) ns (first_failed failed next) before after s t told now) (sym are)
+        (subst (λ (ls : List Losing). HaveDisappeared incoming version ways ls (names ++ own) (first_failed failed next) before after s t told now) (sym (taken_more losing i l lt at))
         (decided_last (take i losing) l names own failed next before mid after s m t told between now run decided))
 
-    pub amid_more : (t : State) → Since (IsAmidDisappearances incoming version entries losing before s) s m → Since (IsAmidUnit incoming version entries l mid m) m t
-        → Since (IsAmidDisappearances incoming version entries losing before s) s t
-    amid_more t first second = since_then (IsAmidDisappearances incoming version entries losing before s) s m t first
-        (since_weaker_if (IsAmidUnit incoming version entries l mid m) (λ so_far. IsAmidDisappearances incoming version entries losing before s (first.added ++ so_far)) m t
+    pub amid_more : (t : State) → Since (IsAmidDisappearances incoming version ways losing before s) s m → Since (IsAmidUnit incoming version ways l mid m) m t
+        → Since (IsAmidDisappearances incoming version ways losing before s) s t
+    amid_more t first second = since_then (IsAmidDisappearances incoming version ways losing before s) s m t first
+        (since_weaker_if (IsAmidUnit incoming version ways l mid m) (λ so_far. IsAmidDisappearances incoming version ways losing before s (first.added ++ so_far)) m t
         (λ honest so_far now is. record {
           done = take i losing;
           left = drop i losing;
@@ -152,11 +152,11 @@ module _ (incoming version : List ℕ) (entries : List Diversion) where
           rest = so_far;
           split = refl;
           events = first.events;
-          next = subst (λ (ls : List Losing). IsAmidNext incoming version entries ls mid m so_far now) (sym from_here) is.unit;
+          next = subst (λ (ls : List Losing). IsAmidNext incoming version ways ls mid m so_far now) (sym from_here) is.unit;
           opens = is.opens;
         }) second)
 
-    pub told_more : (t : State) (now : List Called) → HasCalledOne incoming version entries l mid m t between now → HaveCalled incoming version entries losing before s t told now
+    pub told_more : (t : State) (now : List Called) → HasCalledOne incoming version ways l mid m t between now → HaveCalled incoming version ways losing before s t told now
     told_more t now next = record {
       done = take i losing;
       left = drop i losing;
@@ -167,12 +167,12 @@ module _ (incoming version : List ℕ) (entries : List Diversion) where
       m = m;
       between = between;
       disappeared = run;
-      called = subst (λ (ls : List Losing). HasCalledNext incoming version entries ls mid m t between now) (sym from_here) next;
+      called = subst (λ (ls : List Losing). HasCalledNext incoming version ways ls mid m t between now) (sym from_here) next;
     }
 
   -- in the end
-  pub told_all : (losing : List Losing) (names : List (List ℕ)) (failed : Option Call) (before after : Holding) (s t : State) (told now : List Called) → HaveDisappeared incoming version entries losing names failed before after s t told now
-      → HaveCalled incoming version entries losing before s t told now
+  pub told_all : (losing : List Losing) (names : List (List ℕ)) (failed : Option Call) (before after : Holding) (s t : State) (told now : List Called) → HaveDisappeared incoming version ways losing names failed before after s t told now
+      → HaveCalled incoming version ways losing before s t told now
   told_all losing names failed before after s t told now run = record {
     done = losing;
     left = [];
@@ -188,7 +188,7 @@ module _ (incoming version : List ℕ) (entries : List Diversion) where
 
   -- the records that are left
 
-  decided_left : (l : Losing) (own : List (List ℕ)) (failed : Option Call) (before after : Holding) (s t : State) (told now : List Called) → IsDecided incoming version entries l own failed before after s t told now
+  decided_left : (l : Losing) (own : List (List ℕ)) (failed : Option Call) (before after : Holding) (s t : State) (told now : List Called) → IsDecided incoming version ways l own failed before after s t told now
       → AreLeft own before.records after.records × ((q : List ℕ) → record_in before.records q ≡ None → record_in after.records q ≡ None) × ((q : List ℕ) → Contains own q → l.name ≡ q)
   decided_left l own failed before after s t told now (IsDecided.stayed none unfailed stayed) = (
     record {
@@ -200,7 +200,7 @@ module _ (incoming version : List ℕ) (entries : List Diversion) where
   )
   decided_left l own failed before after s t told now (IsDecided.disappeared is has) =
       let run = has.run in
-      let dropped = gone_records l.name entries has.gone has.plan.stages.entry has.plan.stages.goes before after run.mid t now now run.taken in
+      let dropped = gone_records l.name ways has.gone has.plan.stages.entry has.plan.stages.goes before after run.mid t now now run.taken in
       let named : (q : List ℕ) → Contains own q → l.name ≡ q = (λ q among. one_named q (subst (λ (ns : List (List ℕ)). Contains ns q) is among)) in
       let apart : (q : List ℕ) → (Contains own q → ⊥) → q ≡ l.name → ⊥ = (λ q not same. not (subst (λ (ns : List (List ℕ)). Contains ns q) (sym is) (subst (λ (n : List ℕ). Contains (l.name ∷ []) n) (sym same) (Contains-push [] l.name)))) in (
         record {
@@ -215,7 +215,7 @@ module _ (incoming version : List ℕ) (entries : List Diversion) where
       one_named q among = elim (Contains-push_cases [] l.name q among) [ inl none ↦ absurd (none_in q none) | inr same ↦ same ]
 
   -- of all
-  pub run_left_records : (losing : List Losing) (names : List (List ℕ)) (failed : Option Call) (before after : Holding) (s t : State) (told now : List Called) → HaveDisappeared incoming version entries losing names failed before after s t told now
+  pub run_left_records : (losing : List Losing) (names : List (List ℕ)) (failed : Option Call) (before after : Holding) (s t : State) (told now : List Called) → HaveDisappeared incoming version ways losing names failed before after s t told now
       → AreLeft names before.records after.records × ((q : List ℕ) → record_in before.records q ≡ None → record_in after.records q ≡ None) × ((q : List ℕ) → Contains names q → Contains (names_of losing) q)
   run_left_records [] names failed before after s t told now run = (
     record {

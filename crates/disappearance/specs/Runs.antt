@@ -6,7 +6,7 @@ use Rattle.host_core.specs.Events.{Event, scripts_of}
 use Rattle.host_core.specs.Host.{Silent, State}
 use Rattle.host_core.specs.World.{World}
 use Rattle.host_core.specs.declared.call.Call.{Call}
-use Rattle.diversions.specs.declared.entry.Diversion.{Diversion}
+use Rattle.diversions.specs.Ways.{Ways}
 use Rattle.status_records.specs.Records.{record_in}
 use Rattle.status_records.specs.declared.record.Record.{Record}
 use Rattle.unit_stages.specs.Aside.{IsAside}
@@ -29,7 +29,7 @@ pub record AreLeft (names : List (List ℕ)) (before after : List Record) : Type
 abbrev pub IsAsideOfAll : List Losing → Path → Type 0
 IsAsideOfAll losing q = AllByRecursion (λ l. IsAside l.name q) losing
 
-module _ (incoming version : List ℕ) (entries : List Diversion) where
+module _ (incoming version : List ℕ) (ways : Ways) where
   -- one is decided, and then this
   pub record IsDecidedAnd (l : Losing) (rest : List (List ℕ) → Option Call → Holding → State → List Called → Type 0) (names : List (List ℕ)) (failed : Option Call) (before : Holding) (s : State) (told : List Called) : Type 0 where
     pub own : List (List ℕ)
@@ -41,7 +41,7 @@ module _ (incoming version : List ℕ) (entries : List Diversion) where
     pub mid : Holding
     pub m : State
     pub between : List Called
-    pub decided : IsDecided incoming version entries l own first before mid s m told between
+    pub decided : IsDecided incoming version ways l own first before mid s m told between
     pub further : rest more next mid m between
 
   -- each of these in this order, by what those before it left: the names of those that disappeared, and the first call that failed
@@ -53,7 +53,7 @@ module _ (incoming version : List ℕ) (entries : List Diversion) where
   -- nothing more is done, or the next is under way
   abbrev pub IsAmidNext : List Losing → Holding → State → List Event → World → Type 0
   IsAmidNext [] h s so_far now = (now ≡ s.world) × (scripts_of so_far ≡ [])
-  IsAmidNext (l ∷ ls) h s so_far now = IsAmidOne incoming version entries l h s so_far now
+  IsAmidNext (l ∷ ls) h s so_far now = IsAmidOne incoming version ways l h s so_far now
 
   -- At each moment: some are done, and the next is under way; the next opening finds records.
   pub record IsAmidDisappearances (losing : List Losing) (before : Holding) (s : State) (so_far : List Event) (now : World) : Type 0 where
@@ -78,7 +78,7 @@ module _ (incoming version : List ℕ) (entries : List Diversion) where
   -- the calls of the next, or none
   abbrev pub HasCalledNext : List Losing → Holding → State → State → List Called → List Called → Type 0
   HasCalledNext [] h s t told now = Silent s t × (now ≡ told)
-  HasCalledNext (l ∷ ls) h s t told now = HasCalledOne incoming version entries l h s t told now
+  HasCalledNext (l ∷ ls) h s t told now = HasCalledOne incoming version ways l h s t told now
 
   -- the calls, whatever the answer: all of some, and the first of those of the next
   pub record HaveCalled (losing : List Losing) (before : Holding) (s t : State) (told now : List Called) : Type 0 where

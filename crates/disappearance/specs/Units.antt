@@ -5,7 +5,7 @@ use Rattle.host_core.specs.Host.{Reads, Silent, State}
 use Rattle.host_core.specs.World.{World}
 use Rattle.host_core.specs.declared.call.Call.{Call}
 use Rattle.undo_rows.specs.Telling.{Begun}
-use Rattle.diversions.specs.declared.entry.Diversion.{Diversion}
+use Rattle.diversions.specs.Ways.{Ways}
 use Rattle.status_db.specs.Recorded.{Recorded}
 use Rattle.status_records.specs.declared.record.Record.{Record}
 use Rattle.held_administration.specs.Order.{IsInOrder}
@@ -29,12 +29,12 @@ pub record IsInOrderWith (h : Holding) (w : World) : Type 0 where
 abbrev pub CanBeOpened : World → Type 0
 CanBeOpened now = (table : List Record) × IsOpenable table now
 
-module _ (name : List ℕ) (entries : List Diversion) (call gone : List Stage) where
+module _ (name : List ℕ) (ways : Ways) (call gone : List Stage) where
   -- The call was made; whatever its outcome all goes behind it.
   pub record HaveRunBoth (failed : Option Call) (before after : Holding) (s t : State) (told now : List Called) : Type 0 where
     pub mid : State
-    pub called : HaveRun name entries call failed before before s mid told now
-    pub taken : HaveRun name entries gone None before after mid t now now
+    pub called : HaveRun name ways call failed before before s mid told now
+    pub taken : HaveRun name ways gone None before after mid t now now
 
   -- the call has been made, and behind it all goes
   pub record IsBehindCall (h : Holding) (s : State) (so_far : List Event) (now : World) : Type 0 where
@@ -42,17 +42,17 @@ module _ (name : List ℕ) (entries : List Diversion) (call gone : List Stage) w
     pub mid : State
     pub told : List Called
     pub more : List Called
-    pub called : HaveRun name entries call failed h h s mid told more
+    pub called : HaveRun name ways call failed h h s mid told more
     pub honest : IsTrue mid.honest
     pub front : List Event
     pub rest : List Event
     pub split : so_far ≡ front ++ rest
     pub events : mid.events ≡ s.events ++ front
-    pub running : AreRunning name entries gone h mid.world rest now
+    pub running : AreRunning name ways gone h mid.world rest now
 
   -- at each moment of the two
   pub data IsRunningBoth (h : Holding) (s : State) (so_far : List Event) (now : World) : Type 0 where
-    calling : AreRunning name entries call h s.world so_far now → IsRunningBoth h s so_far now
+    calling : AreRunning name ways call h s.world so_far now → IsRunningBoth h s so_far now
     behind : IsBehindCall h s so_far now → IsRunningBoth h s so_far now
 
   -- the same, and the next opening finds records
@@ -60,19 +60,19 @@ module _ (name : List ℕ) (entries : List Diversion) (call gone : List Stage) w
     pub running : IsRunningBoth h s so_far now
     pub opens : CanBeOpened now
 
-module _ (incoming version : List ℕ) (entries : List Diversion) where
+module _ (incoming version : List ℕ) (ways : Ways) where
   -- a package has disappeared: its stored postrm was called, nothing is left of it in the administration, and that is in order
   pub record HasDisappeared (l : Losing) (failed : Option Call) (before after : Holding) (s t : State) (told now : List Called) : Type 0 where
-    pub goes : Goes incoming entries l before s.world t.honest
+    pub goes : Goes incoming ways l before s.world t.honest
     pub call : List Stage
     pub gone : List Stage
     pub plan : IsPlan incoming version l.name before s.world t.honest call gone
-    pub run : HaveRunBoth l.name entries call gone failed before after s t told now
+    pub run : HaveRunBoth l.name ways call gone failed before after s t told now
     pub order : IsTrue t.honest → IsInOrderWith after t.world
 
   -- it stays: it was only looked at
   pub record HasStayed (l : Losing) (before after : Holding) (s t : State) (told now : List Called) : Type 0 where
-    pub stays : Stays incoming entries l before s.world t.honest
+    pub stays : Stays incoming ways l before s.world t.honest
     pub same : after ≡ before
     pub reads : Reads s t
     pub silent : Silent s t
@@ -85,11 +85,11 @@ module _ (incoming version : List ℕ) (entries : List Diversion) where
 
   -- it is under way that a package disappears
   pub record IsGoing (l : Losing) (h : Holding) (s : State) (so_far : List Event) (now : World) : Type 0 where
-    pub goes : Goes incoming entries l h s.world true
+    pub goes : Goes incoming ways l h s.world true
     pub call : List Stage
     pub gone : List Stage
     pub plan : IsPlan incoming version l.name h s.world true call gone
-    pub running : IsRunningBoth l.name entries call gone h s so_far now
+    pub running : IsRunningBoth l.name ways call gone h s so_far now
 
   -- at each moment of one package: it is only looked at yet, or it goes
   pub data IsAmidOne (l : Losing) (h : Holding) (s : State) (so_far : List Event) (now : World) : Type 0 where
@@ -104,4 +104,4 @@ module _ (incoming version : List ℕ) (entries : List Diversion) where
   -- the calls of one package, whatever the answer: none, or the first of those that are legal for its call
   pub data HasCalledOne (l : Losing) (h : Holding) (s t : State) (told now : List Called) : Type 0 where
     uncalled : Silent s t → now ≡ told → HasCalledOne l h s t told now
-    called : (call gone : List Stage) → Goes incoming entries l h s.world t.honest → IsPlan incoming version l.name h s.world t.honest call gone → Begun (MayRunStages call) s t told now → HasCalledOne l h s t told now
+    called : (call gone : List Stage) → Goes incoming ways l h s.world t.honest → IsPlan incoming version l.name h s.world t.honest call gone → Begun (MayRunStages call) s t told now → HasCalledOne l h s t told now

@@ -3,8 +3,7 @@ use Rattle.std.specs.Prelude.{◌≡◌, ◌<◌, ℕ, Bool, true, false, IsTrue
 use Rattle.std.specs.List.{list_all}
 use Rattle.host_core.specs.Paths.{Path}
 use Rattle.host_core.specs.World.{World, is_directory}
-use Rattle.diversions.specs.Places.{place}
-use Rattle.diversions.specs.declared.entry.Diversion.{Diversion}
+use Rattle.diversions.specs.Ways.{place, Ways}
 use Rattle.file_lists.specs.Owners.{paths_of}
 use Rattle.file_lists.specs.declared.paths.PackageList.{PackageList}
 use Rattle.recorded_packages.specs.Packages.{package_state}
@@ -29,29 +28,29 @@ abbrev pub HasLost : List PackageList → Losing → Type 0
 HasLost lists l = length (paths_of lists l.name) < l.listed
 
 -- a directory stands at the place of each of these paths
-abbrev pub are_directories : List Diversion → List ℕ → World → List Path → Bool
-are_directories entries name w paths = list_all (λ path. is_directory (w (place entries name path))) paths
+abbrev pub are_directories : Ways → List ℕ → World → List Path → Bool
+are_directories ways name w paths = list_all (λ path. is_directory (w (place ways name path))) paths
 
 -- the same of all paths that a package lists
-abbrev pub is_empty : List Diversion → List PackageList → List ℕ → World → Bool
-is_empty entries lists name w = are_directories entries name w (paths_of lists name)
+abbrev pub is_empty : Ways → List PackageList → List ℕ → World → Bool
+is_empty ways lists name w = are_directories ways name w (paths_of lists name)
 
 -- It disappears: it is there, it has lost paths, nothing but directories is left of it, and it isn't needed.
-pub record Goes (incoming : List ℕ) (entries : List Diversion) (l : Losing) (h : Holding) (w : World) (honest : Bool) : Type 0 where
+pub record Goes (incoming : List ℕ) (ways : Ways) (l : Losing) (h : Holding) (w : World) (honest : Bool) : Type 0 where
   pub there : IsThere h.records l.name
   pub lost : HasLost h.lists l
-  pub empty : IsTrue honest → is_empty entries h.lists l.name w ≡ true
+  pub empty : IsTrue honest → is_empty ways h.lists l.name w ≡ true
   pub unneeded : IsUnneeded incoming h.records l.name
 
 -- It stays, by the first of these that fails.
-pub data Stays (incoming : List ℕ) (entries : List Diversion) (l : Losing) (h : Holding) (w : World) (honest : Bool) : Type 0 where
-  unrecorded : record_in h.records l.name ≡ None → Stays incoming entries l h w honest
-  absent : (r : Record) → record_in h.records l.name ≡ Some r → is_there r ≡ false → Stays incoming entries l h w honest
-  whole : IsThere h.records l.name → (HasLost h.lists l → ⊥) → Stays incoming entries l h w honest
-  blocked : IsThere h.records l.name → HasLost h.lists l → (IsTrue honest → is_empty entries h.lists l.name w ≡ false) → Stays incoming entries l h w honest
-  needed : IsThere h.records l.name → HasLost h.lists l → (IsTrue honest → is_empty entries h.lists l.name w ≡ true) → IsNeeded incoming h.records l.name → Stays incoming entries l h w honest
+pub data Stays (incoming : List ℕ) (ways : Ways) (l : Losing) (h : Holding) (w : World) (honest : Bool) : Type 0 where
+  unrecorded : record_in h.records l.name ≡ None → Stays incoming ways l h w honest
+  absent : (r : Record) → record_in h.records l.name ≡ Some r → is_there r ≡ false → Stays incoming ways l h w honest
+  whole : IsThere h.records l.name → (HasLost h.lists l → ⊥) → Stays incoming ways l h w honest
+  blocked : IsThere h.records l.name → HasLost h.lists l → (IsTrue honest → is_empty ways h.lists l.name w ≡ false) → Stays incoming ways l h w honest
+  needed : IsThere h.records l.name → HasLost h.lists l → (IsTrue honest → is_empty ways h.lists l.name w ≡ true) → IsNeeded incoming h.records l.name → Stays incoming ways l h w honest
 
 -- whether it goes
-abbrev pub IsVerdict : (incoming : List ℕ) → List Diversion → Losing → Holding → World → Bool → Bool → Type 0
-IsVerdict incoming entries l h w honest true = Goes incoming entries l h w honest
-IsVerdict incoming entries l h w honest false = Stays incoming entries l h w honest
+abbrev pub IsVerdict : (incoming : List ℕ) → Ways → Losing → Holding → World → Bool → Bool → Type 0
+IsVerdict incoming ways l h w honest true = Goes incoming ways l h w honest
+IsVerdict incoming ways l h w honest false = Stays incoming ways l h w honest

@@ -3,7 +3,7 @@ ghost use Rattle.std.specs.Prelude.{◌≡◌, ◌↔◌, IfOk, IsTrue};
 ghost use Rattle.host_core.specs.Host.{Counts, Reads, Silent};
 ghost use Rattle.host_core.specs.Looks.{Looks};
 ghost use Rattle.host_core.specs.World.{is_directory as is_directory_node};
-ghost use Rattle.diversions.specs.Places.{place};
+ghost use Rattle.diversions.specs.Ways.{place};
 ghost use Rattle.diversions.specs.Sights.{is_directory_kind};
 ghost use Rattle.recorded_packages.specs.Packages.{ArePackagesOf};
 ghost use Rattle.unit_stages.specs.Holding.{holding_of};
@@ -53,7 +53,7 @@ fn is_directory_at<H: Host>(
     path: &RootPath,
 ) -> Result<bool, HostFault>
     ensures looks { Looks result
-        (λ is w. is ≡ is_directory_node (w (place diversions.now.entries name.now path.now)))
+        (λ is w. is ≡ is_directory_node (w (place diversions.now.ways name.now path.now)))
         (H.state host.old) (H.state host.new) }
 {
     let at = diversions.place(name, path)?;
@@ -70,7 +70,7 @@ fn are_directories<H: Host>(
     paths: &[RootPath],
 ) -> Result<bool, HostFault>
     ensures looks { Looks result
-        (λ are w. are ≡ are_directories diversions.now.entries name.now w paths.now)
+        (λ are w. are ≡ are_directories diversions.now.ways name.now w paths.now)
         (H.state host.old) (H.state host.new) }
 {
     for path in paths {
@@ -94,7 +94,7 @@ pub(crate) fn look<H: Host>(
 ) -> Result<bool, HostFault>
     requires indexed { ArePackagesOf administration.now.database.records packages.now }
     ensures verdict { IfOk result
-        (IsVerdict incoming.now diversions.now.entries losing.now (holding_of administration.now)
+        (IsVerdict incoming.now diversions.now.ways losing.now (holding_of administration.now)
         (H.state host.old).world (H.state host.new).honest) }
     ensures reads { Reads (H.state host.old) (H.state host.new) }
     ensures silent { Silent (H.state host.old) (H.state host.new) }

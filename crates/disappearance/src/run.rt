@@ -41,12 +41,12 @@ pub fn disappear_packages<H: Host>(
     losing: &[Losing],
     told: &mut Vec<Called>,
 ) -> Result<Disappeared, HostFault>
-    requires open { IsOpen diversions.now.entries administration.old }
+    requires open { IsOpen diversions.now.ways administration.old }
     requires order { Needs (H.state host.old)
         (IsInOrder administration.old.database administration.old.lists.lists) }
     requires indexed { ArePackagesOf administration.old.database.records packages.old }
     ensures disappeared { IfOk result
-        (λ d. HaveDisappeared incoming.now version.now diversions.now.entries losing.now d.names
+        (λ d. HaveDisappeared incoming.now version.now diversions.now.ways losing.now d.names
         d.failed (holding_of administration.old) (holding_of administration.new)
         (H.state host.old) (H.state host.new) told.old.items told.new.items) }
     ensures left { IfOk result
@@ -60,13 +60,13 @@ pub fn disappear_packages<H: Host>(
     ensures order { OnOk result
         (Needs (H.state host.new)
         (IsInOrder administration.new.database administration.new.lists.lists)) }
-    ensures open { OnOk result (IsOpen diversions.now.entries administration.new) }
+    ensures open { OnOk result (IsOpen diversions.now.ways administration.new) }
     ensures indexed { OnOk result (ArePackagesOf administration.new.database.records packages.new) }
-    ensures told { HaveCalled incoming.now version.now diversions.now.entries losing.now
+    ensures told { HaveCalled incoming.now version.now diversions.now.ways losing.now
         (holding_of administration.old) (H.state host.old) (H.state host.new)
         told.old.items told.new.items }
     ensures any_moment { Since
-        (IsAmidDisappearances incoming.now version.now diversions.now.entries losing.now
+        (IsAmidDisappearances incoming.now version.now diversions.now.ways losing.now
         (holding_of administration.old) (H.state host.old))
         (H.state host.old) (H.state host.new) }
     ensures counts { Counts (H.state host.old) (H.state host.new) result }

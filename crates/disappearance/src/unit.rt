@@ -42,7 +42,7 @@ fn take_away<H: Host>(
     gone: Vec<Stage>,
     told: &mut Vec<Called>,
 ) -> Result<(), HostFault>
-    requires open { IsOpen diversions.now.entries administration.old }
+    requires open { IsOpen diversions.now.ways administration.old }
     requires order { Needs (H.state host.old)
         (IsInOrder administration.old.database administration.old.lists.lists) }
     requires indexed { ArePackagesOf administration.old.database.records packages.old }
@@ -51,18 +51,18 @@ fn take_away<H: Host>(
         administration.old.database.records administration.old.lists.lists }
     requires quiet { (r : ARecord) × (map planned gone.items ≡ gone_stage r ∷ []) }
     ensures taken { OnOk result
-        (HaveRun name.now diversions.now.entries gone.items None (holding_of administration.old)
+        (HaveRun name.now diversions.now.ways gone.items None (holding_of administration.old)
         (holding_of administration.new) (H.state host.old) (H.state host.new) told.new.items
         told.new.items) }
     ensures order { OnOk result
         (Needs (H.state host.new)
         (IsInOrder administration.new.database administration.new.lists.lists)) }
-    ensures open { OnOk result (IsOpen diversions.now.entries administration.new) }
+    ensures open { OnOk result (IsOpen diversions.now.ways administration.new) }
     ensures indexed { OnOk result (ArePackagesOf administration.new.database.records packages.new) }
     ensures untold { told.new.items ≡ told.old.items }
     ensures silent { Silent (H.state host.old) (H.state host.new) }
     ensures any_moment { AtEachMomentOf
-        (AreRunning name.now diversions.now.entries gone.items (holding_of administration.old))
+        (AreRunning name.now diversions.now.ways gone.items (holding_of administration.old))
         (H.state host.old) (H.state host.new) }
     ensures counts { Counts (H.state host.old) (H.state host.new) result }
 {
@@ -83,25 +83,25 @@ fn run_both<H: Host>(
     plan: Plan,
     told: &mut Vec<Called>,
 ) -> Result<Option<Call>, HostFault>
-    requires open { IsOpen diversions.now.entries administration.old }
+    requires open { IsOpen diversions.now.ways administration.old }
     requires order { Needs (H.state host.old)
         (IsInOrder administration.old.database administration.old.lists.lists) }
     requires indexed { ArePackagesOf administration.old.database.records packages.old }
     requires planned { (row : ARow)
         × ArePlanned name.now (holding_of administration.old) row plan.call.items plan.gone.items }
     ensures ran { IfOk result
-        (λ failed. HaveRunBoth name.now diversions.now.entries plan.call.items plan.gone.items
+        (λ failed. HaveRunBoth name.now diversions.now.ways plan.call.items plan.gone.items
         failed (holding_of administration.old) (holding_of administration.new)
         (H.state host.old) (H.state host.new) told.old.items told.new.items) }
     ensures order { OnOk result
         (Needs (H.state host.new)
         (IsInOrder administration.new.database administration.new.lists.lists)) }
-    ensures open { OnOk result (IsOpen diversions.now.entries administration.new) }
+    ensures open { OnOk result (IsOpen diversions.now.ways administration.new) }
     ensures indexed { OnOk result (ArePackagesOf administration.new.database.records packages.new) }
     ensures told { Begun (MayRunStages plan.call.items) (H.state host.old) (H.state host.new)
         told.old.items told.new.items }
     ensures any_moment { Since
-        (IsAmidBoth name.now diversions.now.entries plan.call.items plan.gone.items
+        (IsAmidBoth name.now diversions.now.ways plan.call.items plan.gone.items
         (holding_of administration.old) (H.state host.old))
         (H.state host.old) (H.state host.new) }
     ensures counts { Counts (H.state host.old) (H.state host.new) result }
@@ -138,9 +138,9 @@ fn decide<H: Host>(
     requires indexed { ArePackagesOf administration.now.database.records packages.now }
     ensures decision { IfOk result
         (λ found. MatchOption found
-        (Stays incoming.now diversions.now.entries losing.now (holding_of administration.now)
+        (Stays incoming.now diversions.now.ways losing.now (holding_of administration.now)
         (H.state host.old).world (H.state host.new).honest)
-        (λ p. Goes incoming.now diversions.now.entries losing.now (holding_of administration.now)
+        (λ p. Goes incoming.now diversions.now.ways losing.now (holding_of administration.now)
         (H.state host.old).world (H.state host.new).honest
         × IsPlan incoming.now version.now losing.now.name (holding_of administration.now)
         (H.state host.old).world (H.state host.new).honest p.call.items p.gone.items)) }
@@ -183,26 +183,26 @@ pub(crate) fn disappear<H: Host>(
     names: &mut Texts,
     told: &mut Vec<Called>,
 ) -> Result<Option<Call>, HostFault>
-    requires open { IsOpen diversions.now.entries administration.old }
+    requires open { IsOpen diversions.now.ways administration.old }
     requires order { Needs (H.state host.old)
         (IsInOrder administration.old.database administration.old.lists.lists) }
     requires indexed { ArePackagesOf administration.old.database.records packages.old }
     ensures decided { IfOk result
         (λ failed. (own : List (List ℕ))
         × (names.new ≡ names.old ++ own)
-        × IsDecided incoming.now version.now diversions.now.entries losing.now own failed
+        × IsDecided incoming.now version.now diversions.now.ways losing.now own failed
         (holding_of administration.old) (holding_of administration.new)
         (H.state host.old) (H.state host.new) told.old.items told.new.items) }
     ensures order { OnOk result
         (Needs (H.state host.new)
         (IsInOrder administration.new.database administration.new.lists.lists)) }
-    ensures open { OnOk result (IsOpen diversions.now.entries administration.new) }
+    ensures open { OnOk result (IsOpen diversions.now.ways administration.new) }
     ensures indexed { OnOk result (ArePackagesOf administration.new.database.records packages.new) }
-    ensures told { HasCalledOne incoming.now version.now diversions.now.entries losing.now
+    ensures told { HasCalledOne incoming.now version.now diversions.now.ways losing.now
         (holding_of administration.old) (H.state host.old) (H.state host.new)
         told.old.items told.new.items }
     ensures any_moment { Since
-        (IsAmidUnit incoming.now version.now diversions.now.entries losing.now
+        (IsAmidUnit incoming.now version.now diversions.now.ways losing.now
         (holding_of administration.old) (H.state host.old))
         (H.state host.old) (H.state host.new) }
     ensures counts { Counts (H.state host.old) (H.state host.new) result }

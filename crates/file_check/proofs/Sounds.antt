@@ -8,7 +8,7 @@ use Rattle.package_files.specs.declared.work.Work.{Work}
 use Rattle.file_check.specs.declared.above.Above.{Above}
 use Rattle.file_check.specs.declared.above.Above.TheVariants as above
 use Rattle.file_check.specs.Above.{IsAbove}
-use Rattle.file_check.specs.Ways.{in_way_at}
+use Rattle.file_check.specs.InWay.{in_way_at}
 use Rattle.diversions.specs.declared.entry.Diversion.{Diversion}
 use Rattle.file_check.specs.Clashes.{Owning, clash_at}
 use Rattle.file_check.specs.Targets.{diversion_to}
@@ -18,7 +18,7 @@ use Rattle.file_check.proofs.WorkLists.{whole_is, front_is}
 
 module _ (o : Owning) (made twice : Path → Bool) (w : World) where
   -- what is seen gives the first fault
-  judged : (s : Work) (above : Above) (way : Bool) (clash : Option (List ℕ)) (diversion : Option Diversion) → IsAbove made w s.place above → way ≡ in_way_at w s → clash ≡ clash_at o twice w s → diversion ≡ diversion_to o s
+  judged : (s : Work) (above : Above) (way : Bool) (clash : Option (List ℕ)) (diversion : Option Diversion) → IsAbove made w s.place above → way ≡ in_way_at o w s → clash ≡ clash_at o twice w s → diversion ≡ diversion_to o s
       → MatchOption (fault_by s.path above way clash diversion) (IsSound o made twice w s) (IsFaultOf o made twice w s)
   judged s above.Link way clash diversion is way_is clash_is to = (refl, is)
   judged s above.Lacking way clash diversion is way_is clash_is to = (refl, is.0, is.1)
@@ -27,7 +27,7 @@ module _ (o : Owning) (made twice : Path → Bool) (w : World) where
   judged s above.Directories false None (Some d) is way_is clash_is to = (refl, is, sym way_is, sym clash_is, (d, sym to, refl))
   judged s above.Directories false None None is way_is clash_is to = record { above = is; way = sym way_is; clash = sym clash_is; target = sym to }
 
-  pub judged_by : (s : Work) (above : Above) (way : Bool) (clash : Option (List ℕ)) (found : Option StepFault) → found ≡ fault_by s.path above way clash (diversion_to o s) → IsAbove made w s.place above → way ≡ in_way_at w s → clash ≡ clash_at o twice w s
+  pub judged_by : (s : Work) (above : Above) (way : Bool) (clash : Option (List ℕ)) (found : Option StepFault) → found ≡ fault_by s.path above way clash (diversion_to o s) → IsAbove made w s.place above → way ≡ in_way_at o w s → clash ≡ clash_at o twice w s
       → MatchOption found (IsSound o made twice w s) (IsFaultOf o made twice w s)
   judged_by s above way clash found told is way_is clash_is =
       subst (λ (f : Option StepFault). MatchOption f (IsSound o made twice w s) (IsFaultOf o made twice w s)) (sym told) (judged s above way clash (diversion_to o s) is way_is clash_is refl)

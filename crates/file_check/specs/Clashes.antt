@@ -11,7 +11,7 @@ use Rattle.host_core.specs.declared.node.Kind.{Kind}
 use Rattle.host_core.specs.declared.node.Kind.TheVariants as kind
 use Rattle.host_core.specs.declared.node.Node.{Node}
 use Rattle.host_core.specs.declared.node.Node.TheVariants.{File, Dir, Link}
-use Rattle.diversions.specs.declared.entry.Diversion.{Diversion}
+use Rattle.diversions.specs.Ways.{Ways}
 use Rattle.file_lists.specs.declared.paths.PackageList.{PackageList}
 use Rattle.file_lists.specs.declared.paths.Listed.{Listed}
 use Rattle.file_lists.specs.Owners.{owners_of}
@@ -19,13 +19,13 @@ use Rattle.package_files.specs.declared.work.Work.{Work}
 
 -- who has which places: the diversions and the lists, the packages with which no path clashes, and the incoming one
 pub record Owning : Type 0 where
-  pub entries : List Diversion
+  pub ways : Ways
   pub lists : List PackageList
   pub yields : List (List ℕ)
   pub incoming : List ℕ
 
-abbrev pub owning : List Diversion → List PackageList → List (List ℕ) → List ℕ → Owning
-owning entries lists yields incoming = record { entries = entries; lists = lists; yields = yields; incoming = incoming }
+abbrev pub owning : Ways → List PackageList → List (List ℕ) → List ℕ → Owning
+owning ways lists yields incoming = record { ways = ways; lists = lists; yields = yields; incoming = incoming }
 
 -- a package other than the incoming one that doesn't yield
 abbrev pub is_rival : Owning → List ℕ → Bool
@@ -38,7 +38,7 @@ first_rival o (x ∷ xs) = cond (is_rival o x.name) (Some x.name) (first_rival o
 
 -- the first one, in the order of names, that lists a path of a place
 abbrev pub rival : Owning → Path → Option (List ℕ)
-rival o place = first_rival o (owners_of o.entries o.lists place)
+rival o place = first_rival o (owners_of o.ways o.lists place)
 
 -- a shipped node is written where this stands, but as a directory where nothing stands
 abbrev pub claims : Node → Option Kind → Bool

@@ -1,7 +1,7 @@
 pub mod Ships
 pub mod Above
-pub mod Ways
 pub mod Clashes
+pub mod InWay
 pub mod Targets
 pub mod Index
 pub mod Sound

@@ -10,7 +10,7 @@ use Rattle.package_files.specs.declared.work.Work.{Work}
 use Rattle.file_check.specs.declared.above.Above.{Above}
 use Rattle.file_check.specs.declared.above.Above.TheVariants as above
 use Rattle.file_check.specs.Above.{HasLink, Lacks, IsClear}
-use Rattle.file_check.specs.Ways.{in_way_at}
+use Rattle.file_check.specs.InWay.{in_way_at}
 use Rattle.file_check.specs.Clashes.{Owning, clash_at}
 use Rattle.file_check.specs.Targets.{IsTargetOf, diversion_to}
 use Rattle.file_check.specs.Index.{is_made, is_twice}
@@ -19,7 +19,7 @@ module _ (o : Owning) (made twice : Path → Bool) (w : World) where
   -- a path has no step fault
   pub record IsSound (s : Work) : Type 0 where
     pub above : IsClear made w s.place
-    pub way : in_way_at w s ≡ false
+    pub way : in_way_at o w s ≡ false
     pub clash : clash_at o twice w s ≡ None
     pub target : diversion_to o s ≡ None
 
@@ -29,10 +29,10 @@ module _ (o : Owning) (made twice : Path → Bool) (w : World) where
   abbrev pub IsFaultOf : Work → StepFault → Type 0
   IsFaultOf s (LinkParent p) = (p ≡ s.path) × HasLink w s.place
   IsFaultOf s (NoParent p) = (p ≡ s.path) × (HasLink w s.place → ⊥) × Lacks made w s.place
-  IsFaultOf s (DirInWay p) = (p ≡ s.path) × IsClear made w s.place × (in_way_at w s ≡ true)
-  IsFaultOf s (Clash p owner) = (p ≡ s.path) × IsClear made w s.place × (in_way_at w s ≡ false) × (clash_at o twice w s ≡ Some owner)
+  IsFaultOf s (DirInWay p) = (p ≡ s.path) × IsClear made w s.place × (in_way_at o w s ≡ true)
+  IsFaultOf s (Clash p owner) = (p ≡ s.path) × IsClear made w s.place × (in_way_at o w s ≡ false) × (clash_at o twice w s ≡ Some owner)
   IsFaultOf s (DiversionTarget p diverter) =
-      (p ≡ s.path) × IsClear made w s.place × (in_way_at w s ≡ false) × (clash_at o twice w s ≡ None) × IsTargetOf o s diverter
+      (p ≡ s.path) × IsClear made w s.place × (in_way_at o w s ≡ false) × (clash_at o twice w s ≡ None) × IsTargetOf o s diverter
   IsFaultOf s (Declined p) = ⊥
 
   abbrev pub AreSound : List Work → Type 0

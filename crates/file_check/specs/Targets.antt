@@ -1,4 +1,4 @@
--- Which shipped paths are, as they are listed, targets of diversions (dpkg-divert(1)).
+-- Which shipped paths are, as they are listed, places of targets of diversions (dpkg-divert(1)).
 use Rattle.std.specs.Prelude.{◌≡◌, ℕ, List, Option, Some}
 use Rattle.diversions.specs.Targets.{entry_to, owner_name}
 use Rattle.diversions.specs.declared.entry.Diversion.{Diversion}
@@ -7,7 +7,7 @@ use Rattle.file_check.specs.Clashes.{Owning}
 
 -- the diversion of another path to a shipped one, whoever's it is
 abbrev pub diversion_to : Owning → Work → Option Diversion
-diversion_to o s = entry_to o.entries s.path
+diversion_to o s = entry_to o.ways s.path
 
 -- there is one, by the package of this name, or by none
 abbrev pub IsTargetOf : Owning → Work → Option (List ℕ) → Type 0

@@ -28,7 +28,12 @@ fn makes_directory(node: &Node, had: Option<Kind>) -> bool
     }
 }
 
-fn add(alloc: Global, set: &mut BTreeSet<String>, path: &RootPath) -> Result<(), AllocError>
+/// Adds the text of a path.
+pub(crate) fn add(
+    alloc: Global,
+    set: &mut BTreeSet<String>,
+    path: &RootPath,
+) -> Result<(), AllocError>
     ensures { OnOk result
         ((q : List ℕ)
         → contains_text set.new q ≡ (contains_text set.old q || bytes_eq q path.now)) }

@@ -5,7 +5,7 @@ ghost use Rattle.undo_rows.specs.Place.{is_declined};
 ghost use Rattle.file_check.specs.Clashes.{clash_by};
 ghost use Rattle.file_check.specs.Sound.{fault_by};
 ghost use Rattle.file_check.specs.Targets.{diversion_to};
-ghost use Rattle.file_check.specs.Ways.{in_way_by};
+ghost use Rattle.file_check.specs.InWay.{in_way_by};
 
 use crate::above::Above;
 use crate::clash::clash_of;
@@ -57,13 +57,13 @@ pub(crate) fn judge(
 ) -> Result<Option<StepFault>, AllocError>
     ensures first { IfOk result
         (λ found. found
-        ≡ fault_by shipped.now.path above (in_way_by shipped.now shipped.now.had sight)
+        ≡ fault_by shipped.now.path above (in_way_by owning.now shipped.now shipped.now.had sight)
         (clash_by owning.now (contains_text twice.now) shipped.now sight.place)
         (diversion_to owning.now shipped.now)) }
     ensures undeclined { IfOk result (λ found. is_declined found ≡ false) }
 {
     let clash = clash_of(alloc, owning, twice, shipped, sight.place)?;
-    let way = is_in_way(shipped, sight);
-    let diversion = owning.diversion_to(shipped);
+    let way = is_in_way(owning, shipped, sight)?;
+    let diversion = owning.diversion_to(shipped)?;
     first_fault(&shipped.path, above, way, clash, diversion)
 }

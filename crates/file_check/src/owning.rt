@@ -3,6 +3,7 @@ ghost use Rattle.std.specs.Prelude.{◌≡◌, IfOk, option_copied};
 ghost use Rattle.std.specs.List.{list_any};
 ghost use Rattle.std.specs.Str.{bytes_eq};
 ghost use Rattle.file_check.specs.Clashes.{first_rival, is_rival, rival};
+ghost use Rattle.file_check.specs.InWay.{is_diverted};
 ghost use Rattle.file_check.specs.Targets.{diversion_to};
 
 use diversions::{Diversion, Diversions};
@@ -28,7 +29,7 @@ impl<'a> Model for Owning<'a> {
     ghost Value = { Owning };
 
     ghost view = { λ o.
-        owning o.diversions.now.entries o.lists.now.lists o.yields.now o.incoming.now };
+        owning o.diversions.now.ways o.lists.now.lists o.yields.now o.incoming.now };
 }
 
 fn is_one_of(names: &[Text], name: &Text) -> bool
@@ -72,9 +73,16 @@ impl<'a> Owning<'a> {
         self.first_rival(owners.items.as_slice())
     }
 
-    /// The diversion of another path to a shipped one.
-    pub(crate) fn diversion_to(&self, shipped: &Work) -> Option<&Diversion>
-        ensures { option_copied result ≡ diversion_to self.now shipped.now }
+    /// Whether a shipped path has another place than that of its name.
+    pub(crate) fn is_diverted(&self, shipped: &Work) -> Result<bool, AllocError>
+        ensures { IfOk result (λ diverted. diverted ≡ is_diverted self.now shipped.now) }
+    {
+        self.diversions.is_diverted(&shipped.path, &shipped.place)
+    }
+
+    /// The diversion of another path to the place of a shipped one, by its name.
+    pub(crate) fn diversion_to(&self, shipped: &Work) -> Result<Option<&Diversion>, AllocError>
+        ensures { IfOk result (λ found. option_copied found ≡ diversion_to self.now shipped.now) }
     {
         self.diversions.entry_to(&shipped.path)
     }

@@ -1,14 +1,17 @@
 // What stands at the place of a shipped path and at the names beside it, and which of it is in the way.
-ghost use Rattle.std.specs.Prelude.{◌≡◌};
+ghost use Rattle.std.specs.Prelude.{◌≡◌, IfOk};
 ghost use Rattle.host_core.specs.World.{kind_of};
 ghost use Rattle.host_core.specs.Host.{Needs};
 ghost use Rattle.host_core.specs.Looks.{Looks};
 ghost use Rattle.package_files.specs.Free.{IsSeen};
-ghost use Rattle.file_check.specs.Ways.{at_names, in_way, in_way_by, is_diverted, sight_of};
+ghost use Rattle.file_check.specs.InWay.{at_names, in_way, in_way_by, sight_of};
 
 use crate::above::is_directory;
+use crate::owning::Owning;
+use crate::works::is_directory_node;
 use host_core::{Host, HostFault, Kind, Node};
 use package_files::Work;
+use std::alloc::AllocError;
 
 /// The kinds of what stands at a place and at the names beside it.
 #[derive(Clone, Copy)]
@@ -39,17 +42,19 @@ fn in_way(diverted: bool, node: &Node, target: Option<Kind>, sight: Sight) -> bo
     }
 }
 
-fn is_diverted(shipped: &Work) -> bool
-    ensures { result ≡ is_diverted shipped.now }
+/// Whether a directory is in the way, by what was seen. Only of a directory it matters whether it is diverted.
+pub(crate) fn is_in_way(
+    owning: &Owning<'_>,
+    shipped: &Work,
+    sight: Sight,
+) -> Result<bool, AllocError>
+    ensures { IfOk result (λ way. way ≡ in_way_by owning.now shipped.now shipped.now.had sight) }
 {
-    !shipped.path.is(&shipped.place)
-}
-
-/// Whether a directory is in the way, by what was seen.
-pub(crate) fn is_in_way(shipped: &Work, sight: Sight) -> bool
-    ensures { result ≡ in_way_by shipped.now shipped.now.had sight }
-{
-    in_way(is_diverted(shipped), &shipped.node, shipped.had, sight)
+    if !is_directory_node(&shipped.node) {
+        return Ok(in_way(false, &shipped.node, shipped.had, sight));
+    }
+    let diverted = owning.is_diverted(shipped)?;
+    Ok(in_way(diverted, &shipped.node, shipped.had, sight))
 }
 
 // What stands at the place, which for all but a conffile is the target.

@@ -63,14 +63,14 @@ pub fn check<H: Host>(
         (H.state host.old) (H.state host.new) }
     ensures sound { Tells result
         (λ found w. IfNone found
-        (AllSound (owning diversions.now.entries lists.now.lists yields.now incoming.now) works.new
+        (AllSound (owning diversions.now.ways lists.now.lists yields.now incoming.now) works.new
         w))
         (H.state host.old) (H.state host.new) }
     ensures distinct { IfOk result (λ found. IfNone found (IsDistinct is_one_place works.new)) }
     ensures undeclined { IfOk result (λ found. is_declined found ≡ false) }
     ensures looks { Looks result
         (λ found w. IfSome found
-        (IsFirstFault (owning diversions.now.entries lists.now.lists yields.now incoming.now)
+        (IsFirstFault (owning diversions.now.ways lists.now.lists yields.now incoming.now)
         works.old w))
         (H.state host.old) (H.state host.new) }
 {

@@ -1,13 +1,13 @@
 -- Lists of which one is another.
-use Rattle.std.proofs.Common.{◌≡◌, ◌+◌, ◌<◌, inl, inr, ℕ, zero, suc, Bool, true, false, cond, List, [], ◌∷◌, map, length, get_or, Option, Some, None, refl, sym, ap, subst, ◌∙◌, arith, Contains}
+use Rattle.std.proofs.Common.{◌≡◌, ◌<◌, ℕ, zero, suc, Bool, true, false, cond, List, [], ◌∷◌, map, length, get_or, Option, Some, None, refl, sym, ap, subst, ◌∙◌, arith, Contains}
 use Rattle.std.proofs.Math.ListN.{set}
 use Rattle.std.specs.List.{AllByRecursion, insert}
 use Rattle.std.specs.Prelude.{nat_eq}
-use Rattle.std.specs.Ordering.{nat_cmp, is_lt, match_ordering, ordering_reverse}
+use Rattle.std.specs.Ordering.{nat_cmp, match_ordering, ordering_reverse}
 use Rattle.std.specs.Cmp.Lexicographic.{slice_cmp}
 use Rattle.std.specs.declared.cmp.Ordering.{Ordering}
 use Rattle.std.specs.declared.cmp.Ordering.TheVariants.{Less, Equal, Greater}
-use Rattle.std.proofs.lemmas.Bool.{cases_lt, true≢false, false≢true}
+use Rattle.std.proofs.lemmas.Bool.{false≢true}
 use Rattle.std.proofs.lemmas.Bool.Decides.{Decides-eqb}
 use Rattle.std.proofs.lemmas.Cmp.{tied_itself, nat_list_cmp_total}
 use Rattle.std.proofs.lemmas.List.{map-set, get_or-set_same, get_or-set_other}
@@ -18,13 +18,14 @@ use Rattle.name_tables.proofs.Placed.{place_behind}
 use Rattle.host_core.specs.Paths.{Path}
 use Rattle.file_lists.specs.declared.paths.PackageList.{PackageList}
 use Rattle.file_lists.specs.Increasing.{IsBefore, AreIncreasing}
-use Rattle.file_lists.specs.Index.{row_of, paths_of_slot, IsComplete, KeepsRows, IsIndexed}
+use Rattle.file_lists.specs.Index.{Keyed, row_for, spot_of, paths_of_slot, IsNumbered, IsComplete, KeepsRows, IsIndexed}
 use Rattle.file_lists.specs.Owners.{AreListPaths, AreLists, name_of, names_of}
 use Rattle.file_lists.specs.Table.{IsAt}
 use Rattle.file_lists.specs.Writing.{package_list, with_list, with_paths_at, IsEntered}
 use Rattle.file_lists.proofs.Finding.{behind}
-use Rattle.file_lists.proofs.Increasing.{all_at, get_or_any}
-use Rattle.file_lists.proofs.Tables.{name_at, within_names}
+use Rattle.file_lists.proofs.Increasing.{all_at}
+use Rattle.file_lists.proofs.Indexes.{stays}
+use Rattle.file_lists.proofs.Tables.{within_names}
 
 -- a name that is behind another compares as greater
 greater : (name other : Path) → IsBefore other name → slice_cmp nat_cmp name other ≡ Greater
@@ -107,14 +108,14 @@ paths_there lists at s paths lt false e =
     ap (λ (l : List (List Path)). get_or l s []) (map-set (λ (l : PackageList). l.paths) lists at (package_list (get_or (names_of lists) at []) paths))
     ∙ get_or-set_other (map (λ (l : PackageList). l.paths) lists) at s paths [] (λ same. false≢true (sym e ∙ (Decides-eqb s at).1 same))
 
-complete_with : (lists : List PackageList) (at : ℕ) (paths : List Path) (old rows : List (List ℕ)) → at < length lists → IsComplete old lists → KeepsRows old rows → ((path : Path) → Contains paths path → Contains (row_of rows path) at) → IsComplete rows (with_paths_at at paths lists)
-complete_with lists at paths old rows lt complete kept here s path has = by (nat_eq s at) refl
+complete_with : (lists : List PackageList) (at : ℕ) (paths : List Path) (old new : Keyed) → at < length lists → IsComplete old lists → KeepsRows old new → ((number : ℕ) (path : Path) → IsNumbered paths number path → Contains (row_for new path) (spot_of at number)) → IsComplete new (with_paths_at at paths lists)
+complete_with lists at paths old new lt complete kept here s number path stands = by (nat_eq s at) refl
   where
-    by : (b : Bool) → nat_eq s at ≡ b → Contains (row_of rows path) s
-    by true e = subst (λ (k : ℕ). Contains (row_of rows path) k) (sym ((Decides-eqb s at).0 e)) (here path (subst (λ (l : List Path). Contains l path) (paths_there lists at s paths lt true e) has))
-    by false e = kept path s (complete s path (subst (λ (l : List Path). Contains l path) (paths_there lists at s paths lt false e) has))
+    by : (b : Bool) → nat_eq s at ≡ b → Contains (row_for new path) (spot_of s number)
+    by true e = subst (λ (k : ℕ). Contains (row_for new path) (spot_of k number)) (sym ((Decides-eqb s at).0 e)) (here number path (subst (λ (l : List Path). IsNumbered l number path) (paths_there lists at s paths lt true e) stands))
+    by false e = stays old new path (spot_of s number) kept (complete s number path (subst (λ (l : List Path). IsNumbered l number path) (paths_there lists at s paths lt false e) stands))
 
-pub indexed_with : (lists : List PackageList) (at : ℕ) (paths : List Path) (old new : Option (List (List ℕ))) → at < length lists → IsIndexed old lists → IsEntered old paths at new → IsIndexed new (with_paths_at at paths lists)
+pub indexed_with : (lists : List PackageList) (at : ℕ) (paths : List Path) (old new : Option Keyed) → at < length lists → IsIndexed old lists → IsEntered old paths at new → IsIndexed new (with_paths_at at paths lists)
 indexed_with lists at paths old None lt indexed entered = tt
-indexed_with lists at paths None (Some rows) lt indexed entered = absurd entered
-indexed_with lists at paths (Some old) (Some rows) lt indexed entered = complete_with lists at paths old rows lt indexed entered.0 entered.1
+indexed_with lists at paths None (Some new) lt indexed entered = absurd entered
+indexed_with lists at paths (Some old) (Some new) lt indexed entered = complete_with lists at paths old new lt indexed entered.0 entered.1

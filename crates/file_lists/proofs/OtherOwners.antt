@@ -1,21 +1,19 @@
--- Another package owns a place exactly where one of the lists is such a package's.
+-- Another package owns a place exactly where one of the owners is one.
 use Rattle.std.proofs.Common.{◌≡◌, ◌⊎◌, ◌<◌, inl, inr, ℕ, zero, suc, Bool, true, false, not, ◌||◌, cond, List, [], ◌∷◌, map, filter, length, get_or, refl, sym, ap, subst, ◌∙◌, arith, Contains}
-use Rattle.std.specs.Prelude.{MatchBool}
-use Rattle.std.specs.List.{list_any}
+use Rattle.std.specs.List.{list_any, flat_map}
 use Rattle.std.specs.Str.{bytes_eq}
 use Rattle.std.proofs.lemmas.Bool.{false≢true, true≢false}
 use Rattle.std.proofs.lemmas.List.Folds.{list_any-append}
-use Rattle.std.proofs.lemmas.Slice.Eq.{bytes_eq-Decides}
 use Rattle.host_core.specs.Paths.{Path}
-use Rattle.diversions.specs.declared.entry.Diversion.{Diversion}
-use Rattle.diversions.specs.Places.{place}
-use Rattle.file_lists.specs.Index.{AreSources, IsComplete, row_of}
-use Rattle.file_lists.specs.Others.{HasAt, HasOther, IsOther, IsNoOther, AreNoOthers}
+use Rattle.aliases.specs.Aliases.{Alias, resolved}
+use Rattle.diversions.specs.Ways.{Ways, place}
+use Rattle.file_lists.specs.Index.{Keyed, row_of, spot_of, AreKeys, IsComplete, owner_if, owners_by_path, owners_of_slot, joined}
+use Rattle.file_lists.specs.Others.{has_other, is_other_at}
 use Rattle.file_lists.specs.Owners.{has_other_owner, listed, owners_in, owners_of}
 use Rattle.file_lists.specs.declared.paths.Listed.{Listed}
 use Rattle.file_lists.specs.declared.paths.PackageList.{PackageList}
-use Rattle.file_lists.proofs.Increasing.{get_or_any}
-use Rattle.file_lists.proofs.Indexes.{slot_paths}
+use Rattle.file_lists.specs.declared.spot.Spot.{Spot}
+use Rattle.file_lists.proofs.Gathering.{Grid, cell, grid_of, by_rows, owner_stands}
 
 either : (a b : Bool) → a || b ≡ true → (a ≡ true) ⊎ (b ≡ true)
 either true b is = inl refl
@@ -29,87 +27,117 @@ or_that : (a b : Bool) → b ≡ true → a || b ≡ true
 or_that true b is = refl
 or_that false b is = is
 
-module _ (entries : List Diversion) (at : Path) (name : List ℕ) where
-  abbrev of_other : Listed → Bool
-  of_other owner = not (bytes_eq owner.name name)
+pub refuted : (b : Bool) → (b ≡ true → ⊥) → b ≡ false
+refuted true none = absurd (none refl)
+refuted false none = refl
 
-  abbrev lies : List ℕ → Path → Bool
-  lies n path = bytes_eq (place entries n path) at
+-- Spot by spot.
 
-  abbrev has_other_in : List ℕ → List Path → Bool
-  has_other_in n paths = list_any of_other (map (listed n) (filter (lies n) paths))
+module _ (P : Listed → Bool) where
+  in_row : (row : List (List Listed)) (number : ℕ) → list_any P (get_or row number []) ≡ true → list_any P (joined row) ≡ true
+  in_row [] zero some = some
+  in_row [] (suc number) some = some
+  in_row (x ∷ row) zero some = list_any-append P x (joined row) ∙ this_or (list_any P x) (list_any P (joined row)) some
+  in_row (x ∷ row) (suc number) some = list_any-append P x (joined row) ∙ or_that (list_any P x) (list_any P (joined row)) (in_row row number some)
 
-  own_none : (n : List ℕ) → bytes_eq n name ≡ true → (paths : List Path) → list_any of_other (map (listed n) paths) ≡ false
-  own_none n same [] = refl
-  own_none n same (p ∷ paths) = ap (λ b. not b || list_any of_other (map (listed n) paths)) same ∙ own_none n same paths
+  in_grid : (grid : Grid) (slot number : ℕ) → list_any P (cell grid (spot_of slot number)) ≡ true → list_any P (flat_map joined grid) ≡ true
+  in_grid [] zero number some = in_row [] number some
+  in_grid [] (suc slot) number some = in_row [] number some
+  in_grid (row ∷ grid) zero number some = list_any-append P (joined row) (flat_map joined grid) ∙ this_or (list_any P (joined row)) (list_any P (flat_map joined grid)) (in_row row number some)
+  in_grid (row ∷ grid) (suc slot) number some = list_any-append P (joined row) (flat_map joined grid) ∙ or_that (list_any P (joined row)) (list_any P (flat_map joined grid)) (in_grid grid slot number some)
 
-  one_lies : (n : List ℕ) (paths : List Path) → has_other_in n paths ≡ true → (path : Path) × Contains paths path × (lies n path ≡ true)
-  one_lies n [] any = absurd (false≢true any)
-  one_lies n (p ∷ paths) any = by (lies n p) refl (one_lies n paths) any
-    where
-      by : (b : Bool) → lies n p ≡ b → (has_other_in n paths ≡ true → (path : Path) × Contains paths path × (lies n path ≡ true)) → list_any of_other (map (listed n) (cond b (p ∷ filter (lies n) paths) (filter (lies n) paths))) ≡ true
-          → (path : Path) × Contains (p ∷ paths) path × (lies n path ≡ true)
-      by true e rest some = (p, (zero, omega arith, refl), e)
-      by false e rest some = (let found = rest some in (found.0, (suc found.1.0, omega (arith, found.1.1), found.1.2), found.2))
-
-  in_list : (l : PackageList) → has_other_in l.name l.paths ≡ true → IsOther entries at name l
-  in_list l any = record {
-    other = λ same. true≢false (sym any ∙ own_none l.name ((bytes_eq-Decides l.name name).1 same) (filter (lies l.name) l.paths));
-    path = found.0;
-    has = record { listed = found.1; there = (bytes_eq-Decides (place entries l.name found.0) at).0 found.2 };
-  }
-    where
-      found : (path : Path) × Contains l.paths path × (lies l.name path ≡ true)
-      found = one_lies l.name l.paths any
-
-  lies_told : (n : List ℕ) → bytes_eq n name ≡ false → (paths : List Path) (path : Path) → Contains paths path → lies n path ≡ true → has_other_in n paths ≡ true
-  lies_told n other [] path has there = absurd (omega (arith, has.1))
-  lies_told n other (p ∷ paths) path has there = by (lies n p) refl (λ h. lies_told n other paths path h there) has
-    where
-      by : (b : Bool) → lies n p ≡ b → (Contains paths path → has_other_in n paths ≡ true) → Contains (p ∷ paths) path → list_any of_other (map (listed n) (cond b (p ∷ filter (lies n) paths) (filter (lies n) paths))) ≡ true
-      by true e rest h = ap (λ b. not b || list_any of_other (map (listed n) (filter (lies n) paths))) other
-      by false e rest (zero, lt, is) = absurd (true≢false (sym there ∙ ap (lies n) (sym is) ∙ e))
-      by false e rest (suc i, lt, is) = rest (i, omega (arith, lt), is)
-
-  of_list : (l : PackageList) → IsOther entries at name l → has_other_in l.name l.paths ≡ true
-  of_list l is = lies_told l.name (differs (bytes_eq l.name name) refl) l.paths is.path is.has.listed ((bytes_eq-Decides (place entries l.name is.path) at).1 is.has.there)
-    where
-      differs : (b : Bool) → bytes_eq l.name name ≡ b → b ≡ false
-      differs true e = absurd (is.other ((bytes_eq-Decides l.name name).0 e))
-      differs false e = refl
-
-  one_more : (l : PackageList) (lists : List PackageList) → has_other_owner entries (l ∷ lists) name at ≡ (has_other_in l.name l.paths || has_other_owner entries lists name at)
-  one_more l lists = list_any-append of_other (owners_in entries at l) (owners_of entries lists at)
-
-  pub other_told : (lists : List PackageList) → HasOther entries at name lists → true ≡ has_other_owner entries lists name at
-  other_told [] has = absurd (omega (arith, has.1.1))
-  other_told (l ∷ lists) (x, (zero, lt, same), is) =
-      sym (one_more l lists ∙ this_or (has_other_in l.name l.paths) (has_other_owner entries lists name at) (of_list l (subst (IsOther entries at name) (sym same) is)))
-  other_told (l ∷ lists) (x, (suc i, lt, same), is) =
-      sym (one_more l lists ∙ or_that (has_other_in l.name l.paths) (has_other_owner entries lists name at) (sym (other_told lists (x, (i, omega (arith, lt), same), is))))
-
-  other_found : (lists : List PackageList) → has_other_owner entries lists name at ≡ true → HasOther entries at name lists
-  other_found [] any = absurd (false≢true any)
-  other_found (l ∷ lists) any = elim (either (has_other_in l.name l.paths) (has_other_owner entries lists name at) (sym (one_more l lists) ∙ any)) [
-    | inl here ↦ (l, (zero, omega arith, refl), in_list l here)
-    | inr later ↦ (let found = other_found lists later in (found.0, (suc found.1.0, omega (arith, found.1.1), found.1.2), found.2))
+  of_row : (row : List (List Listed)) → list_any P (joined row) ≡ true → (number : ℕ) × (list_any P (get_or row number []) ≡ true)
+  of_row [] some = absurd (false≢true some)
+  of_row (x ∷ row) some = elim (either (list_any P x) (list_any P (joined row)) (sym (list_any-append P x (joined row)) ∙ some)) [
+    | inl here ↦ (zero, here)
+    | inr later ↦ (let found = of_row row later in (suc found.0, found.1))
   ]
 
-  -- none of the lists is one
-  pub none_told : (lists : List PackageList) → ((l : PackageList) → Contains lists l → IsOther entries at name l → ⊥) → false ≡ has_other_owner entries lists name at
-  none_told lists none = by (has_other_owner entries lists name at) refl
+  of_grid : (grid : Grid) → list_any P (flat_map joined grid) ≡ true → (spot : Spot) × (list_any P (cell grid spot) ≡ true)
+  of_grid [] some = absurd (false≢true some)
+  of_grid (row ∷ grid) some = elim (either (list_any P (joined row)) (list_any P (flat_map joined grid)) (sym (list_any-append P (joined row) (flat_map joined grid)) ∙ some)) [
+    | inl here ↦ (let found = of_row row here in (spot_of zero found.0, found.1))
+    | inr later ↦ (let found = of_grid grid later in (spot_of (suc found.0.list) found.0.path, found.1))
+  ]
+
+  some_of : (xs : List Listed) → list_any P xs ≡ true → (x : Listed) × ((rest : List Listed) × (xs ≡ x ∷ rest))
+  some_of [] some = absurd (false≢true some)
+  some_of (x ∷ rest) some = (x, (rest, refl))
+
+module _ (ways : Ways) (at : Path) (name : List ℕ) (lists : List PackageList) where
+  -- one is at a spot
+  pub other_told : (spot : Spot) → is_other_at ways at name lists spot ≡ true → has_other_owner ways lists name at ≡ true
+  other_told spot is = ap (has_other name) (by_rows ways at lists) ∙ in_grid (λ owner. not (bytes_eq owner.name name)) (grid_of ways at lists) spot.list spot.path is
+
+  -- none is at those that the index names
+  pub none_indexed : (keys : List Path) (index : Keyed) → AreKeys ways at keys → index.aliases ≡ ways.aliases → IsComplete index lists
+      → ((key : Path) → Contains keys key → (spot : Spot) → Contains (row_of index.rows key) spot → is_other_at ways at name lists spot ≡ false) → has_other_owner ways lists name at ≡ false
+  none_indexed keys index are same complete none = refuted (has_other_owner ways lists name at) (λ some.
+      (let found = of_grid (λ owner. not (bytes_eq owner.name name)) (grid_of ways at lists) (sym (ap (has_other name) (by_rows ways at lists)) ∙ some) in
+      let spot = found.0 in
+      let shape = some_of (λ owner. not (bytes_eq owner.name name)) (cell (grid_of ways at lists) spot) found.1 in
+      let owner = owner_stands ways at lists spot.list spot.path shape.0 shape.1.0 shape.1.1 in
+      let there = subst (λ (l : List Alias). Contains (row_of index.rows (resolved l owner.path)) spot) same (complete spot.list spot.path owner.path owner.stands) in
+      true≢false (sym found.1 ∙ none (resolved ways.aliases owner.path) (are owner.name owner.path owner.lies) spot there)))
+
+-- What stands at a spot.
+
+of_slot : (ways : Ways) (at : Path) (lists : List PackageList) (slot : ℕ) (l : PackageList) → slot < length lists → l ≡ get_or lists slot l → owners_of_slot ways at lists slot ≡ owners_by_path ways at l
+of_slot ways at [] slot l lt is = absurd (omega (arith, lt))
+of_slot ways at (x ∷ lists) zero l lt is = ap (owners_by_path ways at) (sym is)
+of_slot ways at (x ∷ lists) (suc slot) l lt is = of_slot ways at lists slot l (omega (arith, lt)) is
+
+pub own_path : (ways : Ways) (at : Path) (name n : List ℕ) (path : Path) → bytes_eq n name ≡ true → has_other name (owner_if ways at n path) ≡ false
+own_path ways at name n path same = by (bytes_eq (place ways n path) at)
+  where
+    by : (b : Bool) → has_other name (cond b (listed n path ∷ []) []) ≡ false
+    by true = ap (λ b. not b || false) same
+    by false = refl
+
+own_row : (ways : Ways) (at : Path) (name n : List ℕ) (paths : List Path) (number : ℕ) → bytes_eq n name ≡ true → has_other name (get_or (map (owner_if ways at n) paths) number []) ≡ false
+own_row ways at name n [] zero same = refl
+own_row ways at name n [] (suc number) same = refl
+own_row ways at name n (p ∷ paths) zero same = own_path ways at name n p same
+own_row ways at name n (p ∷ paths) (suc number) same = own_row ways at name n paths number same
+
+-- in the package's own list
+pub own_at : (ways : Ways) (at : Path) (name : List ℕ) (lists : List PackageList) (spot : Spot) (l : PackageList) → spot.list < length lists → l ≡ get_or lists spot.list l → bytes_eq l.name name ≡ true → is_other_at ways at name lists spot ≡ false
+own_at ways at name lists spot l lt is same = ap (λ (row : List (List Listed)). has_other name (get_or row spot.path [])) (of_slot ways at lists spot.list l lt is) ∙ own_row ways at name l.name l.paths spot.path same
+
+-- Of one list.
+
+module _ (ways : Ways) (at : Path) (name : List ℕ) where
+  pub own_none : (n : List ℕ) → bytes_eq n name ≡ true → (paths : List Path) → has_other name (map (listed n) paths) ≡ false
+  own_none n same [] = refl
+  own_none n same (p ∷ paths) = ap (λ b. not b || has_other name (map (listed n) paths)) same ∙ own_none n same paths
+
+  pub lies_told : (n : List ℕ) → bytes_eq n name ≡ false → (paths : List Path) (path : Path) → Contains paths path → bytes_eq (place ways n path) at ≡ true → has_other name (map (listed n) (filter (λ path. bytes_eq (place ways n path) at) paths)) ≡ true
+  lies_told n other [] path has there = absurd (omega (arith, has.1))
+  lies_told n other (p ∷ paths) path has there = by (bytes_eq (place ways n p) at) refl (λ h. lies_told n other paths path h there) has
     where
-      by : (b : Bool) → has_other_owner entries lists name at ≡ b → false ≡ b
-      by true e = absurd (let found = other_found lists e in none found.0 found.1 found.2)
-      by false e = refl
+      by : (b : Bool) → bytes_eq (place ways n p) at ≡ b → (Contains paths path → has_other name (map (listed n) (filter (λ path. bytes_eq (place ways n path) at) paths)) ≡ true) → Contains (p ∷ paths) path → has_other name (map (listed n) (cond b (p ∷ (filter (λ path. bytes_eq (place ways n path) at) paths)) (filter (λ path. bytes_eq (place ways n path) at) paths))) ≡ true
+      by true e rest h = ap (λ b. not b || has_other name (map (listed n) (filter (λ path. bytes_eq (place ways n path) at) paths))) other
+      by false e rest (zero, lt, is) = absurd (true≢false (sym there ∙ ap (λ (q : Path). bytes_eq (place ways n q) at) (sym is) ∙ e))
+      by false e rest (suc i, lt, is) = rest (i, omega (arith, lt), is)
 
-  -- nor one of those that the index names
-  pub none_indexed : (sources : List Path) (rows : List (List ℕ)) (lists : List PackageList) → AreSources entries at sources → IsComplete rows lists → ((path : Path) → Contains sources path → AreNoOthers entries at name lists (row_of rows path)) → false ≡ has_other_owner entries lists name at
-  none_indexed sources rows lists are complete none = none_told lists (λ l has is.
-      none is.path (are l.name is.path is.has.there) has.0 (complete has.0 is.path (subst (λ (ps : List Path). Contains ps is.path) (slot_paths lists has.0 l has.1 (sym has.2)) is.has.listed)) l has.1 (sym has.2) is)
+  pub none_lies : (n : List ℕ) (paths : List Path) → ((path : Path) → Contains paths path → bytes_eq (place ways n path) at ≡ false) → has_other name (map (listed n) (filter (λ path. bytes_eq (place ways n path) at) paths)) ≡ false
+  none_lies n [] none = refl
+  none_lies n (p ∷ paths) none =
+      ap (λ b. has_other name (map (listed n) (cond b (p ∷ filter (λ path. bytes_eq (place ways n path) at) paths) (filter (λ path. bytes_eq (place ways n path) at) paths)))) (none p (zero, omega arith, refl))
+      ∙ none_lies n paths (λ q has. none q (suc has.0, omega (arith, has.1), has.2))
 
-  -- of the list of one number
-  pub other_slot : (lists : List PackageList) (slot : ℕ) (l : PackageList) → slot < length lists → l ≡ get_or lists slot l → (b : Bool) → MatchBool b (IsOther entries at name l) (IsOther entries at name l → ⊥)
-      → MatchBool b (HasOther entries at name lists) (IsNoOther entries at name lists slot)
-  other_slot lists slot l lt is true told = (l, (slot, lt, sym is), told)
-  other_slot lists slot l lt is false told = λ x within same other. told (subst (IsOther entries at name) (same ∙ get_or_any lists slot x l lt ∙ sym is) other)
+  -- list after list
+  pub list_told : (lists : List PackageList) (l : PackageList) → Contains lists l → has_other name (owners_in ways at l) ≡ true → has_other_owner ways lists name at ≡ true
+  list_told [] l has is = absurd (omega (arith, has.1))
+  list_told (x ∷ lists) l (zero, lt, same) is =
+      list_any-append (λ owner. not (bytes_eq owner.name name)) (owners_in ways at x) (owners_of ways lists at)
+      ∙ this_or (has_other name (owners_in ways at x)) (has_other_owner ways lists name at) (ap (λ (y : PackageList). has_other name (owners_in ways at y)) same ∙ is)
+  list_told (x ∷ lists) l (suc i, lt, same) is =
+      list_any-append (λ owner. not (bytes_eq owner.name name)) (owners_in ways at x) (owners_of ways lists at)
+      ∙ or_that (has_other name (owners_in ways at x)) (has_other_owner ways lists name at) (list_told lists l (i, omega (arith, lt), same) is)
+
+  pub lists_none : (lists : List PackageList) → ((l : PackageList) → Contains lists l → has_other name (owners_in ways at l) ≡ false) → has_other_owner ways lists name at ≡ false
+  lists_none [] none = refl
+  lists_none (x ∷ lists) none =
+      list_any-append (λ owner. not (bytes_eq owner.name name)) (owners_in ways at x) (owners_of ways lists at)
+      ∙ ap (λ b. b || has_other_owner ways lists name at) (none x (zero, omega arith, refl)) ∙ lists_none lists (λ l has. none l (suc has.0, omega (arith, has.1), has.2))

@@ -15,8 +15,7 @@ use Rattle.std.proofs.lemmas.List.Sums.{sum_by-append}
 use Rattle.std.proofs.lemmas.Map.Lookups.{exact_bytes}
 use Rattle.std.proofs.lemmas.Slice.Eq.{bytes_eq-Decides}
 use Rattle.host_core.specs.Paths.{Path}
-use Rattle.diversions.specs.declared.entry.Diversion.{Diversion}
-use Rattle.diversions.specs.Places.{place}
+use Rattle.diversions.specs.Ways.{Ways, place}
 use Rattle.file_lists.specs.Beside.{AreSameBeside, lists_before, lists_behind, path_count}
 use Rattle.file_lists.specs.Increasing.{AreIncreasing, IsBefore}
 use Rattle.file_lists.specs.Owners.{AreLists, names_of, paths_of, places_in, places_of_list}
@@ -43,17 +42,17 @@ first_counted l lists =
     let alone : 0 + length l.paths ≡ length l.paths = omega arith in
     sum_by-append (λ (x : PackageList). length x.paths) (l ∷ []) lists ∙ ap (λ (n : ℕ). n + path_count lists) alone
 
-module _ (entries : List Diversion) (name : List ℕ) where
-  places_count : (lists : List PackageList) → length (places_in entries lists) ≡ path_count lists
+module _ (ways : Ways) (name : List ℕ) where
+  places_count : (lists : List PackageList) → length (places_in ways lists) ≡ path_count lists
   places_count [] = refl
   places_count (l ∷ lists) =
-      length-append (map (place entries l.name) l.paths) (places_in entries lists)
-      ∙ ap (λ (n : ℕ). n + length (places_in entries lists)) (length-map l.paths (place entries l.name))
+      length-append (map (place ways l.name) l.paths) (places_in ways lists)
+      ∙ ap (λ (n : ℕ). n + length (places_in ways lists)) (length-map l.paths (place ways l.name))
       ∙ ap (λ (n : ℕ). length l.paths + n) (places_count lists)
       ∙ sym (first_counted l lists)
 
   abbrev whole : List PackageList → List Path → List PackageList → List Path
-  whole before paths behind = places_in entries before ++ map (place entries name) paths ++ places_in entries behind
+  whole before paths behind = places_in ways before ++ map (place ways name) paths ++ places_in ways behind
 
   whole_same : (b c : List PackageList) (p q : List Path) (d e : List PackageList) → b ≡ c → p ≡ q → d ≡ e → whole b p d ≡ whole c q e
   whole_same b c p q d e first second third = ap (λ (x : List PackageList). whole x p d) first ∙ ap (λ (x : List Path). whole c x d) second ∙ ap (λ (x : List PackageList). whole c q x) third
@@ -85,16 +84,16 @@ module _ (entries : List Diversion) (name : List ℕ) where
   further p [] less all = tt
   further p (q ∷ names) less all = (nat_list_cmp_total.trans name p q less all.0, further p names less all.1)
 
-  parted : (lists : List PackageList) → AreIncreasing (names_of lists) → places_in entries lists ≡ whole (lists_before name lists) (paths_of lists name) (lists_behind name lists)
+  parted : (lists : List PackageList) → AreIncreasing (names_of lists) → places_in ways lists ≡ whole (lists_before name lists) (paths_of lists name) (lists_behind name lists)
   parted [] order = refl
   parted (l ∷ lists) order = by (slice_cmp nat_cmp l.name name) refl (parted lists order.1)
     where
-      by : (o : Ordering) → slice_cmp nat_cmp l.name name ≡ o → places_in entries lists ≡ whole (lists_before name lists) (paths_of lists name) (lists_behind name lists)
-          → places_in entries (l ∷ lists) ≡ whole (lists_before name (l ∷ lists)) (paths_of (l ∷ lists) name) (lists_behind name (l ∷ lists))
+      by : (o : Ordering) → slice_cmp nat_cmp l.name name ≡ o → places_in ways lists ≡ whole (lists_before name lists) (paths_of lists name) (lists_behind name lists)
+          → places_in ways (l ∷ lists) ≡ whole (lists_before name (l ∷ lists)) (paths_of (l ∷ lists) name) (lists_behind name (l ∷ lists))
       by Less e rest =
-          ap (λ (x : List Path). places_of_list entries l ++ x) rest
-          ∙ sym (append_assoc (places_of_list entries l) (places_in entries (lists_before name lists) ++ map (place entries name) (paths_of lists name)) (places_in entries (lists_behind name lists)))
-          ∙ ap (λ (x : List Path). x ++ places_in entries (lists_behind name lists)) (sym (append_assoc (places_of_list entries l) (places_in entries (lists_before name lists)) (map (place entries name) (paths_of lists name))))
+          ap (λ (x : List Path). places_of_list ways l ++ x) rest
+          ∙ sym (append_assoc (places_of_list ways l) (places_in ways (lists_before name lists) ++ map (place ways name) (paths_of lists name)) (places_in ways (lists_behind name lists)))
+          ∙ ap (λ (x : List Path). x ++ places_in ways (lists_behind name lists)) (sym (append_assoc (places_of_list ways l) (places_in ways (lists_before name lists)) (map (place ways name) (paths_of lists name))))
           ∙ sym (whole_same (lists_before name (l ∷ lists)) (l ∷ lists_before name lists) (paths_of (l ∷ lists) name) (paths_of lists name) (lists_behind name (l ∷ lists)) (lists_behind name lists)
           (ap (λ o. cond (is_lt o) (l ∷ lists_before name lists) (lists_before name lists)) e)
           (ap (λ b. cond b l.paths (paths_of lists name)) (apart_back l.name name e))
@@ -102,7 +101,7 @@ module _ (entries : List Diversion) (name : List ℕ) where
       by Equal e rest =
           let same : l.name ≡ name = exact_bytes l.name name e in
           let all = subst (λ (n : Path). AllByRecursion (IsBefore n) (names_of lists)) same order.0 in
-          ap (λ (n : Path). map (place entries n) l.paths ++ places_in entries lists) same
+          ap (λ (n : Path). map (place ways n) l.paths ++ places_in ways lists) same
           ∙ sym (whole_same (lists_before name (l ∷ lists)) [] (paths_of (l ∷ lists) name) l.paths (lists_behind name (l ∷ lists)) lists
           (ap (λ o. cond (is_lt o) (l ∷ lists_before name lists) (lists_before name lists)) e ∙ none_before lists all)
           (ap (λ b. cond b l.paths (paths_of lists name)) ((bytes_eq-Decides name l.name).1 (sym same)))
@@ -113,12 +112,12 @@ module _ (entries : List Diversion) (name : List ℕ) where
           sym (whole_same (lists_before name (l ∷ lists)) [] (paths_of (l ∷ lists) name) [] (lists_behind name (l ∷ lists)) (l ∷ lists) (none_before (l ∷ lists) all) (none_own (l ∷ lists) all) (all_behind (l ∷ lists) all))
 
   -- the package's places are put between those of the others
-  pub renewed : (old now : List PackageList) (start upto : ℕ) (had new : List Path) → AreLists old → AreLists now → AreSameBeside name old now → had ≡ places_in entries old
-      → start ≡ path_count (lists_before name now) → upto + path_count (lists_behind name now) ≡ length had → new ≡ take start had ++ map (place entries name) (paths_of now name) ++ drop upto had → new ≡ places_in entries now
+  pub renewed : (old now : List PackageList) (start upto : ℕ) (had new : List Path) → AreLists old → AreLists now → AreSameBeside name old now → had ≡ places_in ways old
+      → start ≡ path_count (lists_before name now) → upto + path_count (lists_behind name now) ≡ length had → new ≡ take start had ++ map (place ways name) (paths_of now name) ++ drop upto had → new ≡ places_in ways now
   renewed old now start upto had new were are same is from to new_is =
-      let before = places_in entries (lists_before name now) in
-      let own = map (place entries name) (paths_of old name) in
-      let behind = places_in entries (lists_behind name now) in
+      let before = places_in ways (lists_before name now) in
+      let own = map (place ways name) (paths_of old name) in
+      let behind = places_in ways (lists_behind name now) in
       let had_is : had ≡ before ++ own ++ behind = is ∙ parted old were.names ∙ sym (whole_same (lists_before name now) (lists_before name old) (paths_of old name) (paths_of old name) (lists_behind name now) (lists_behind name old) same.before refl same.behind) in
       let front : take start had ≡ before = ap (λ (n : ℕ). take n had) (from ∙ sym (places_count (lists_before name now))) ∙ ap (take (length before)) (had_is ∙ append_assoc before own behind) ∙ take-append_seam before (own ++ behind) in
       let counted : length behind ≡ path_count (lists_behind name now) = places_count (lists_behind name now) in
@@ -126,8 +125,8 @@ module _ (entries : List Diversion) (name : List ℕ) where
       let seam : upto ≡ length (before ++ own) = omega (arith, to, counted, long) in
       let back : drop upto had ≡ behind = ap (λ (n : ℕ). drop n had) seam ∙ ap (drop (length (before ++ own))) had_is ∙ drop-append_seam (before ++ own) behind in
       new_is
-      ∙ ap (λ (x : List Path). x ++ map (place entries name) (paths_of now name) ++ drop upto had) front
-      ∙ ap (λ (x : List Path). before ++ map (place entries name) (paths_of now name) ++ x) back
+      ∙ ap (λ (x : List Path). x ++ map (place ways name) (paths_of now name) ++ drop upto had) front
+      ∙ ap (λ (x : List Path). before ++ map (place ways name) (paths_of now name) ++ x) back
       ∙ sym (parted now are.names)
 
 -- a package's list comes, or is another: the others are the same

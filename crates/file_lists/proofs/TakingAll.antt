@@ -18,7 +18,7 @@ use Rattle.host_core.specs.Host.{State, Since}
 use Rattle.host_core.proofs.Moments.{since_now, since_then, since_weaker_if}
 use Rattle.administration.specs.Files.{NoDirectory, IsReplacing, IsReplaced}
 use Rattle.administration.specs.Places.{info_path, list_path, list_name, temporary}
-use Rattle.diversions.specs.declared.entry.Diversion.{Diversion}
+use Rattle.diversions.specs.Ways.{Ways}
 use Rattle.file_lists.specs.declared.paths.PackageList.{PackageList}
 use Rattle.file_lists.specs.Owners.{paths_of}
 use Rattle.file_lists.specs.Taking.{left_file, IsTaking}
@@ -82,15 +82,15 @@ filter_twice test (p ∷ paths) = by (test p) refl (filter_twice test paths)
     by false e rest = rest
 
 -- what would be left of each list stays the same
-pub lefts_step : (entries : List Diversion) (places : List Path) (had lists next : List PackageList) (m : List ℕ) → ((n : List ℕ) → left_paths entries places n (paths_of lists n) ≡ left_paths entries places n (paths_of had n))
-    → next ≡ with_list m (left_paths entries places m (paths_of lists m)) lists → (n : List ℕ) → left_paths entries places n (paths_of next n) ≡ left_paths entries places n (paths_of had n)
-lefts_step entries places had lists next m before is n =
-    ap (λ (l : List PackageList). left_paths entries places n (paths_of l n)) is ∙ ap (left_paths entries places n) (paths_with lists m n (left_paths entries places m (paths_of lists m)))
+pub lefts_step : (ways : Ways) (places : List Path) (had lists next : List PackageList) (m : List ℕ) → ((n : List ℕ) → left_paths ways places n (paths_of lists n) ≡ left_paths ways places n (paths_of had n))
+    → next ≡ with_list m (left_paths ways places m (paths_of lists m)) lists → (n : List ℕ) → left_paths ways places n (paths_of next n) ≡ left_paths ways places n (paths_of had n)
+lefts_step ways places had lists next m before is n =
+    ap (λ (l : List PackageList). left_paths ways places n (paths_of l n)) is ∙ ap (left_paths ways places n) (paths_with lists m n (left_paths ways places m (paths_of lists m)))
     ∙ by (bytes_eq n m) refl
   where
-    by : (b : Bool) → bytes_eq n m ≡ b → left_paths entries places n (cond b (left_paths entries places m (paths_of lists m)) (paths_of lists n)) ≡ left_paths entries places n (paths_of had n)
+    by : (b : Bool) → bytes_eq n m ≡ b → left_paths ways places n (cond b (left_paths ways places m (paths_of lists m)) (paths_of lists n)) ≡ left_paths ways places n (paths_of had n)
     by true e =
-        ap (λ (x : List ℕ). left_paths entries places n (left_paths entries places x (paths_of lists x))) (sym ((bytes_eq-Decides n m).0 e)) ∙ filter_twice _ (paths_of lists n) ∙ before n
+        ap (λ (x : List ℕ). left_paths ways places n (left_paths ways places x (paths_of lists x))) (sym ((bytes_eq-Decides n m).0 e)) ∙ filter_twice _ (paths_of lists n) ∙ before n
     by false e = before n
 
 pub fold_last : {A B : Type 0} (f : B → A → B) (a : B) (xs : List A) (x : A) → fold f a (xs ++ x ∷ []) ≡ f (fold f a xs) x
@@ -99,24 +99,24 @@ fold_last f a (y ∷ xs) x = fold_last f (f a y) xs x
 
 -- Moment by moment.
 
-pub taking_start : (entries : List Diversion) (places : List Path) (names : List (List ℕ)) (had : List PackageList) (w : World) → ((name : List ℕ) → Contains names name → IsListReady name w) → IsTaking entries places names had w w
-taking_start entries places names had w ready = record { lists = λ name has. inl refl; spares = λ name has. (ready name has).spare; rest = λ q none. refl }
+pub taking_start : (ways : Ways) (places : List Path) (names : List (List ℕ)) (had : List PackageList) (w : World) → ((name : List ℕ) → Contains names name → IsListReady name w) → IsTaking ways places names had w w
+taking_start ways places names had w ready = record { lists = λ name has. inl refl; spares = λ name has. (ready name has).spare; rest = λ q none. refl }
 
 pub since_start_if : (P : World → Type 0) (s : State) → (IsTrue s.honest → P s.world) → Since (λ so_far. P) s s
 since_start_if P s here = record { added = []; events = sym (append-nil s.events); honest = λ h. h; world = refl; each = here }
 
-pub taking_step : (entries : List Diversion) (places : List Path) (names : List (List ℕ)) (had : List PackageList) (old mid now : World) (m : List ℕ) → Contains names m → IsTaking entries places names had old mid → IsReplacing (list_path m) (left_file entries places had m) mid now
-    → IsTaking entries places names had old now
-taking_step entries places names had old mid now m named amid replacing = record {
+pub taking_step : (ways : Ways) (places : List Path) (names : List (List ℕ)) (had : List PackageList) (old mid now : World) (m : List ℕ) → Contains names m → IsTaking ways places names had old mid → IsReplacing (list_path m) (left_file ways places had m) mid now
+    → IsTaking ways places names had old now
+taking_step ways places names had old mid now m named amid replacing = record {
   lists = λ name has. list name has (bytes_eq name m) refl;
   spares = λ name has. spare name has (bytes_eq name m) refl;
   rest = λ q none. replacing.rest q (none m named).0 (none m named).1 ∙ amid.rest q none;
 }
   where
-    list : (name : List ℕ) → Contains names name → (b : Bool) → bytes_eq name m ≡ b → (now (list_path name) ≡ old (list_path name)) ⊎ (now (list_path name) ≡ Some (left_file entries places had name))
+    list : (name : List ℕ) → Contains names name → (b : Bool) → bytes_eq name m ≡ b → (now (list_path name) ≡ old (list_path name)) ⊎ (now (list_path name) ≡ Some (left_file ways places had name))
     list name has true e =
         let same = (bytes_eq-Decides name m).0 e in
-        subst (λ (x : List ℕ). (now (list_path x) ≡ old (list_path x)) ⊎ (now (list_path x) ≡ Some (left_file entries places had x))) (sym same) (elim replacing.target [
+        subst (λ (x : List ℕ). (now (list_path x) ≡ old (list_path x)) ⊎ (now (list_path x) ≡ Some (left_file ways places had x))) (sym same) (elim replacing.target [
           | inl kept ↦ (elim (amid.lists m named) [ inl before ↦ inl (kept ∙ before) | inr written ↦ inr (kept ∙ written) ])
           | inr written ↦ inr written
         ])
@@ -131,27 +131,27 @@ taking_step entries places names had old mid now m named amid replacing = record
         let kept = replacing.rest (temporary (list_path name)) (λ same. list_lasting m (list_path name) (sym same)) (λ same. false≢true (sym e ∙ (bytes_eq-Decides name m).1 (same_spare name m same))) in
         subst NoDirectory (sym kept) (amid.spares name has)
 
-pub ready_now : (entries : List Diversion) (places : List Path) (names : List (List ℕ)) (had : List PackageList) (old now : World) (name : List ℕ) → Contains names name → IsListReady name old → IsTaking entries places names had old now → IsListReady name now
-ready_now entries places names had old now name has ready taking = record {
+pub ready_now : (ways : Ways) (places : List Path) (names : List (List ℕ)) (had : List PackageList) (old now : World) (name : List ℕ) → Contains names name → IsListReady name old → IsTaking ways places names had old now → IsListReady name now
+ready_now ways places names had old now name has ready taking = record {
   info = subst IsDirectory (sym (taking.rest info_path (λ m there. info_apart m))) ready.info;
   target = elim (taking.lists name has) [
     | inl before ↦ subst NoDirectory (sym before) ready.target
-    | inr written ↦ subst NoDirectory (sym written) (λ d. absurd (let e : Some (left_file entries places had name) ≡ _ = d.1 in cc))
+    | inr written ↦ subst NoDirectory (sym written) (λ d. absurd (let e : Some (left_file ways places had name) ≡ _ = d.1 in cc))
   ];
   spare = taking.spares name has;
 }
 
 -- the lists that were taken from so far stay as they were written
-pub taken_step : (entries : List Diversion) (places : List Path) (had : List PackageList) (mid now : World) (m name : List ℕ) → mid (list_path name) ≡ Some (left_file entries places had name) → IsReplaced (list_path m) (left_file entries places had m) mid now → now (list_path name) ≡ Some (left_file entries places had name)
-taken_step entries places had mid now m name before replaced = by (bytes_eq name m) refl
+pub taken_step : (ways : Ways) (places : List Path) (had : List PackageList) (mid now : World) (m name : List ℕ) → mid (list_path name) ≡ Some (left_file ways places had name) → IsReplaced (list_path m) (left_file ways places had m) mid now → now (list_path name) ≡ Some (left_file ways places had name)
+taken_step ways places had mid now m name before replaced = by (bytes_eq name m) refl
   where
-    by : (b : Bool) → bytes_eq name m ≡ b → now (list_path name) ≡ Some (left_file entries places had name)
-    by true e = subst (λ (x : List ℕ). now (list_path x) ≡ Some (left_file entries places had x)) (sym ((bytes_eq-Decides name m).0 e)) replaced.target
+    by : (b : Bool) → bytes_eq name m ≡ b → now (list_path name) ≡ Some (left_file ways places had name)
+    by true e = subst (λ (x : List ℕ). now (list_path x) ≡ Some (left_file ways places had x)) (sym ((bytes_eq-Decides name m).0 e)) replaced.target
     by false e = replaced.rest (list_path name) (λ same. false≢true (sym e ∙ (bytes_eq-Decides name m).1 (same_name name m same))) (list_lasting name (list_path m)) ∙ before
 
 -- one list more is written
-pub since_more : (entries : List Diversion) (places : List Path) (names : List (List ℕ)) (had lists : List PackageList) (a b c : State) (m : List ℕ) → Contains names m → left_paths entries places m (paths_of lists m) ≡ left_paths entries places m (paths_of had m)
-    → Since (λ so_far. IsTaking entries places names had a.world) a b → Since (λ so_far. IsReplacing (list_path m) (list_file (left_paths entries places m (paths_of lists m))) b.world) b c → Since (λ so_far. IsTaking entries places names had a.world) a c
-since_more entries places names had lists a b c m named left first second =
-    since_then (λ so_far. IsTaking entries places names had a.world) a b c first
-    (since_weaker_if _ _ b c (λ h so_far w is. taking_step entries places names had a.world b.world w m named (since_now _ a b first (second.honest h)) (subst (λ (ps : List Path). IsReplacing (list_path m) (list_file ps) b.world w) left is)) second)
+pub since_more : (ways : Ways) (places : List Path) (names : List (List ℕ)) (had lists : List PackageList) (a b c : State) (m : List ℕ) → Contains names m → left_paths ways places m (paths_of lists m) ≡ left_paths ways places m (paths_of had m)
+    → Since (λ so_far. IsTaking ways places names had a.world) a b → Since (λ so_far. IsReplacing (list_path m) (list_file (left_paths ways places m (paths_of lists m))) b.world) b c → Since (λ so_far. IsTaking ways places names had a.world) a c
+since_more ways places names had lists a b c m named left first second =
+    since_then (λ so_far. IsTaking ways places names had a.world) a b c first
+    (since_weaker_if _ _ b c (λ h so_far w is. taking_step ways places names had a.world b.world w m named (since_now _ a b first (second.honest h)) (subst (λ (ps : List Path). IsReplacing (list_path m) (list_file ps) b.world w) left is)) second)

@@ -4,7 +4,7 @@ use Rattle.std.specs.List.{sum_by}
 use Rattle.std.specs.Ordering.{nat_cmp, is_lt}
 use Rattle.std.specs.Cmp.Lexicographic.{slice_cmp}
 use Rattle.host_core.specs.Paths.{Path}
-use Rattle.diversions.specs.declared.entry.Diversion.{Diversion}
+use Rattle.diversions.specs.Ways.{Ways}
 use Rattle.file_lists.specs.Owners.{AreLists, places_in}
 use Rattle.file_lists.specs.declared.paths.PackageList.{PackageList}
 
@@ -20,11 +20,11 @@ pub record AreSameBeside (name : List ℕ) (old new : List PackageList) : Type 0
   pub behind : lists_behind name new ≡ lists_behind name old
 
 -- these are the places of lists that were the same but for that of the name
-pub record HadPlaces (entries : List Diversion) (name : List ℕ) (lists : List PackageList) (places : List Path) : Type 0 where
+pub record HadPlaces (ways : Ways) (name : List ℕ) (lists : List PackageList) (places : List Path) : Type 0 where
   pub before : List PackageList
   pub sound : AreLists before
   pub same : AreSameBeside name before lists
-  pub is : places ≡ places_in entries before
+  pub is : places ≡ places_in ways before
 
 -- how many paths they list together
 abbrev pub path_count : List PackageList → ℕ

@@ -1,29 +1,18 @@
--- Lists of other packages that have a path of a place.
-use Rattle.std.specs.Prelude.{◌≡◌, ◌≢◌, ◌<◌, ℕ, List, Contains, length, get_or}
+-- Owners of a place that are other packages.
+use Rattle.std.specs.Prelude.{not, ℕ, Bool, List}
+use Rattle.std.specs.List.{list_any}
+use Rattle.std.specs.Str.{bytes_eq}
 use Rattle.host_core.specs.Paths.{Path}
-use Rattle.diversions.specs.declared.entry.Diversion.{Diversion}
-use Rattle.diversions.specs.Places.{place}
+use Rattle.diversions.specs.Ways.{Ways}
 use Rattle.file_lists.specs.declared.paths.PackageList.{PackageList}
+use Rattle.file_lists.specs.declared.paths.Listed.{Listed}
+use Rattle.file_lists.specs.declared.spot.Spot.{Spot}
+use Rattle.file_lists.specs.Index.{owner_at}
 
--- the list has this path, and that lies at the place
-pub record HasAt (entries : List Diversion) (at : Path) (l : PackageList) (path : Path) : Type 0 where
-  pub listed : Contains l.paths path
-  pub there : place entries l.name path ≡ at
+-- one of these is a package of another name
+abbrev pub has_other : List ℕ → List Listed → Bool
+has_other name owners = list_any (λ owner. not (bytes_eq owner.name name)) owners
 
--- it is the list of a package of another name, and has a path of this place
-pub record IsOther (entries : List Diversion) (at : Path) (name : List ℕ) (l : PackageList) : Type 0 where
-  pub other : l.name ≢ name
-  pub path : Path
-  pub has : HasAt entries at l path
-
--- one of the lists is such a list
-abbrev pub HasOther : List Diversion → Path → List ℕ → List PackageList → Type 0
-HasOther entries at name lists = (l : PackageList) × Contains lists l × IsOther entries at name l
-
--- the list of this number isn't one
-abbrev pub IsNoOther : List Diversion → Path → List ℕ → List PackageList → ℕ → Type 0
-IsNoOther entries at name lists slot = (l : PackageList) → slot < length lists → l ≡ get_or lists slot l → IsOther entries at name l → ⊥
-
--- none of the lists of these numbers is one
-abbrev pub AreNoOthers : List Diversion → Path → List ℕ → List PackageList → List ℕ → Type 0
-AreNoOthers entries at name lists slots = (slot : ℕ) → Contains slots slot → IsNoOther entries at name lists slot
+-- the owner at a spot is such a package
+abbrev pub is_other_at : Ways → Path → List ℕ → List PackageList → Spot → Bool
+is_other_at ways at name lists spot = has_other name (owner_at ways at lists spot)

@@ -3,8 +3,7 @@ use Rattle.std.specs.Prelude.{◌≡◌, ◌↔◌, not, ℕ, Bool, List, [], �
 use Rattle.std.specs.List.{flat_map, list_any, AllByRecursion}
 use Rattle.std.specs.Str.{bytes_eq}
 use Rattle.host_core.specs.Paths.{Path, is_path, has_room}
-use Rattle.diversions.specs.declared.entry.Diversion.{Diversion}
-use Rattle.diversions.specs.Places.{place}
+use Rattle.diversions.specs.Ways.{Ways, place}
 use Rattle.name_tables.specs.Order as names
 use Rattle.file_lists.specs.Increasing.{AreIncreasing}
 use Rattle.file_lists.specs.declared.paths.PackageList.{PackageList}
@@ -40,24 +39,24 @@ abbrev pub listed : List ℕ → Path → Listed
 listed name path = record { name = name; path = path }
 
 -- of one package the paths that lie at a place
-abbrev pub owners_in : List Diversion → Path → PackageList → List Listed
-owners_in entries at l = map (listed l.name) (filter (λ path. bytes_eq (place entries l.name path) at) l.paths)
+abbrev pub owners_in : Ways → Path → PackageList → List Listed
+owners_in ways at l = map (listed l.name) (filter (λ path. bytes_eq (place ways l.name path) at) l.paths)
 
 -- each listed path that lies at a place, with its package, list after list
-abbrev pub owners_of : List Diversion → List PackageList → Path → List Listed
-owners_of entries lists at = flat_map (owners_in entries at) lists
+abbrev pub owners_of : Ways → List PackageList → Path → List Listed
+owners_of ways lists at = flat_map (owners_in ways at) lists
 
 -- another package's list has a path of this place
-abbrev pub has_other_owner : List Diversion → List PackageList → List ℕ → Path → Bool
-has_other_owner entries lists name at = list_any (λ owner. not (bytes_eq owner.name name)) (owners_of entries lists at)
+abbrev pub has_other_owner : Ways → List PackageList → List ℕ → Path → Bool
+has_other_owner ways lists name at = list_any (λ owner. not (bytes_eq owner.name name)) (owners_of ways lists at)
 
 -- the places of one package's paths
-abbrev pub places_of_list : List Diversion → PackageList → List Path
-places_of_list entries l = map (place entries l.name) l.paths
+abbrev pub places_of_list : Ways → PackageList → List Path
+places_of_list ways l = map (place ways l.name) l.paths
 
 -- the places of all listed paths, list after list
-abbrev pub places_in : List Diversion → List PackageList → List Path
-places_in entries lists = flat_map (places_of_list entries) lists
+abbrev pub places_in : Ways → List PackageList → List Path
+places_in ways lists = flat_map (places_of_list ways) lists
 
 -- the same paths, whatever their order
 abbrev pub IsSameSet : List Path → List Path → Type 0

@@ -11,10 +11,9 @@ use Rattle.host_core.specs.declared.node.Node.{Node}
 use Rattle.host_core.specs.declared.node.Node.TheVariants.{File}
 use Rattle.administration.specs.Files.{NoDirectory}
 use Rattle.administration.specs.Places.{info_path, list_path, temporary}
-use Rattle.diversions.specs.declared.entry.Diversion.{Diversion}
-use Rattle.diversions.specs.Places.{place}
+use Rattle.diversions.specs.Ways.{Ways, place}
 use Rattle.file_lists.specs.declared.paths.PackageList.{PackageList}
-use Rattle.file_lists.specs.Index.{row_of, KeepsRows}
+use Rattle.file_lists.specs.Index.{Keyed, IsNumbered, KeepsRows, row_for, spot_of}
 use Rattle.file_lists.specs.Lists.{root_line}
 use Rattle.file_lists.specs.Owners.{names_of, paths_of}
 
@@ -42,12 +41,12 @@ with_list name paths [] = package_list name paths ∷ []
 with_list name paths (l ∷ lists) = match_ordering (slice_cmp nat_cmp name l.name) (package_list name paths ∷ l ∷ lists) (package_list name paths ∷ lists) (l ∷ with_list name paths lists)
 
 -- of a package's paths those that lie at none of these places
-abbrev pub left_paths : List Diversion → List Path → List ℕ → List Path → List Path
-left_paths entries places name paths = filter (λ path. not (list_any (bytes_eq (place entries name path)) places)) paths
+abbrev pub left_paths : Ways → List Path → List ℕ → List Path → List Path
+left_paths ways places name paths = filter (λ path. not (list_any (bytes_eq (place ways name path)) places)) paths
 
 -- without what a package lists at these places
-abbrev pub without_places : List Diversion → List Path → List ℕ → List PackageList → List PackageList
-without_places entries places name lists = with_list name (left_paths entries places name (paths_of lists name)) lists
+abbrev pub without_places : Ways → List Path → List ℕ → List PackageList → List PackageList
+without_places ways places name lists = with_list name (left_paths ways places name (paths_of lists name)) lists
 
 -- with other paths in the list that stands there
 abbrev pub with_paths_at : ℕ → List Path → List PackageList → List PackageList
@@ -59,8 +58,8 @@ pub record IsListReady (name : List ℕ) (w : World) : Type 0 where
   pub target : NoDirectory (w (list_path name))
   pub spare : NoDirectory (w (temporary (list_path name)))
 
--- a list was entered into the index, or the index was given up
-abbrev pub IsEntered : Option (List (List ℕ)) → List Path → ℕ → Option (List (List ℕ)) → Type 0
+-- the paths of a list were entered into the index, or the index was given up
+abbrev pub IsEntered : Option Keyed → List Path → ℕ → Option Keyed → Type 0
 IsEntered old paths slot None = Unit {0}
-IsEntered None paths slot (Some rows) = ⊥
-IsEntered (Some old) paths slot (Some rows) = KeepsRows old rows × ((path : Path) → Contains paths path → Contains (row_of rows path) slot)
+IsEntered None paths slot (Some index) = ⊥
+IsEntered (Some old) paths slot (Some index) = KeepsRows old index × ((number : ℕ) (path : Path) → IsNumbered paths number path → Contains (row_for index path) (spot_of slot number))

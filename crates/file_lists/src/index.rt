@@ -1,52 +1,60 @@
-// The index by path: which lists may have it.
+// The index by the keys of places: where paths stand that may have one.
 ghost use Rattle.std.specs.Prelude.{◌≡◌, ◌<◌, ◌%◌, ℕ, List, IfOk, OnOk, Contains, length};
 ghost use Rattle.host_core.specs.Paths.{Path};
-ghost use Rattle.file_lists.specs.Index.{path_number, row_of, KeepsRows, IsComplete};
+ghost use Rattle.aliases.specs.Aliases.{resolved};
+ghost use Rattle.file_lists.specs.declared.spot.Spot.{Spot as ASpot};
+ghost use Rattle.file_lists.specs.Index.{path_number, row_of, row_for, spot_of, IsNumbered, KeepsRows, IsComplete};
 
 use crate::paths::PackageList;
+use crate::spot::Spot;
+use aliases::Aliases;
 use host_core::RootPath;
 use std::alloc::{AllocError, Global};
 use std::marker::Model;
 
-// Numbers of lists.
 #[derive(Drop)]
 struct Row {
-    slots: Vec<usize>,
+    spots: Vec<Spot>,
 }
 
 impl Model for Row {
-    ghost Value = { List ℕ };
+    ghost Value = { List ASpot };
 
-    ghost view = { λ r. r.slots.items };
+    ghost view = { λ r. r.spots.items };
 }
 
-/// The numbers of the lists, in rows. A path's bytes give its row, so the index has no texts, and a
-/// list that has the path no more may stand in its row still.
+/// Where listed paths stand, in rows by the bytes of their keys: a path's key is its place where
+/// nothing is diverted. The index has no texts, and a spot may stand in its row still where another
+/// path is now.
 #[derive(Drop)]
 pub(crate) struct Index {
     rows: Vec<Row>,
+    aliases: Aliases,
 }
 
 impl Model for Index {
-    ghost Value = { List (List ℕ) };
+    ghost use Rattle.std.specs.Prelude.{◌<◌, length};
+    ghost use Rattle.file_lists.specs.Index.{Keyed};
 
-    ghost view = { λ i. i.rows.items };
+    ghost Value = { Keyed };
+
+    ghost view = { λ i. record { rows = i.rows.items; aliases = i.aliases } };
 
     ghost invariant = { λ i. 0 < length i.rows.items };
 }
 
 impl Row {
-    // Takes a list once, where lists are taken in their order.
-    fn take(&mut self, slot: usize) -> Result<(), AllocError>
-        ensures kept { (s : ℕ) → Contains self.old s → Contains self.new s }
-        ensures there { OnOk result (Contains self.new slot) }
+    // Takes a spot once, where spots are taken in their order.
+    fn take(&mut self, spot: Spot) -> Result<(), AllocError>
+        ensures kept { (s : ASpot) → Contains self.old s → Contains self.new s }
+        ensures there { OnOk result (Contains self.new spot) }
     {
-        if let Some(last) = self.slots.last() {
-            if *last == slot {
+        if let Some(last) = self.spots.last() {
+            if *last == spot {
                 return Ok(());
             }
         }
-        self.slots.push(slot)?;
+        self.spots.push(spot)?;
         Ok(())
     }
 }
@@ -67,7 +75,7 @@ fn empty_rows(alloc: Global, count: usize) -> Result<Vec<Row>, AllocError>
     let mut rows = Vec::new(alloc);
     for _row in 0..count {
         rows.push(Row {
-            slots: Vec::new(alloc),
+            spots: Vec::new(alloc),
         })?;
     }
     Ok(rows)
@@ -83,41 +91,64 @@ fn count_paths(lists: &[PackageList]) -> usize {
 }
 
 impl Index {
-    // The number of a path's row.
-    fn spot(&self, path: &RootPath) -> usize
-        ensures spot { result ≡ path_number path.now % length self.now }
-        ensures within { result < length self.now }
+    // The number of a key's row.
+    fn row_number(&self, key: &RootPath) -> usize
+        ensures row { result ≡ path_number key.now % length self.now.rows }
+        ensures within { result < length self.now.rows }
     {
-        path_number(path.as_str().as_bytes()) % self.rows.len()
+        path_number(key.as_str().as_bytes()) % self.rows.len()
     }
 
-    // Enters a list under a path.
-    fn enter(&mut self, path: &RootPath, slot: usize) -> Result<(), AllocError>
+    // The number of the row of a path's key. Nothing is allocated for a path that is its own key.
+    fn row_number_for(&self, path: &RootPath) -> Result<usize, AllocError>
+        ensures row { IfOk result
+            (λ n. n ≡ path_number (resolved self.now.aliases path.now) % length self.now.rows) }
+        ensures within { IfOk result (λ n. n < length self.now.rows) }
+    {
+        if self.aliases.is_free(path.as_str()) {
+            return Ok(self.row_number(path));
+        }
+        Ok(self.row_number(&self.aliases.resolve_path(path)?))
+    }
+
+    // Enters a path that stands at a spot.
+    fn enter(&mut self, path: &RootPath, spot: Spot) -> Result<(), AllocError>
         ensures kept { KeepsRows self.old self.new }
-        ensures there { OnOk result (Contains (row_of self.new path.now) slot) }
+        ensures there { OnOk result (Contains (row_for self.new path.now) spot) }
     {
-        let at = self.spot(path);
-        self.rows[at].take(slot)
+        let at = self.row_number_for(path)?;
+        self.rows[at].take(spot)
     }
 
-    /// Enters a list under each of its paths.
+    /// Enters the paths of the list of a number.
     pub(crate) fn enter_all(&mut self, paths: &[RootPath], slot: usize) -> Result<(), AllocError>
         ensures kept { KeepsRows self.old self.new }
         ensures there { OnOk result
-            ((path : Path) → Contains paths.now path → Contains (row_of self.new path) slot) }
+            ((number : ℕ) (path : Path) → IsNumbered paths.now number path
+            → Contains (row_for self.new path) (spot_of slot number)) }
     {
-        for path in paths {
-            self.enter(path, slot)?;
+        for number in 0..paths.len() {
+            let spot = Spot {
+                list: slot,
+                path: number,
+            };
+            self.enter(&paths[number], spot)?;
         }
         Ok(())
     }
 
     /// The index of these lists.
-    pub(crate) fn of_lists(alloc: Global, lists: &[PackageList]) -> Result<Index, AllocError>
-        ensures { IfOk result (λ index. IsComplete index lists.now) }
+    pub(crate) fn of_lists(
+        alloc: Global,
+        aliases: &Aliases,
+        lists: &[PackageList],
+    ) -> Result<Index, AllocError>
+        ensures aliases { IfOk result (λ index. index.aliases ≡ aliases.now) }
+        ensures complete { IfOk result (λ index. IsComplete index lists.now) }
     {
         let mut index = Index {
             rows: empty_rows(alloc, count_paths(lists) / 2 + 1)?,
+            aliases: aliases.copy()?,
         };
         for slot in 0..lists.len() {
             index.enter_all(lists[slot].paths.as_slice(), slot)?;
@@ -125,10 +156,17 @@ impl Index {
         Ok(index)
     }
 
-    /// The lists that may have a path.
-    pub(crate) fn slots_of(&self, path: &RootPath) -> &[usize]
-        ensures { result.now ≡ row_of self.now path.now }
+    /// The aliases by which its keys were made.
+    pub(crate) fn aliases(&self) -> &Aliases
+        ensures { result.now ≡ self.now.aliases }
     {
-        self.rows[self.spot(path)].slots.as_slice()
+        &self.aliases
+    }
+
+    /// Where paths stand that may have a key.
+    pub(crate) fn row(&self, key: &RootPath) -> &[Spot]
+        ensures { result.now ≡ row_of self.now.rows key.now }
+    {
+        self.rows[self.row_number(key)].spots.as_slice()
     }
 }

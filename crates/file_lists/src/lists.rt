@@ -1,6 +1,6 @@
 // The open lists.
-ghost use Rattle.std.specs.Prelude.{◌≡◌, ◌↔◌, ℕ, List, Contains, IfOk, OnOk, OnErr, IfErr, IsErrOf, IsTrue, true, false};
-ghost use Rattle.host_core.specs.Host.{AtEachMoment, Leaves, Needs, Reads, Silent, Tells};
+ghost use Rattle.std.specs.Prelude.{◌≡◌, ◌↔◌, ℕ, List, Contains, IfOk, OnOk, OnErr, IfErr, IfSome, IsErrOf, IsTrue, option_copied, true, false};
+ghost use Rattle.host_core.specs.Host.{AtEachMoment, Counts, Leaves, Needs, Reads, Silent, Tells};
 ghost use Rattle.texts.specs.PackageNames.{is_package_name};
 ghost use Rattle.administration.specs.Files.{IsReplaced, IsReplacing};
 ghost use Rattle.administration.specs.Directories.{HasBadName};
@@ -9,12 +9,16 @@ ghost use Rattle.administration.specs.Places.{info_path, list_path};
 ghost use Rattle.file_lists.specs.Beside.{HadPlaces};
 ghost use Rattle.file_lists.specs.Fault.{CountsList};
 ghost use Rattle.file_lists.specs.Taking.{without_all, IsTaking, HasTakenAll};
-ghost use Rattle.file_lists.specs.Writing.{left_paths, list_file, with_list, without_places, IsListReady};
+ghost use Rattle.file_lists.specs.Writing.{list_file, with_list, IsListReady};
 ghost use Rattle.file_lists.specs.declared.list_fault.ListFault.TheVariants.{Closed};
 ghost use Rattle.file_lists.specs.Lists.{HasLists};
 ghost use Rattle.file_lists.specs.Info.{AreSound, IsInfoDamage};
+ghost use Rattle.aliases.specs.Reading.{AreAliasesIn};
+ghost use Rattle.file_lists.specs.Followed.{AreFollowed, HasMoreAliases};
+ghost use Rattle.file_lists.specs.Index.{IsComplete};
 ghost use Rattle.file_lists.specs.Owners.{AreLists, AreListPaths, paths_of, owners_of, has_other_owner, places_in};
 
+use crate::following::read_aliases;
 use crate::index::Index;
 use crate::info::read_info;
 use crate::list_fault::ListFault;
@@ -26,8 +30,9 @@ use crate::table::Table;
 use crate::taking::{take_all, take_paths};
 use crate::writing::replace_list;
 use administration::AdministrationFault;
+use aliases::Aliases;
 use diversions::Diversions;
-use host_core::{Host, Places, RootPath};
+use host_core::{Host, HostFault, Places, RootPath};
 use std::alloc::{AllocError, Global};
 use std::marker::Model;
 use texts::Text;
@@ -95,15 +100,52 @@ impl FileLists {
         self.table.list_of(name)
     }
 
-    /// Builds the index by path, from which `owners` answers from then on: worth its time where many
-    /// places are asked for.
-    pub fn index(&mut self, alloc: Global) -> Result<(), AllocError>
+    // The index, if there is one by these aliases.
+    fn index_by(&self, aliases: &Aliases) -> Option<&Index>
+        ensures aliases { IfSome (option_copied result) (λ index. index.aliases ≡ aliases.now) }
+        ensures complete { IfSome (option_copied result)
+            (λ index. IsComplete index self.now.lists) }
+    {
+        match &self.index {
+            Some(index) => {
+                if index.aliases().same(aliases) {
+                    return Some(index);
+                }
+                None
+            }
+            None => None,
+        }
+    }
+
+    /// Builds the index by the keys of places, from which `owners` answers from then on, as long as
+    /// the aliases are the same: worth its time where many places are asked for.
+    pub fn index(&mut self, alloc: Global, diversions: &Diversions) -> Result<(), AllocError>
         ensures { self.new ≡ self.old }
     {
-        if self.index.is_none() {
-            self.index = Some(Index::of_lists(alloc, self.table.as_slice())?);
+        let aliases = diversions.aliases();
+        if self.index_by(aliases).is_none() {
+            self.index = Some(Index::of_lists(alloc, aliases, self.table.as_slice())?);
         }
         Ok(())
+    }
+
+    /// Reads the aliases above each listed path.
+    pub fn read_aliases<H: Host>(
+        &self,
+        host: &mut H,
+        diversions: &mut Diversions,
+    ) -> Result<(), HostFault>
+        ensures grows { HasMoreAliases (H.state host.new).honest (H.state host.old).world
+            diversions.old diversions.new }
+        ensures followed { Leaves result
+            (λ w _. AreAliasesIn w diversions.old.ways.aliases
+            → AreFollowed self.now.lists diversions.new.ways w)
+            (H.state host.old) (H.state host.new) }
+        ensures reads { Reads (H.state host.old) (H.state host.new) }
+        ensures silent { Silent (H.state host.old) (H.state host.new) }
+        ensures counts { Counts (H.state host.old) (H.state host.new) result }
+    {
+        read_aliases(host, &self.table, diversions)
     }
 
     /// The listed paths that lie at a place, in the order of the packages' names.
@@ -113,10 +155,9 @@ impl FileLists {
         diversions: &Diversions,
         place: &RootPath,
     ) -> Result<Owners, AllocError>
-        ensures { IfOk result (λ o. o ≡ owners_of diversions.now.entries self.now.lists place.now) }
+        ensures { IfOk result (λ o. o ≡ owners_of diversions.now.ways self.now.lists place.now) }
     {
-        self.table.law();
-        match &self.index {
+        match self.index_by(diversions.aliases()) {
             Some(index) => look_up(alloc, diversions, place, self.table.as_slice(), index),
             None => scan(alloc, diversions, place, self.table.as_slice()),
         }
@@ -131,20 +172,19 @@ impl FileLists {
         at: &RootPath,
     ) -> Result<bool, AllocError>
         ensures { IfOk result
-            (λ has. has ≡ has_other_owner diversions.now.entries self.now.lists name.now at.now) }
+            (λ has. has ≡ has_other_owner diversions.now.ways self.now.lists name.now at.now) }
     {
-        self.table.law();
-        match &self.index {
+        match self.index_by(diversions.aliases()) {
             Some(index) => {
                 look_up_other(alloc, diversions, name, at, self.table.as_slice(), index)
             }
-            None => scan_for_other(alloc, diversions, name, at, self.table.as_slice()),
+            None => scan_for_other(diversions, name, at, self.table.as_slice()),
         }
     }
 
     /// All places at which listed paths lie, for the host to keep while a script runs.
     pub fn places(&self, alloc: Global, diversions: &Diversions) -> Result<Places, AllocError>
-        ensures { IfOk result (λ ps. ps ≡ places_in diversions.now.entries self.now.lists) }
+        ensures { IfOk result (λ ps. ps ≡ places_in diversions.now.ways self.now.lists) }
     {
         self.table.places(alloc, diversions)
     }
@@ -158,8 +198,8 @@ impl FileLists {
         places: &mut Places,
     ) -> Result<(), AllocError>
         ensures { OnOk result
-            (HadPlaces diversions.now.entries name.now self.now.lists places.old
-            → places.new ≡ places_in diversions.now.entries self.now.lists) }
+            (HadPlaces diversions.now.ways name.now self.now.lists places.old
+            → places.new ≡ places_in diversions.now.ways self.now.lists) }
     {
         renew_places(alloc, diversions, &self.table, name, places)
     }
@@ -199,8 +239,8 @@ impl FileLists {
         }
     }
 
-    /// Takes the paths that lie at these places out of the lists of these packages, in this order; each
-    /// list is written anew. After an error the value is closed.
+    /// Takes the paths that lie at these places out of the lists of these packages, in this order;
+    /// each list is written anew. After an error the value is closed.
     pub fn take<H: Host>(
         &mut self,
         alloc: Global,
@@ -215,15 +255,15 @@ impl FileLists {
         ensures lists { OnOk result
             (self.new
             ≡ record self.old
-            { lists = without_all diversions.now.entries places.now from.now self.old.lists }) }
+            { lists = without_all diversions.now.ways places.now from.now self.old.lists }) }
         ensures err { OnErr result (self.new.closed ≡ true) }
         ensures closed { IsErrOf result Closed ↔ (self.old.closed ≡ true) }
         ensures shut { self.old.closed ≡ true → H.state host.new ≡ H.state host.old }
         ensures taken { Leaves result
-            (HasTakenAll diversions.now.entries places.now from.now self.old.lists)
+            (HasTakenAll diversions.now.ways places.now from.now self.old.lists)
             (H.state host.old) (H.state host.new) }
         ensures any_moment { AtEachMoment
-            (IsTaking diversions.now.entries places.now from.now self.old.lists) (H.state host.old)
+            (IsTaking diversions.now.ways places.now from.now self.old.lists) (H.state host.old)
             (H.state host.new) }
         ensures silent { Silent (H.state host.old) (H.state host.new) }
         ensures counts { CountsList (H.state host.old) (H.state host.new) result }

@@ -1,5 +1,5 @@
 // Names and paths in the order of their bytes.
-ghost use Rattle.std.specs.Prelude.{◌≡◌, IfOk, ℕ, List, Contains, ◌↔◌, IsTrue, MatchBool};
+ghost use Rattle.std.specs.Prelude.{◌≡◌, IfOk, ℕ, List, IsTrue};
 ghost use Rattle.std.specs.List.{list_any, AllByRecursion};
 ghost use Rattle.std.specs.Str.{bytes_eq};
 ghost use Rattle.std.specs.BTreeSet.{contains_text};
@@ -44,35 +44,13 @@ fn are_increasing(paths: &[RootPath]) -> bool
     true
 }
 
-/// Whether the path is one of these, which stand in the order of their bytes.
-pub(crate) fn has_path(paths: &[RootPath], path: &RootPath) -> bool
-    requires { AreIncreasing paths.now }
-    ensures { MatchBool result (Contains paths.now path.now) (Contains paths.now path.now → ⊥) }
-{
-    let mut low = 0;
-    let mut high = paths.len();
-    while low < high {
-        let middle = low + (high - low) / 2;
-        match paths[middle]
-            .as_str()
-            .as_bytes()
-            .cmp(path.as_str().as_bytes())
-        {
-            Ordering::Equal => return true,
-            Ordering::Less => low = middle + 1,
-            Ordering::Greater => high = middle,
-        }
-    }
-    false
-}
-
-// The texts of these paths in the order of their bytes.
-fn sorted_paths(alloc: Global, paths: Paths) -> Result<BTreeSet<String>, AllocError>
+/// The texts of these paths in the order of their bytes.
+pub(crate) fn texts_of(alloc: Global, paths: &[RootPath]) -> Result<BTreeSet<String>, AllocError>
     ensures { IfOk result
-        (λ set. (q : List ℕ) → contains_text set q ≡ list_any (bytes_eq q) paths) }
+        (λ set. (q : List ℕ) → contains_text set q ≡ list_any (bytes_eq q) paths.now) }
 {
     let mut set = BTreeSet::new(alloc);
-    for path in &paths.items {
+    for path in paths {
         set.insert(String::from_str(alloc, path.as_str())?)?;
     }
     Ok(set)
@@ -87,7 +65,7 @@ pub(crate) fn in_order(alloc: Global, paths: Paths) -> Result<Paths, AllocError>
     if are_increasing(paths.as_slice()) {
         return Ok(paths);
     }
-    let mut set = sorted_paths(alloc, paths)?;
+    let mut set = texts_of(alloc, paths.as_slice())?;
     let mut items = Vec::new(alloc);
     while let Some(text) = set.pop_first() {
         items.push(RootPath::new(text))?;

@@ -1,100 +1,59 @@
 // Whether another package owns a place.
-ghost use Rattle.std.specs.Prelude.{◌≡◌, IfOk, MatchBool};
-ghost use Rattle.file_lists.specs.Increasing.{AreIncreasing};
-ghost use Rattle.file_lists.specs.Index.{AreSources, IsComplete};
-ghost use Rattle.file_lists.specs.Others.{HasAt, HasOther, IsOther, IsNoOther, AreNoOthers};
-ghost use Rattle.file_lists.specs.Owners.{has_other_owner, AreLists};
+ghost use Rattle.std.specs.Prelude.{◌≡◌, IfOk, MatchBool, Contains, true, false};
+ghost use Rattle.file_lists.specs.declared.spot.Spot.{Spot as ASpot};
+ghost use Rattle.file_lists.specs.Index.{IsComplete};
+ghost use Rattle.file_lists.specs.Others.{has_other, is_other_at};
+ghost use Rattle.file_lists.specs.Owners.{has_other_owner, owners_in};
 
 use crate::index::Index;
-use crate::ordering::has_path;
-use crate::owners::sources_of;
+use crate::owners::keys_of;
 use crate::paths::PackageList;
+use crate::spot::Spot;
 use diversions::Diversions;
 use host_core::RootPath;
 use std::alloc::{AllocError, Global};
 use texts::Text;
 
-// Whether a list has the path, and that lies at the place.
-fn has_at(
+// Whether the path that stands at a spot is another package's, and lies at the place.
+fn is_other_at(
     diversions: &Diversions,
     at: &RootPath,
-    list: &PackageList,
-    path: &RootPath,
+    name: &Text,
+    lists: &[PackageList],
+    spot: Spot,
 ) -> Result<bool, AllocError>
-    requires { AreIncreasing list.now.paths }
-    ensures { IfOk result (λ has. MatchBool has
-        (HasAt diversions.now.entries at.now list.now path.now)
-        (HasAt diversions.now.entries at.now list.now path.now → ⊥)) }
+    ensures { IfOk result
+        (λ is. is ≡ is_other_at diversions.now.ways at.now name.now lists.now spot) }
 {
-    if !has_path(list.paths.as_slice(), path) {
+    if spot.list >= lists.len() {
         return Ok(false);
     }
-    Ok(diversions.place(&list.name, path)?.is(at))
-}
-
-// Whether it is the list of another package, and has a path of the place.
-fn is_other(
-    diversions: &Diversions,
-    at: &RootPath,
-    sources: &[RootPath],
-    name: &Text,
-    list: &PackageList,
-) -> Result<bool, AllocError>
-    requires sources { AreSources diversions.now.entries at.now sources.now }
-    requires order { AreIncreasing list.now.paths }
-    ensures { IfOk result (λ is. MatchBool is
-        (IsOther diversions.now.entries at.now name.now list.now)
-        (IsOther diversions.now.entries at.now name.now list.now → ⊥)) }
-{
+    let list = &lists[spot.list];
+    let paths = list.paths.as_slice();
+    if spot.path >= paths.len() {
+        return Ok(false);
+    }
     if list.name.as_str() == name.as_str() {
         return Ok(false);
     }
-    for source in sources {
-        if has_at(diversions, at, list, source)? {
-            return Ok(true);
-        }
-    }
-    Ok(false)
+    diversions.is_at(&list.name, &paths[spot.path], at)
 }
 
-// The same of the list of a number, if there is one.
-fn is_other_slot(
+// The same of one of these spots.
+fn is_other_at_one(
     diversions: &Diversions,
     at: &RootPath,
-    sources: &[RootPath],
     name: &Text,
     lists: &[PackageList],
-    slot: usize,
+    spots: &[Spot],
 ) -> Result<bool, AllocError>
-    requires sources { AreSources diversions.now.entries at.now sources.now }
-    requires lists { AreLists lists.now }
     ensures { IfOk result (λ is. MatchBool is
-        (HasOther diversions.now.entries at.now name.now lists.now)
-        (IsNoOther diversions.now.entries at.now name.now lists.now slot)) }
+        (has_other_owner diversions.now.ways lists.now name.now at.now ≡ true)
+        ((spot : ASpot) → Contains spots.now spot
+        → is_other_at diversions.now.ways at.now name.now lists.now spot ≡ false)) }
 {
-    if slot < lists.len() {
-        return is_other(diversions, at, sources, name, &lists[slot]);
-    }
-    Ok(false)
-}
-
-// The same of one of the lists of these numbers.
-fn has_other_slot(
-    diversions: &Diversions,
-    at: &RootPath,
-    sources: &[RootPath],
-    name: &Text,
-    lists: &[PackageList],
-    slots: &[usize],
-) -> Result<bool, AllocError>
-    requires sources { AreSources diversions.now.entries at.now sources.now }
-    requires lists { AreLists lists.now }
-    ensures { IfOk result (λ is. MatchBool is
-        (HasOther diversions.now.entries at.now name.now lists.now)
-        (AreNoOthers diversions.now.entries at.now name.now lists.now slots.now)) }
-{
-    for slot in slots {
-        if is_other_slot(diversions, at, sources, name, lists, *slot)? {
+    for spot in spots {
+        if is_other_at(diversions, at, name, lists, *spot)? {
             return Ok(true);
         }
     }
@@ -110,36 +69,53 @@ pub(crate) fn look_up_other(
     lists: &[PackageList],
     index: &Index,
 ) -> Result<bool, AllocError>
-    requires lists { AreLists lists.now }
+    requires aliases { index.now.aliases ≡ diversions.now.ways.aliases }
     requires complete { IsComplete index.now lists.now }
     ensures { IfOk result
-        (λ has. has ≡ has_other_owner diversions.now.entries lists.now name.now at.now) }
+        (λ has. has ≡ has_other_owner diversions.now.ways lists.now name.now at.now) }
 {
-    let sources = sources_of(alloc, diversions, at)?;
-    for source in sources.as_slice() {
-        let slots = index.slots_of(source);
-        if has_other_slot(diversions, at, sources.as_slice(), name, lists, slots)? {
+    let keys = keys_of(alloc, diversions, at)?;
+    for key in keys.as_slice() {
+        if is_other_at_one(diversions, at, name, lists, index.row(key))? {
             return Ok(true);
         }
     }
     Ok(false)
 }
 
-/// The same by going over all lists.
+// Whether it is the list of another package, and has a path of the place.
+fn is_other(
+    diversions: &Diversions,
+    at: &RootPath,
+    name: &Text,
+    list: &PackageList,
+) -> Result<bool, AllocError>
+    ensures { IfOk result
+        (λ is. is ≡ has_other name.now (owners_in diversions.now.ways at.now list.now)) }
+{
+    if list.name.as_str() == name.as_str() {
+        return Ok(false);
+    }
+    for path in list.paths.as_slice() {
+        if diversions.is_at(&list.name, path, at)? {
+            return Ok(true);
+        }
+    }
+    Ok(false)
+}
+
+/// Whether another package owns the place, by going over all lists.
 pub(crate) fn scan_for_other(
-    alloc: Global,
     diversions: &Diversions,
     name: &Text,
     at: &RootPath,
     lists: &[PackageList],
 ) -> Result<bool, AllocError>
-    requires { AreLists lists.now }
     ensures { IfOk result
-        (λ has. has ≡ has_other_owner diversions.now.entries lists.now name.now at.now) }
+        (λ has. has ≡ has_other_owner diversions.now.ways lists.now name.now at.now) }
 {
-    let sources = sources_of(alloc, diversions, at)?;
     for list in lists {
-        if is_other(diversions, at, sources.as_slice(), name, list)? {
+        if is_other(diversions, at, name, list)? {
             return Ok(true);
         }
     }

@@ -2,7 +2,7 @@
 ghost use Rattle.std.specs.Prelude.{◌≡◌, ◌+◌, ◌≤◌, ◌++◌, List, IfSome, OnOk, cond, drop, length, map, take};
 ghost use Rattle.std.specs.Ordering.{nat_cmp, is_lt};
 ghost use Rattle.std.specs.Cmp.Lexicographic.{slice_cmp};
-ghost use Rattle.diversions.specs.Places.{place};
+ghost use Rattle.diversions.specs.Ways.{place};
 ghost use Rattle.file_lists.specs.Beside.{HadPlaces, lists_before, lists_behind, path_count};
 ghost use Rattle.file_lists.specs.Owners.{places_in};
 
@@ -65,7 +65,7 @@ fn put_places(
     requires within { end ≤ length places.old }
     ensures { OnOk result
         (places.new
-        ≡ take start places.old ++ map (place diversions.now.entries name.now) paths.now
+        ≡ take start places.old ++ map (place diversions.now.ways name.now) paths.now
         ++ drop end places.old) }
 {
     let mut behind = places.items.split_off(end)?;
@@ -85,8 +85,8 @@ pub(crate) fn renew_places(
     places: &mut Places,
 ) -> Result<(), AllocError>
     ensures { OnOk result
-        (HadPlaces diversions.now.entries name.now table.now places.old
-        → places.new ≡ places_in diversions.now.entries table.now) }
+        (HadPlaces diversions.now.ways name.now table.now places.old
+        → places.new ≡ places_in diversions.now.ways table.now) }
 {
     table.law();
     let all = places.items.len();

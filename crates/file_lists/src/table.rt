@@ -2,7 +2,7 @@
 ghost use Rattle.std.specs.Prelude.{◌≡◌, ◌++◌, [], List, ℕ, IfOk, OnOk, OnErr, IfSome, IfNone, ◌<◌, length, Contains, ◌↔◌, map};
 ghost use Rattle.file_lists.specs.declared.paths.PackageList.{PackageList as AList};
 ghost use Rattle.file_lists.specs.Owners.{AreLists, AreListPaths, names_of, paths_of, places_in};
-ghost use Rattle.diversions.specs.Places.{place};
+ghost use Rattle.diversions.specs.Ways.{place};
 ghost use Rattle.file_lists.specs.Table.{IsAt, IsSet};
 ghost use Rattle.file_lists.specs.Writing.{with_list, with_paths_at};
 
@@ -37,7 +37,7 @@ pub(crate) fn take_places(
     places: &mut Places,
 ) -> Result<(), AllocError>
     ensures { OnOk result
-        (places.new ≡ places.old ++ map (place diversions.now.entries name.now) paths.now) }
+        (places.new ≡ places.old ++ map (place diversions.now.ways name.now) paths.now) }
 {
     for path in paths {
         places.items.push(diversions.place(name, path)?)?;
@@ -111,6 +111,10 @@ impl Table {
         }
     }
 
+    pub(crate) fn alloc(&self) -> Global {
+        *self.lists.allocator()
+    }
+
     pub(crate) fn as_slice(&self) -> &[PackageList]
         ensures { result.now ≡ self.now }
     {
@@ -122,7 +126,7 @@ impl Table {
         alloc: Global,
         diversions: &Diversions,
     ) -> Result<Places, AllocError>
-        ensures { IfOk result (λ ps. ps ≡ places_in diversions.now.entries self.now) }
+        ensures { IfOk result (λ ps. ps ≡ places_in diversions.now.ways self.now) }
     {
         let mut places = Places {
             items: Vec::new(alloc),

@@ -1,31 +1,31 @@
 // Taking paths out of a list.
 ghost use Rattle.std.specs.Prelude.{◌≡◌, ◌++◌, ◌∷◌, [], ℕ, List, Contains, not, cond, true, IfOk, OnOk, OnErr};
-ghost use Rattle.std.specs.List.{list_any};
-ghost use Rattle.std.specs.Str.{bytes_eq};
+ghost use Rattle.std.specs.BTreeSet.{contains_text};
 ghost use Rattle.host_core.specs.Host.{AtEachMoment, Counts, Leaves, Needs, Silent};
 ghost use Rattle.texts.specs.PackageNames.{is_package_name};
 ghost use Rattle.administration.specs.Files.{IsReplaced, IsReplacing};
 ghost use Rattle.administration.specs.Places.{list_path};
-ghost use Rattle.diversions.specs.Places.{place};
+ghost use Rattle.diversions.specs.Ways.{place};
 ghost use Rattle.file_lists.specs.Index.{IsIndexed};
 ghost use Rattle.file_lists.specs.Owners.{paths_of};
 ghost use Rattle.file_lists.specs.Taking.{without_all, IsTaking, HasTakenAll};
 ghost use Rattle.file_lists.specs.Writing.{left_paths, list_file, without_places, IsListReady};
 
 use crate::index::Index;
-use crate::owners::is_among;
+use crate::ordering::texts_of;
 use crate::paths::Paths;
 use crate::table::Table;
 use crate::writing::replace_list;
 use diversions::Diversions;
 use host_core::{Host, HostFault, RootPath};
 use std::alloc::{AllocError, Global};
+use std::collections::BTreeSet;
 use texts::Text;
 
 // Keeps a path that lies at none of the places.
 fn keep_path(
     diversions: &Diversions,
-    places: &[RootPath],
+    places: &BTreeSet<String>,
     name: &Text,
     path: &RootPath,
     left: &mut Paths,
@@ -33,12 +33,11 @@ fn keep_path(
     ensures { OnOk result
         (left.new
         ≡ left.old
-        ++ cond
-        (not (list_any (bytes_eq (place diversions.now.entries name.now path.now)) places.now))
+        ++ cond (not (contains_text places.now (place diversions.now.ways name.now path.now)))
         (path.now ∷ []) []) }
 {
     let there = diversions.place(name, path)?;
-    if is_among(places, &there) {
+    if places.contains(there.as_str()) {
         return Ok(());
     }
     left.items.push(path.copy()?)?;
@@ -53,13 +52,14 @@ fn left_paths(
     paths: &[RootPath],
 ) -> Result<Paths, AllocError>
     ensures { IfOk result
-        (λ left. left ≡ left_paths diversions.now.entries places.now name.now paths.now) }
+        (λ left. left ≡ left_paths diversions.now.ways places.now name.now paths.now) }
 {
+    let taken = texts_of(alloc, places)?;
     let mut left = Paths {
         items: Vec::new(alloc),
     };
     for path in paths {
-        keep_path(diversions, places, name, path, &mut left)?;
+        keep_path(diversions, &taken, name, path, &mut left)?;
     }
     Ok(left)
 }
@@ -79,17 +79,17 @@ pub(crate) fn take_paths<H: Host>(
     requires indexed { IsIndexed index.old table.old }
     ensures indexed { IsIndexed index.new table.new }
     ensures table { OnOk result
-        (table.new ≡ without_places diversions.now.entries places.now name.now table.old) }
+        (table.new ≡ without_places diversions.now.ways places.now name.now table.old) }
     ensures err { OnErr result (table.new ≡ table.old) }
     ensures replaced { Leaves result
         (IsReplaced (list_path name.now)
         (list_file
-        (left_paths diversions.now.entries places.now name.now (paths_of table.old name.now))))
+        (left_paths diversions.now.ways places.now name.now (paths_of table.old name.now))))
         (H.state host.old) (H.state host.new) }
     ensures any_moment { AtEachMoment
         (IsReplacing (list_path name.now)
         (list_file
-        (left_paths diversions.now.entries places.now name.now (paths_of table.old name.now))))
+        (left_paths diversions.now.ways places.now name.now (paths_of table.old name.now))))
         (H.state host.old) (H.state host.new) }
     ensures silent { Silent (H.state host.old) (H.state host.new) }
     ensures counts { Counts (H.state host.old) (H.state host.new) result }
@@ -116,11 +116,11 @@ pub(crate) fn take_all<H: Host>(
     requires indexed { IsIndexed index.old table.old }
     ensures indexed { IsIndexed index.new table.new }
     ensures table { OnOk result
-        (table.new ≡ without_all diversions.now.entries places.now from.now table.old) }
-    ensures taken { Leaves result (HasTakenAll diversions.now.entries places.now from.now table.old)
+        (table.new ≡ without_all diversions.now.ways places.now from.now table.old) }
+    ensures taken { Leaves result (HasTakenAll diversions.now.ways places.now from.now table.old)
         (H.state host.old) (H.state host.new) }
     ensures any_moment { AtEachMoment
-        (IsTaking diversions.now.entries places.now from.now table.old) (H.state host.old)
+        (IsTaking diversions.now.ways places.now from.now table.old) (H.state host.old)
         (H.state host.new) }
     ensures silent { Silent (H.state host.old) (H.state host.new) }
     ensures counts { Counts (H.state host.old) (H.state host.new) result }

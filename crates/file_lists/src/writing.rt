@@ -89,14 +89,14 @@ fn enter(index: &mut Option<Index>, paths: &[RootPath], slot: usize)
 }
 
 // The index of the lists, if there was one and there is memory for it.
-fn rebuilt(alloc: Global, table: &Table, wanted: bool) -> Option<Index>
+fn rebuilt(alloc: Global, table: &Table, index: &Option<Index>) -> Option<Index>
     ensures { IsIndexed result table.now }
 {
-    if !wanted {
+    let Some(old) = index else {
         return None;
-    }
-    match Index::of_lists(alloc, table.as_slice()) {
-        Ok(index) => Some(index),
+    };
+    match Index::of_lists(alloc, old.aliases(), table.as_slice()) {
+        Ok(new) => Some(new),
         Err(_) => None,
     }
 }
@@ -123,9 +123,8 @@ fn put(
             return Ok(());
         }
         None => {
-            let wanted = index.is_some();
             table.insert(name.copy()?, paths)?;
-            *index = rebuilt(alloc, table, wanted);
+            *index = rebuilt(alloc, table, &*index);
             return Ok(());
         }
     }

@@ -1,5 +1,5 @@
 -- Places that were gathered in a set.
-use Rattle.std.proofs.Common.{◌≡◌, ◌+◌, ◌<◌, ◌==◌, ℕ, Bool, true, false, cond, List, [], ◌∷◌, ◌++◌, map, take, length, get_or, refl, sym, ap, ◌∙◌, arith}
+use Rattle.std.proofs.Common.{◌≡◌, ◌+◌, ◌<◌, ℕ, Bool, true, false, cond, List, [], ◌∷◌, ◌++◌, map, take, length, get_or, sym, ap, ◌∙◌, arith}
 use Rattle.std.specs.Prelude.{◌||◌}
 use Rattle.std.specs.List.{list_any}
 use Rattle.std.specs.Str.{bytes_eq}
@@ -15,10 +15,6 @@ place_added f paths i path key q new mid lt is same new_is mid_is =
     name_added (map f paths) i (f path) key q new mid (omega (arith, lt, length-map paths f)) (ap f is ∙ sym (get_or-map f paths i path (f path) lt)) same new_is
     (mid_is ∙ ap (list_any (bytes_eq q)) (sym (take-map f i paths)))
     ∙ ap (list_any (bytes_eq q)) (take-map f (i + 1) paths)
-
-pub no_root : (at : Path) → (length at == 0) ≡ false → bytes_eq at [] ≡ false
-no_root [] is = is
-no_root (b ∷ at) is = refl
 
 -- where none of the other reasons holds the last decides
 pub last_decides : (a b c d : Bool) → a ≡ false → b ≡ false → c ≡ false → (a || (b || (c || d))) ≡ d

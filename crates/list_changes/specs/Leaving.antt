@@ -4,28 +4,28 @@ use Rattle.std.specs.List.{list_any}
 use Rattle.std.specs.Str.{bytes_eq}
 use Rattle.host_core.specs.Paths.{Path}
 use Rattle.administration.specs.Places.{home_path, is_within}
-use Rattle.diversions.specs.declared.entry.Diversion.{Diversion}
-use Rattle.diversions.specs.Places.{place}
+use Rattle.diversions.specs.Ways.{Ways, is_led_to, place}
 use Rattle.file_lists.specs.declared.paths.PackageList.{PackageList}
 use Rattle.file_lists.specs.Owners.{has_other_owner}
 use Rattle.file_removal.specs.declared.leaving.Leaving.{Leaving}
 
 -- the list to come has a path of this place
-abbrev pub is_place_of : List Diversion → List ℕ → List Path → Path → Bool
-is_place_of entries name paths at = list_any (bytes_eq at) (map (place entries name) paths)
+abbrev pub is_place_of : Ways → List ℕ → List Path → Path → Bool
+is_place_of ways name paths at = list_any (bytes_eq at) (map (place ways name) paths)
 
--- a place that stays: the root, one in the administration, and one that the list to come or another list has
-abbrev pub stays : List Diversion → List PackageList → List ℕ → (to_come : List Path) → Path → Bool
-stays entries lists name to_come at =
-    bytes_eq at [] || (is_within home_path at || (is_place_of entries name to_come at || has_other_owner entries lists name at))
+-- a place that stays: the root and each directory to which an alias leads, one in the administration, and one that the list to come
+-- or another list has
+abbrev pub stays : Ways → List PackageList → List ℕ → (to_come : List Path) → Path → Bool
+stays ways lists name to_come at =
+    is_led_to ways at || (is_within home_path at || (is_place_of ways name to_come at || has_other_owner ways lists name at))
 
 -- a listed path with its place goes unless that stays, or it is a conffile
-abbrev pub leaving_at : List Diversion → List PackageList → List ℕ → (to_come conffiles : List Path) → Path → Leaving
-leaving_at entries lists name to_come conffiles path = record {
-  place = place entries name path;
-  goes = not (list_any (bytes_eq path) conffiles || stays entries lists name to_come (place entries name path));
+abbrev pub leaving_at : Ways → List PackageList → List ℕ → (to_come conffiles : List Path) → Path → Leaving
+leaving_at ways lists name to_come conffiles path = record {
+  place = place ways name path;
+  goes = not (list_any (bytes_eq path) conffiles || stays ways lists name to_come (place ways name path));
 }
 
 -- the same of each path of a list
-abbrev pub leaving_of : List Diversion → List PackageList → List ℕ → (to_come conffiles listed : List Path) → List Leaving
-leaving_of entries lists name to_come conffiles listed = map (leaving_at entries lists name to_come conffiles) listed
+abbrev pub leaving_of : Ways → List PackageList → List ℕ → (to_come conffiles listed : List Path) → List Leaving
+leaving_of ways lists name to_come conffiles listed = map (leaving_at ways lists name to_come conffiles) listed

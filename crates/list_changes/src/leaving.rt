@@ -24,7 +24,7 @@ fn places_of(
 ) -> Result<BTreeSet<String>, AllocError>
     ensures { IfOk result
         (λ places. (at : Path)
-        → contains_text places at ≡ is_place_of diversions.now.entries name.now paths.now at) }
+        → contains_text places at ≡ is_place_of diversions.now.ways name.now paths.now at) }
 {
     let mut places = BTreeSet::new(alloc);
     for path in paths {
@@ -64,11 +64,11 @@ fn stays(
     ensures { IfOk result
         (λ stay. (paths : List Path)
         → ((q : Path)
-        → contains_text to_come.now q ≡ is_place_of diversions.now.entries name.now paths q)
-        → stay ≡ stays diversions.now.entries lists.now.lists name.now paths at.now) }
+        → contains_text to_come.now q ≡ is_place_of diversions.now.ways name.now paths q)
+        → stay ≡ stays diversions.now.ways lists.now.lists name.now paths at.now) }
 {
     let text = at.as_str();
-    if text.is_empty() || is_within_home(text) || to_come.contains(text) {
+    if diversions.is_led_to(at) || is_within_home(text) || to_come.contains(text) {
         return Ok(true);
     }
     lists.has_other_owner(alloc, diversions, name, at)
@@ -87,9 +87,9 @@ fn leaving_at(
     ensures { IfOk result
         (λ leaving. (paths of : List Path)
         → ((q : Path)
-        → contains_text to_come.now q ≡ is_place_of diversions.now.entries name.now paths q)
+        → contains_text to_come.now q ≡ is_place_of diversions.now.ways name.now paths q)
         → ((q : Path) → contains_text conffiles.now q ≡ list_any (bytes_eq q) of)
-        → leaving ≡ leaving_at diversions.now.entries lists.now.lists name.now paths of path.now) }
+        → leaving ≡ leaving_at diversions.now.ways lists.now.lists name.now paths of path.now) }
 {
     let place = diversions.place(name, path)?;
     let stay = stays(alloc, lists, diversions, name, to_come, &place)?;
@@ -98,8 +98,8 @@ fn leaving_at(
 }
 
 /// Each path of a package's list with its place, and whether it goes: not where the list to come or
-/// another list has that place, nor one in the administration, nor a conffile. Where many paths are
-/// asked for, the lists' index is to be built before.
+/// another list has that place, nor a directory to which a link leads, nor one in the administration,
+/// nor a conffile. Where many paths are asked for, the lists' index is to be built before.
 pub fn leaving_of(
     alloc: Global,
     lists: &FileLists,
@@ -111,7 +111,7 @@ pub fn leaving_of(
 ) -> Result<Vec<Leaving>, AllocError>
     ensures { IfOk result
         (λ leaving. leaving.items
-        ≡ leaving_of diversions.now.entries lists.now.lists name.now to_come.now conffiles.now
+        ≡ leaving_of diversions.now.ways lists.now.lists name.now to_come.now conffiles.now
         listed.now) }
 {
     let places = places_of(alloc, diversions, name, to_come)?;

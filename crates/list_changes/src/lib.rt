@@ -5,9 +5,9 @@
 //!
 //! `union_of` is what a package lists while its files are written, `list_of` what it lists then:
 //! the shipped paths, those that stay and the directories above them, `list_with_parents` what it
-//! lists behind a removal; `leaving_of` tells of each listed path whether it goes: not the root,
-//! not where the list to come or another list has its place, nothing in the administration and no
-//! conffile. **listed_files**: `write_listed` writes the list and then the files, `put_back_listed`
+//! lists behind a removal; `leaving_of` tells of each listed path whether it goes: not the root
+//! nor a directory to which an alias leads, not where the list to come or another list has its place,
+//! nothing in the administration and no conffile. **listed_files**: `write_listed` writes the list and then the files, `put_back_listed`
 //! puts the files back and then writes the old list, `renew_list` takes old paths away and writes
 //! the new list, `release` takes places from other lists and clears reserved names, and `conclude`
 //! notes the record behind that; what holds at each moment says in which order (`any_moment`), and

@@ -7,7 +7,7 @@ use Rattle.host_core.specs.Paths.{Path}
 use Rattle.host_core.specs.World.{World, KeepsBut, lowered}
 use Rattle.host_core.specs.declared.node.Node.{Node}
 use Rattle.administration.specs.Places.{temporary}
-use Rattle.diversions.specs.declared.entry.Diversion.{Diversion}
+use Rattle.diversions.specs.Ways.{Ways}
 use Rattle.file_lists.specs.declared.paths.PackageList.{PackageList}
 use Rattle.file_lists.specs.Taking.{IsNoList}
 use Rattle.package_files.specs.declared.work.Work.{Work}
@@ -98,14 +98,14 @@ module _ (xs : List Leaving) where
       let l = no_list list q n.1 in
       m.2.rest q l.0 l.1 ∙ removed_keeps old m.0 q m.1 n.0
 
-module _ (entries : List Diversion) (places from : List Path) (had : List PackageList) (names : List Path) (old : World) where
-  pub released_keeps : (new : World) (q : Path) → HasReleased entries places from had names old new → IsNoList from q → is_among names q ≡ false → new q ≡ old q
+module _ (ways : Ways) (places from : List Path) (had : List PackageList) (names : List Path) (old : World) where
+  pub released_keeps : (new : World) (q : Path) → HasReleased ways places from had names old new → IsNoList from q → is_among names q ≡ false → new q ≡ old q
   released_keeps new q has none out = has.cleared.each q ∙ ap (λ b. cond b (cleared (has.mid q)) (has.mid q)) out ∙ has.taken.rest q none
 
   retiring_keeps : (mid now : World) (q : Path) → (now q ≡ mid q) ⊎ (IsTrue (is_among names q) × ((now q ≡ lowered (mid q)) ⊎ (now q ≡ cleared (mid q)))) → is_among names q ≡ false → now q ≡ mid q
   retiring_keeps mid now q (inl same) out = same
   retiring_keeps mid now q (inr gone) out = absurd (true≢false (sym gone.0 ∙ out))
 
-  pub releasing_keeps : (now : World) (q : Path) → MayRelease entries places from had names old now → IsNoList from q → is_among names q ≡ false → now q ≡ old q
+  pub releasing_keeps : (now : World) (q : Path) → MayRelease ways places from had names old now → IsNoList from q → is_among names q ≡ false → now q ≡ old q
   releasing_keeps now q (inl is) none out = is.rest q none
   releasing_keeps now q (inr m) none out = retiring_keeps m.0 now q (m.3.each q) out ∙ m.1.rest q none

@@ -8,7 +8,7 @@ use Rattle.host_core.specs.World.{World}
 use Rattle.host_core.specs.Host.{State, AtEachMoment}
 use Rattle.host_core.proofs.Moments.{since_now}
 use Rattle.administration.specs.Places.{home_path, is_within}
-use Rattle.diversions.specs.declared.entry.Diversion.{Diversion}
+use Rattle.diversions.specs.Ways.{Ways}
 use Rattle.file_lists.specs.declared.paths.PackageList.{PackageList}
 use Rattle.file_lists.specs.Taking.{IsTaking}
 use Rattle.file_lists.specs.Writing.{IsListReady}
@@ -52,5 +52,5 @@ pub ready_removed : (declined : Path → Type 0) (name : Path) (xs : List Leavin
 ready_removed declined name xs v w spares removed ready = ready_still name v w (λ q below. removed_stays declined xs v w q spares removed below) ready
 
 -- what holds at each moment of taking places holds in its end
-pub spares_loose : (entries : List Diversion) (places from : List Path) (had : List PackageList) (a b : State) → AtEachMoment (IsTaking entries places from had) a b → IsTrue b.honest → AreSparesLoose from b.world
-spares_loose entries places from had a b since h = (since_now (λ so_far. IsTaking entries places from had a.world) a b since h).spares
+pub spares_loose : (ways : Ways) (places from : List Path) (had : List PackageList) (a b : State) → AtEachMoment (IsTaking ways places from had) a b → IsTrue b.honest → AreSparesLoose from b.world
+spares_loose ways places from had a b since h = (since_now (λ so_far. IsTaking ways places from had a.world) a b since h).spares

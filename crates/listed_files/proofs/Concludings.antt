@@ -9,7 +9,7 @@ use Rattle.host_core.specs.Paths.{Path}
 use Rattle.host_core.specs.World.{World, IsDirectory, SameOn}
 use Rattle.administration.specs.Places.{home_path, is_within, status_path, temporary, updates_path}
 use Rattle.administration.proofs.Within.{below_within, rest_of}
-use Rattle.diversions.specs.declared.entry.Diversion.{Diversion}
+use Rattle.diversions.specs.Ways.{Ways}
 use Rattle.file_lists.specs.declared.paths.PackageList.{PackageList}
 use Rattle.file_lists.specs.Taking.{IsNoList}
 use Rattle.status_db.specs.Recorded.{Recorded}
@@ -42,9 +42,9 @@ record_within q is = elim (or_cases (bytes_eq q status_path) (bytes_eq q (tempor
     at : (p : Path) → q ≡ p → is_within home_path p ≡ true → (byte p ≡ 105 → ⊥) → (is_within home_path q ≡ true) × (byte q ≡ 105 → ⊥)
     at p e within other = (ap (is_within home_path) e ∙ within, λ b. other (sym (ap byte e) ∙ b))
 
-module _ (entries : List Diversion) (places from : List Path) (had : List PackageList) (names : List Path) (old mid : World) (elsewhere : AreElsewhere names) (has : HasReleased entries places from had names old mid) where
+module _ (ways : Ways) (places from : List Path) (had : List PackageList) (names : List Path) (old mid : World) (elsewhere : AreElsewhere names) (has : HasReleased ways places from had names old mid) where
   stays : (q : Path) → is_within home_path q ≡ true → (byte q ≡ 105 → ⊥) → mid q ≡ old q
-  stays q within other = released_keeps entries places from had names old mid q has (no_list_by q from other) (elsewhere q within)
+  stays q within other = released_keeps ways places from had names old mid q has (no_list_by q from other) (elsewhere q within)
 
   same : SameOn is_record_place old mid
   same q is = let r = record_within q is in stays q r.0 r.1

@@ -8,7 +8,7 @@ use Rattle.host_core.specs.Host.{State}
 use Rattle.host_core.specs.declared.node.Node.{Node}
 use Rattle.administration.specs.Files.{IsReplaced, IsReplacing, NoDirectory}
 use Rattle.administration.specs.Places.{home_path, is_within, list_path, temporary}
-use Rattle.diversions.specs.declared.entry.Diversion.{Diversion}
+use Rattle.diversions.specs.Ways.{Ways}
 use Rattle.file_lists.specs.declared.paths.PackageList.{PackageList}
 use Rattle.file_lists.specs.Taking.{HasTakenAll, IsTaking}
 use Rattle.file_removal.specs.declared.leaving.Leaving.{Leaving}
@@ -47,18 +47,18 @@ abbrev pub AreSparesLoose : List Path → World → Type 0
 AreSparesLoose from w = (name : List ℕ) → Contains from name → NoDirectory (w (temporary (list_path name)))
 
 -- the lists of these packages lost the places, then what stood at the names went
-pub record HasReleased (entries : List Diversion) (places : List Path) (from : List Path) (had : List PackageList) (names : List Path) (old new : World) : Type 0 where
+pub record HasReleased (ways : Ways) (places : List Path) (from : List Path) (had : List PackageList) (names : List Path) (old new : World) : Type 0 where
   pub mid : World
-  pub taken : HasTakenAll entries places from had old mid
+  pub taken : HasTakenAll ways places from had old mid
   pub spares : AreSparesLoose from mid
   pub cleared : Cleared names mid new
 
 -- at each moment: the lists lose the places, or they have lost them and what stands at the names is going
-abbrev pub MayRelease : List Diversion → List Path → List Path → List PackageList → List Path → World → World → Type 0
-MayRelease entries places from had names old now =
-    IsTaking entries places from had old now ⊎ ((mid : World) × HasTakenAll entries places from had old mid × AreSparesLoose from mid × IsRetiring names mid now)
+abbrev pub MayRelease : Ways → List Path → List Path → List PackageList → List Path → World → World → Type 0
+MayRelease ways places from had names old now =
+    IsTaking ways places from had old now ⊎ ((mid : World) × HasTakenAll ways places from had old mid × AreSparesLoose from mid × IsRetiring names mid now)
 
 -- behind the lists each file that went lent no rights any more when it did
-abbrev pub LeavesRetired : {T E : Type 0} → Result T E → List Diversion → List Path → List Path → List PackageList → State → State → Type 0
-LeavesRetired result entries places from had old new =
-    IsTrue new.honest → OnOk result ((mid : State) × HasTakenAll entries places from had old.world mid.world × TookLowered mid new)
+abbrev pub LeavesRetired : {T E : Type 0} → Result T E → Ways → List Path → List Path → List PackageList → State → State → Type 0
+LeavesRetired result ways places from had old new =
+    IsTrue new.honest → OnOk result ((mid : State) × HasTakenAll ways places from had old.world mid.world × TookLowered mid new)

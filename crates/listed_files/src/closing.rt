@@ -71,17 +71,17 @@ pub fn release<H: Host>(
     requires ready { Needs (H.state host.old) (λ w. (name : List ℕ) → Contains from.now name
         → IsListReady name w) }
     ensures lists { OnOk result (lists.new ≡ record lists.old
-        { lists = without_all diversions.now.entries places.now from.now lists.old.lists }) }
+        { lists = without_all diversions.now.ways places.now from.now lists.old.lists }) }
     ensures err { OnErr result ((lists.new.closed ≡ true)
         ⊎ (lists.new ≡ record lists.old {
-          lists = without_all diversions.now.entries places.now
+          lists = without_all diversions.now.ways places.now
               from.now lists.old.lists;
         })) }
-    ensures released { Leaves result (HasReleased diversions.now.entries places.now from.now
+    ensures released { Leaves result (HasReleased diversions.now.ways places.now from.now
         lists.old.lists names.now) (H.state host.old) (H.state host.new) }
-    ensures retired { LeavesRetired result diversions.now.entries places.now from.now
+    ensures retired { LeavesRetired result diversions.now.ways places.now from.now
         lists.old.lists (H.state host.old) (H.state host.new) }
-    ensures any_moment { AtEachMoment (MayRelease diversions.now.entries places.now from.now
+    ensures any_moment { AtEachMoment (MayRelease diversions.now.ways places.now from.now
         lists.old.lists names.now) (H.state host.old) (H.state host.new) }
     ensures silent { Silent (H.state host.old) (H.state host.new) }
     ensures counts { Counts (H.state host.old) (H.state host.new) result }

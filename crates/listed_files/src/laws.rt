@@ -3,7 +3,7 @@ ghost use Rattle.std.specs.Prelude.{◌≡◌, true, false, List};
 ghost use Rattle.host_core.specs.Paths.{Path, is_below_administration};
 ghost use Rattle.host_core.specs.World.{World, KeepsBut};
 ghost use Rattle.host_core.specs.declared.node.Node.{Node};
-ghost use Rattle.diversions.specs.declared.entry.Diversion.{Diversion};
+ghost use Rattle.diversions.specs.Ways.{Ways};
 ghost use Rattle.file_lists.specs.declared.paths.PackageList.{PackageList};
 ghost use Rattle.file_lists.specs.Taking.{IsNoList};
 ghost use Rattle.package_files.specs.declared.work.Work.{Work};
@@ -46,12 +46,12 @@ pub fn what_a_move_leaves()
     ensures renewing { (leaving : List Leaving) (list : Path) (node : Node) (old now : World)
         → MayRenew leaving list node old now
         → KeepsBut (is_renewed_place leaving list) old now }
-    ensures released { (entries : List Diversion) (places : List Path) (from : List Path)
+    ensures released { (ways : Ways) (places : List Path) (from : List Path)
         (had : List PackageList) (names : List Path) (old new : World) (q : Path)
-        → HasReleased entries places from had names old new → IsNoList from q
+        → HasReleased ways places from had names old new → IsNoList from q
         → is_among names q ≡ false → new q ≡ old q }
-    ensures releasing { (entries : List Diversion) (places : List Path) (from : List Path)
+    ensures releasing { (ways : Ways) (places : List Path) (from : List Path)
         (had : List PackageList) (names : List Path) (old now : World) (q : Path)
-        → MayRelease entries places from had names old now → IsNoList from q
+        → MayRelease ways places from had names old now → IsNoList from q
         → is_among names q ≡ false → now q ≡ old q }
 {}

@@ -75,11 +75,11 @@ pub(crate) fn take_places<H: Host>(
     requires ready { Needs (H.state host.old) (λ w. (name : List ℕ) → Contains from.now name
         → IsListReady name w) }
     ensures lists { OnOk result (lists.new ≡ record lists.old
-        { lists = without_all diversions.now.entries places.now from.now lists.old.lists }) }
+        { lists = without_all diversions.now.ways places.now from.now lists.old.lists }) }
     ensures err { OnErr result (lists.new.closed ≡ true) }
-    ensures taken { Leaves result (HasTakenAll diversions.now.entries places.now from.now
+    ensures taken { Leaves result (HasTakenAll diversions.now.ways places.now from.now
         lists.old.lists) (H.state host.old) (H.state host.new) }
-    ensures any_moment { AtEachMoment (IsTaking diversions.now.entries places.now from.now
+    ensures any_moment { AtEachMoment (IsTaking diversions.now.ways places.now from.now
         lists.old.lists) (H.state host.old) (H.state host.new) }
     ensures silent { Silent (H.state host.old) (H.state host.new) }
     ensures counts { Counts (H.state host.old) (H.state host.new) result }

@@ -7,7 +7,7 @@ use Rattle.std.proofs.lemmas.List.{take_more, append-nil, map_more, map-append}
 use Rattle.std.proofs.lemmas.List.Elements.{filter-append}
 use Rattle.administration.proofs.Within.{taken_more}
 use Rattle.host_core.specs.Paths.{Path}
-use Rattle.diversions.specs.declared.entry.Diversion.{Diversion}
+use Rattle.diversions.specs.Ways.{Ways}
 use Rattle.file_lists.specs.Owners.{has_other_owner}
 use Rattle.file_lists.specs.declared.paths.PackageList.{PackageList}
 use Rattle.list_changes.specs.Clearable.{clearable, is_clearable}
@@ -22,9 +22,9 @@ gathered F law done p q base mid new so_far more same =
 pub clearable_law : (xs ys : List Path) → clearable (xs ++ ys) ≡ clearable xs ++ clearable ys
 clearable_law xs ys = filter-append is_clearable xs ys
 
-pub ownerless_law : (entries : List Diversion) (lists : List PackageList) (name : List ℕ) (xs ys : List Path) → ownerless entries lists name (xs ++ ys) ≡ ownerless entries lists name xs ++ ownerless entries lists name ys
-ownerless_law entries lists name xs ys =
-    let free = λ (q : Path). not (has_other_owner entries lists name q) in
+pub ownerless_law : (ways : Ways) (lists : List PackageList) (name : List ℕ) (xs ys : List Path) → ownerless ways lists name (xs ++ ys) ≡ ownerless ways lists name xs ++ ownerless ways lists name ys
+ownerless_law ways lists name xs ys =
+    let free = λ (q : Path). not (has_other_owner ways lists name q) in
     ap (filter free) (clearable_law xs ys) ∙ filter-append free (clearable xs) (clearable ys)
 
 -- what one more gives

@@ -6,8 +6,7 @@ use Rattle.std.specs.Str.{bytes_eq}
 use Rattle.std.proofs.lemmas.Bool.{or_parts}
 use Rattle.host_core.specs.Paths.{Path}
 use Rattle.administration.specs.Places.{home_path, is_within}
-use Rattle.diversions.specs.Places.{place}
-use Rattle.diversions.specs.declared.entry.Diversion.{Diversion}
+use Rattle.diversions.specs.Ways.{place, Ways}
 use Rattle.host_core.specs.Suffixes.{suffix_text}
 use Rattle.host_core.specs.declared.suffix.Suffix.TheVariants.{New}
 use Rattle.file_lists.specs.declared.paths.PackageList.{PackageList}
@@ -54,21 +53,21 @@ unless false xs all = all
 pub nothing_elsewhere : AreElsewhere []
 nothing_elsewhere = λ q within. refl
 
-module _ (entries : List Diversion) where
-  pub stopped_elsewhere : (name : List ℕ) (conffiles listed : List Path) → AreElsewhere (stopped_names entries name conffiles listed)
+module _ (ways : Ways) where
+  pub stopped_elsewhere : (name : List ℕ) (conffiles listed : List Path) → AreElsewhere (stopped_names ways name conffiles listed)
   stopped_elsewhere name conffiles listed =
-      flat_elsewhere (λ (path : Path). cond (list_any (bytes_eq path) conffiles) [] (clearable (unpack_names (place entries name path))))
-      (λ path. unless (list_any (bytes_eq path) conffiles) (clearable (unpack_names (place entries name path))) (clearable_elsewhere (unpack_names (place entries name path)))) listed
+      flat_elsewhere (λ (path : Path). cond (list_any (bytes_eq path) conffiles) [] (clearable (unpack_names (place ways name path))))
+      (λ path. unless (list_any (bytes_eq path) conffiles) (clearable (unpack_names (place ways name path))) (clearable_elsewhere (unpack_names (place ways name path)))) listed
 
-  pub waiting_elsewhere : (name : List ℕ) (pending : List PendingDigest) → AreElsewhere (waiting_names entries name pending)
+  pub waiting_elsewhere : (name : List ℕ) (pending : List PendingDigest) → AreElsewhere (waiting_names ways name pending)
   waiting_elsewhere name pending =
-      flat_elsewhere (λ (d : PendingDigest). clearable ((place entries name d.path ++ suffix_text New) ∷ [])) (λ d. clearable_elsewhere ((place entries name d.path ++ suffix_text New) ∷ [])) pending
+      flat_elsewhere (λ (d : PendingDigest). clearable ((place ways name d.path ++ suffix_text New) ∷ [])) (λ d. clearable_elsewhere ((place ways name d.path ++ suffix_text New) ∷ [])) pending
 
-  pub cleared_elsewhere : (lists : List PackageList) (r : Record) → AreElsewhere (cleared_names entries lists r)
+  pub cleared_elsewhere : (lists : List PackageList) (r : Record) → AreElsewhere (cleared_names ways lists r)
   cleared_elsewhere lists r = stopped_elsewhere r.name (entry_paths r.conffiles) (paths_of lists r.name)
 
-  pub purged_elsewhere : (lists : List PackageList) (r : Record) → AreElsewhere (purged_names entries lists r)
+  pub purged_elsewhere : (lists : List PackageList) (r : Record) → AreElsewhere (purged_names ways lists r)
   purged_elsewhere lists r =
-      flat_elsewhere (λ (e : ConffileEntry). side_names_at entries lists r.name (place entries r.name e.path))
-      (λ e. unless (has_other_owner entries lists r.name (place entries r.name e.path)) (ownerless entries lists r.name (side_names (place entries r.name e.path)))
-      (filter_elsewhere (λ q. not (has_other_owner entries lists r.name q)) (clearable (side_names (place entries r.name e.path))) (clearable_elsewhere (side_names (place entries r.name e.path))))) r.conffiles
+      flat_elsewhere (λ (e : ConffileEntry). side_names_at ways lists r.name (place ways r.name e.path))
+      (λ e. unless (has_other_owner ways lists r.name (place ways r.name e.path)) (ownerless ways lists r.name (side_names (place ways r.name e.path)))
+      (filter_elsewhere (λ q. not (has_other_owner ways lists r.name q)) (clearable (side_names (place ways r.name e.path))) (clearable_elsewhere (side_names (place ways r.name e.path))))) r.conffiles

@@ -7,7 +7,7 @@ use Rattle.host_core.specs.Paths.{Path}
 use Rattle.host_core.specs.declared.call.Call.{Call}
 use Rattle.host_core.specs.declared.call.Script.{Script}
 use Rattle.host_core.specs.declared.call.Script.TheVariants as script
-use Rattle.diversions.specs.declared.entry.Diversion.{Diversion}
+use Rattle.diversions.specs.Ways.{Ways}
 use Rattle.file_lists.specs.Owners.{paths_of}
 use Rattle.file_lists.specs.declared.paths.PackageList.{PackageList}
 use Rattle.status_records.specs.Records.{record_in}
@@ -83,26 +83,26 @@ module _ (name : List ℕ) (first : List Record) where
   IsFallen s o after =
       (left : Option Record) × ((left ≡ left_by_all (map deed s.parts.items) o) ⊎ (left ≡ left_by_all (map deed s.restore.items) (left_by_all (map deed s.parts.items) o))) × IsNow name first after.records left
 
-  fallen : (entries : List Diversion) (s : Stage) (owners : List Owner) (before after : Holding) (a b : State) (o : Option Record) → AreOwn name (map deed s.restore.items) → IsNow name first (parts_records name s.parts.items before.records) (left_by_all (map deed s.parts.items) o)
-      → HasRestored name entries owners s.restore.items (after_parts name s.parts.items before) after a b → IsFallen s o after
-  fallen entries s owners before after a b o own now (HasRestored.restored all does same) = (
+  fallen : (ways : Ways) (s : Stage) (owners : List Owner) (before after : Holding) (a b : State) (o : Option Record) → AreOwn name (map deed s.restore.items) → IsNow name first (parts_records name s.parts.items before.records) (left_by_all (map deed s.parts.items) o)
+      → HasRestored name ways owners s.restore.items (after_parts name s.parts.items before) after a b → IsFallen s o after
+  fallen ways s owners before after a b o own now (HasRestored.restored all does same) = (
     left_by_all (map deed s.restore.items) (left_by_all (map deed s.parts.items) o),
     inr refl,
     subst (λ (h : Holding). IsNow name first h.records (left_by_all (map deed s.restore.items) (left_by_all (map deed s.parts.items) o))) (sym same)
         (parts_leave s.restore.items (parts_records name s.parts.items before.records) (left_by_all (map deed s.parts.items) o) own now),
   )
-  fallen entries s owners before after a b o own now (HasRestored.left some stays same) =
+  fallen ways s owners before after a b o own now (HasRestored.left some stays same) =
       (left_by_all (map deed s.parts.items) o, inl refl, subst (λ (h : Holding). IsNow name first h.records (left_by_all (map deed s.parts.items) o)) (sym same) now)
 
-  pub run_ends : (entries : List Diversion) (stages : List Stage) (failed : Option Call) (before after : Holding) (s t : State) (told now : List Called) (o : Option Record) → AreOwnStages name (map planned stages) → IsNow name first before.records o
-      → HaveRun name entries stages failed before after s t told now → (left : Option Record) × EndsWith (map planned stages) failed o left × IsNow name first after.records left
-  run_ends entries [] failed before after s t told now o own is run =
+  pub run_ends : (ways : Ways) (stages : List Stage) (failed : Option Call) (before after : Holding) (s t : State) (told now : List Called) (o : Option Record) → AreOwnStages name (map planned stages) → IsNow name first before.records o
+      → HaveRun name ways stages failed before after s t told now → (left : Option Record) × EndsWith (map planned stages) failed o left × IsNow name first after.records left
+  run_ends ways [] failed before after s t told now o own is run =
       (o, (run.0, refl), subst (λ (h : Holding). IsNow name first h.records o) (sym run.1) is)
-  run_ends entries (stage ∷ stages) failed before after s t told now o own is (inl passed) =
-      let further = run_ends entries stages failed (after_parts name stage.parts.items before) after passed.mid t passed.more now (left_by_all (map deed stage.parts.items) o) own.1 (parts_leave stage.parts.items before.records o own.0.0 is) passed.further in
+  run_ends ways (stage ∷ stages) failed before after s t told now o own is (inl passed) =
+      let further = run_ends ways stages failed (after_parts name stage.parts.items before) after passed.mid t passed.more now (left_by_all (map deed stage.parts.items) o) own.1 (parts_leave stage.parts.items before.records o own.0.0 is) passed.further in
       (further.0, inl further.1, further.2)
-  run_ends entries (stage ∷ stages) failed before after s t told now o own is (inr fell) =
-      let left = fallen entries stage fell.fell.undo.owners before after fell.fell.undo.undone t o own.0.1 (parts_leave stage.parts.items before.records o own.0.0 is) fell.fell.undo.restored in
+  run_ends ways (stage ∷ stages) failed before after s t told now o own is (inr fell) =
+      let left = fallen ways stage fell.fell.undo.owners before after fell.fell.undo.undone t o own.0.1 (parts_leave stage.parts.items before.records o own.0.0 is) fell.fell.undo.restored in
       (left.0, inr record { call = fell.fell.call; answer = fell.fell.answer; forward = fell.fell.forward; left = left.1 }, left.2)
 
 -- which end that is
@@ -121,7 +121,7 @@ either : {X : Type 0} (x y : X) → (x ≡ y) ⊎ (x ≡ y) → x ≡ y
 either x y (inl is) = is
 either x y (inr is) = is
 
-module _ (entries : List Diversion) (lists : List PackageList) (stored : Stored) (r : Record) (to_come : List Path) where
+module _ (ways : Ways) (lists : List PackageList) (stored : Stored) (r : Record) (to_come : List Path) where
   -- what is left behind, where it is a purge exactly if that is the extent
   module _ (extent : Extent) (purge : Bool) (purges : purge ≡ true → extent ≡ Purge) (leaves : purge ≡ false → extent ≢ Purge) where
     abbrev Ends : Option Call → Option Record → Type 0
@@ -132,30 +132,30 @@ module _ (entries : List Diversion) (lists : List PackageList) (stored : Stored)
 
     -- of a purge, from this record of a removed package on
     purge_ends : (c : Record) (listed : List Path) (failed : Option Call) (before left : Option Record) → ((call : Call) → IsCallOf c script.Postrm (codes "purge") call → Ends (Some call) (Some (purged c)))
-        → EndsWith (purge_stages entries lists c stored listed) failed before left → Ends failed left
+        → EndsWith (purge_stages ways lists c stored listed) failed before left → Ends failed left
     purge_ends c listed failed before left so (inl (inl done)) = told_so failed None left None done.0 done.1 IsEndOf.gone
     purge_ends c listed failed before left so (inl (inr fell)) = quiet fell.call fell.forward
     purge_ends c listed failed before left so (inr fell) =
         told_so failed (Some fell.call) left (Some (purged c)) fell.answer (either left (Some (purged c)) fell.left) (so fell.call (made c.name script.Postrm stored.postrm (codes "purge") fell.call fell.forward))
 
-    behind_left : (p : Bool) → purge ≡ p → (failed : Option Call) (left : Option Record) → EndsWith (cond p (purge_stages entries lists (config_files r) stored to_come) []) failed (Some (config_files r)) left → Ends failed left
+    behind_left : (p : Bool) → purge ≡ p → (failed : Option Call) (left : Option Record) → EndsWith (cond p (purge_stages ways lists (config_files r) stored to_come) []) failed (Some (config_files r)) left → Ends failed left
     behind_left true is failed left ends = purge_ends (config_files r) to_come failed (Some (config_files r)) left (λ call of. IsEndOf.removed_alone call (purges is) of) ends
     behind_left false is failed left ends = told_so failed None left (Some (config_files r)) ends.0 ends.1 (IsEndOf.left (leaves is))
 
-    ends_end : (at_once : Bool) (failed : Option Call) (before left : Option Record) → EndsWith (cond at_once (gone_stage r ∷ []) (left_stage r ∷ cond purge (purge_stages entries lists (config_files r) stored to_come) [])) failed before left → Ends failed left
+    ends_end : (at_once : Bool) (failed : Option Call) (before left : Option Record) → EndsWith (cond at_once (gone_stage r ∷ []) (left_stage r ∷ cond purge (purge_stages ways lists (config_files r) stored to_come) [])) failed before left → Ends failed left
     ends_end true failed before left (inl done) = told_so failed None left None done.0 done.1 IsEndOf.gone
     ends_end true failed before left (inr fell) = quiet fell.call fell.forward
     ends_end false failed before left (inl further) = behind_left purge refl failed left further
     ends_end false failed before left (inr fell) = quiet fell.call fell.forward
 
-    files_end : (failed : Option Call) (before left : Option Record) → EndsWith (files_stages entries lists r stored purge to_come) failed before left → Ends failed left
+    files_end : (failed : Option Call) (before left : Option Record) → EndsWith (files_stages ways lists r stored purge to_come) failed before left → Ends failed left
     files_end failed before left (inl further) = ends_end (goes_at_once r stored) failed (Some (without_files r)) left further
     files_end failed before left (inr fell) =
         told_so failed (Some fell.call) left (Some (without_files r)) fell.answer (either left (Some (without_files r)) fell.left) (IsEndOf.not_left fell.call (made r.name script.Postrm stored.postrm (codes "remove") fell.call fell.forward))
 
     -- where the prerm is called, and a removed package is purged alone
     module _ (calls : extent ≢ InFavour) (begins : r.state ≡ state.ConfigFiles → extent ≡ Purge) where
-      prerm_end : (failed : Option Call) (before left : Option Record) → EndsWith (prerm_stage r stored ∷ files_stages entries lists r stored purge to_come) failed before left → Ends failed left
+      prerm_end : (failed : Option Call) (before left : Option Record) → EndsWith (prerm_stage r stored ∷ files_stages ways lists r stored purge to_come) failed before left → Ends failed left
       prerm_end failed before left (inl further) = files_end failed (Some (half_configured r)) left further
       prerm_end failed before left (inr fell) = by fell.left
         where
@@ -163,7 +163,7 @@ module _ (entries : List Diversion) (lists : List PackageList) (stored : Stored)
           by (inl is) = told_so failed (Some fell.call) left (Some (half_configured r)) fell.answer is (IsEndOf.not_undone fell.call calls (made r.name script.Prerm stored.prerm (codes "remove") fell.call fell.forward))
           by (inr is) = told_so failed (Some fell.call) left (Some r) fell.answer is (IsEndOf.undone fell.call calls (made r.name script.Prerm stored.prerm (codes "remove") fell.call fell.forward))
 
-      from_end : (s : PackageState) → r.state ≡ s → (failed : Option Call) (left : Option Record) → EndsWith (stages_from entries lists s r stored purge to_come) failed (Some r) left → Ends failed left
+      from_end : (s : PackageState) → r.state ≡ s → (failed : Option Call) (left : Option Record) → EndsWith (stages_from ways lists s r stored purge to_come) failed (Some r) left → Ends failed left
       from_end state.NotInstalled is failed left ends = files_end failed (Some r) left ends
       from_end state.ConfigFiles is failed left ends = purge_ends r (paths_of lists r.name) failed (Some r) left (λ call of. IsEndOf.not_purged call (begins is) of is) ends
       from_end state.HalfInstalled is failed left ends = files_end failed (Some r) left ends
@@ -171,28 +171,28 @@ module _ (entries : List Diversion) (lists : List PackageList) (stored : Stored)
       from_end state.HalfConfigured is failed left ends = prerm_end failed (Some r) left ends
       from_end state.Installed is failed left ends = prerm_end failed (Some r) left ends
 
-  removal_end : (extent : Extent) → BeginsFrom extent r.state → (failed : Option Call) (left : Option Record) → EndsWith (removal_stages entries lists extent r stored to_come) failed (Some r) left → IsEndOf r extent failed left
+  removal_end : (extent : Extent) → BeginsFrom extent r.state → (failed : Option Call) (left : Option Record) → EndsWith (removal_stages ways lists extent r stored to_come) failed (Some r) left → IsEndOf r extent failed left
   removal_end Remove begins failed left ends = from_end Remove false (λ e. absurd (true≢false (sym e))) (λ e is. cc) (λ is. cc) (λ is. absurd (begins is)) r.state refl failed left ends
   removal_end Purge begins failed left ends = from_end Purge true (λ e. refl) (λ e. absurd (true≢false e)) (λ is. cc) (λ is. refl) r.state refl failed left ends
   removal_end InFavour begins failed left ends = files_end InFavour false (λ e. absurd (true≢false (sym e))) (λ e is. cc) failed (Some r) left ends
 
   -- each note is of the package
   module _ (name : List ℕ) (own : r.name ≡ name) where
-    purges_own : (listed : List Path) (c : Record) → c.name ≡ name → AreOwnStages name (purge_stages entries lists c stored listed)
+    purges_own : (listed : List Path) (c : Record) → c.name ≡ name → AreOwnStages name (purge_stages ways lists c stored listed)
     purges_own listed c is = (((is, (tt, tt)), tt), (((tt, (tt, (tt, (tt, (tt, tt))))), tt), tt))
 
-    behind_own : (purge : Bool) → AreOwnStages name (cond purge (purge_stages entries lists (config_files r) stored to_come) [])
+    behind_own : (purge : Bool) → AreOwnStages name (cond purge (purge_stages ways lists (config_files r) stored to_come) [])
     behind_own true = purges_own to_come (config_files r) own
     behind_own false = tt
 
-    ends_own : (at_once purge : Bool) → AreOwnStages name (cond at_once (gone_stage r ∷ []) (left_stage r ∷ cond purge (purge_stages entries lists (config_files r) stored to_come) []))
+    ends_own : (at_once purge : Bool) → AreOwnStages name (cond at_once (gone_stage r ∷ []) (left_stage r ∷ cond purge (purge_stages ways lists (config_files r) stored to_come) []))
     ends_own true purge = (((tt, (tt, (tt, (tt, tt)))), tt), tt)
     ends_own false purge = (((tt, (own, tt)), tt), behind_own purge)
 
-    files_own : (purge : Bool) → AreOwnStages name (files_stages entries lists r stored purge to_come)
+    files_own : (purge : Bool) → AreOwnStages name (files_stages ways lists r stored purge to_come)
     files_own purge = (((own, (tt, (tt, (tt, (tt, (own, tt)))))), tt), ends_own (goes_at_once r stored) purge)
 
-    from_own : (s : PackageState) (purge : Bool) → AreOwnStages name (stages_from entries lists s r stored purge to_come)
+    from_own : (s : PackageState) (purge : Bool) → AreOwnStages name (stages_from ways lists s r stored purge to_come)
     from_own state.NotInstalled purge = files_own purge
     from_own state.ConfigFiles purge = purges_own (paths_of lists r.name) r own
     from_own state.HalfInstalled purge = files_own purge
@@ -200,16 +200,16 @@ module _ (entries : List Diversion) (lists : List PackageList) (stored : Stored)
     from_own state.HalfConfigured purge = (((own, tt), (own, tt)), files_own purge)
     from_own state.Installed purge = (((own, tt), (own, tt)), files_own purge)
 
-    removal_own : (extent : Extent) → AreOwnStages name (removal_stages entries lists extent r stored to_come)
+    removal_own : (extent : Extent) → AreOwnStages name (removal_stages ways lists extent r stored to_come)
     removal_own Remove = from_own r.state false
     removal_own Purge = from_own r.state true
     removal_own InFavour = files_own false
 
     -- the end of a whole run
-    pub has_ended : (extent : Extent) (stages : List Stage) → map planned stages ≡ removal_stages entries lists extent r stored to_come → BeginsFrom extent r.state → (failed : Option Call) (before after : Holding) (s t : State) (told now : List Called)
-        → record_in before.records name ≡ Some r → HaveRun name entries stages failed before after s t told now → HasEnded extent name failed before.records after.records
+    pub has_ended : (extent : Extent) (stages : List Stage) → map planned stages ≡ removal_stages ways lists extent r stored to_come → BeginsFrom extent r.state → (failed : Option Call) (before after : Holding) (s t : State) (told now : List Called)
+        → record_in before.records name ≡ Some r → HaveRun name ways stages failed before after s t told now → HasEnded extent name failed before.records after.records
     has_ended extent stages are begins failed before after s t told now found run =
-        let ends = run_ends name before.records entries stages failed before after s t told now (Some r) (subst (AreOwnStages name) (sym are) (removal_own extent)) (record { own = found; others = λ q other. refl }) run in
+        let ends = run_ends name before.records ways stages failed before after s t told now (Some r) (subst (AreOwnStages name) (sym are) (removal_own extent)) (record { own = found; others = λ q other. refl }) run in
         record {
           entry = r;
           found = found;

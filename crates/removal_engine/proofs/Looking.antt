@@ -12,7 +12,7 @@ use Rattle.host_core.proofs.Denials.{denied_later_reads}
 use Rattle.host_core.proofs.Moments.{since_reads, since_then, since_weaker_if, silent_then}
 use Rattle.host_core.specs.declared.call.Call.{Call}
 use Rattle.undo_rows.specs.Telling.{Begun}
-use Rattle.diversions.specs.declared.entry.Diversion.{Diversion}
+use Rattle.diversions.specs.Ways.{Ways}
 use Rattle.undo_rows.specs.declared.rows.Called.{Called}
 use Rattle.unit_stages.specs.Parts.{HaveDone}
 use Rattle.unit_stages.proofs.Denied.{parts_wider}
@@ -74,15 +74,15 @@ module _ (old mid : State) (reads : Reads old mid) (silent : Silent old mid) whe
         (parts_wider name (WasDenied mid ready) (WasDenied old ready) (λ p is. denied_later_reads old mid ready p reads is) parts h.records mid.world ready.world (does.done t));
   }
 
-  run_behind : (name : List ℕ) (entries : List Diversion) (first : Stage) (stages : List Stage) (failed : Option Call) (before after : Holding) (new : State) (told now : List Called) → HaveRun name entries (first ∷ stages) failed before after mid new told now
-      → HaveRun name entries (first ∷ stages) failed before after old new told now
-  run_behind name entries first stages failed before after new told now (inl passed) = inl record {
+  run_behind : (name : List ℕ) (ways : Ways) (first : Stage) (stages : List Stage) (failed : Option Call) (before after : Holding) (new : State) (told now : List Called) → HaveRun name ways (first ∷ stages) failed before after mid new told now
+      → HaveRun name ways (first ∷ stages) failed before after old new told now
+  run_behind name ways first stages failed before after new told now (inl passed) = inl record {
     mid = passed.mid;
     more = passed.more;
     passed = record { ready = passed.passed.ready; parts = does_behind name first.parts.items before passed.passed.ready passed.passed.parts; calls = passed.passed.calls };
     further = passed.further;
   }
-  run_behind name entries first stages failed before after new told now (inr fell) = inr record {
+  run_behind name ways first stages failed before after new told now (inr fell) = inr record {
     ready = fell.ready;
     parts = does_behind name first.parts.items before fell.ready fell.parts;
     fell = fell.fell;
@@ -123,14 +123,14 @@ module _ (old mid : State) (reads : Reads old mid) (silent : Silent old mid) whe
         };
       }
 
-      pub unit_moments : faults mid ≡ faults old → AtEachMomentOf (AreRunning g.name g.entries stages g.before) mid new → AtEachMomentOf (IsAmidUnit g) old new
+      pub unit_moments : faults mid ≡ faults old → AtEachMomentOf (AreRunning g.name g.ways stages g.before) mid new → AtEachMomentOf (IsAmidUnit g) old new
       unit_moments counts moments = since_then (IsAmidUnit g old.world) old mid new looking_moments
-          (since_weaker_if (AreRunning g.name g.entries stages g.before mid.world) (λ so_far. IsAmidUnit g old.world (looking_moments.added ++ so_far)) mid new
+          (since_weaker_if (AreRunning g.name g.ways stages g.before mid.world) (λ so_far. IsAmidUnit g old.world (looking_moments.added ++ so_far)) mid new
           (λ h so_far now is. inr record {
             stages = stages;
             plan = plan_true h;
-            running = subst (λ (es : List Event). AreRunning g.name g.entries stages g.before old.world (es ++ so_far) now) (sym nothing)
-                (subst (λ (w : World). AreRunning g.name g.entries stages g.before w so_far now) reads.world is);
+            running = subst (λ (es : List Event). AreRunning g.name g.ways stages g.before old.world (es ++ so_far) now) (sym nothing)
+                (subst (λ (w : World). AreRunning g.name g.ways stages g.before w so_far now) reads.world is);
           }) moments)
         where
           nothing : looking_moments.added ≡ []
@@ -143,17 +143,17 @@ module _ (old mid : State) (reads : Reads old mid) (silent : Silent old mid) whe
         called_by begun = HasCalled.planned stages plan_seen (begun_behind (MayRunStages stages) old mid new told now silent begun)
 
         -- of a plan that has a stage
-        removed_from : (ss : List Stage) → stages ≡ ss → (p : Planned) (ps : List Planned) → map planned ss ≡ p ∷ ps → (failed : Option Call) (after : Holding) → is_package_name g.name ≡ true → AreStagesFit g.name stages g.before.records g.before.lists → HaveRun g.name g.entries ss failed g.before after mid new told now → HasRemoved g failed after old new told now
+        removed_from : (ss : List Stage) → stages ≡ ss → (p : Planned) (ps : List Planned) → map planned ss ≡ p ∷ ps → (failed : Option Call) (after : Holding) → is_package_name g.name ≡ true → AreStagesFit g.name stages g.before.records g.before.lists → HaveRun g.name g.ways ss failed g.before after mid new told now → HasRemoved g failed after old new told now
         removed_from [] is p ps are failed after named fit run = absurd (nothing_planned p ps are)
         removed_from (first ∷ rest) is p ps are failed after named fit run = record {
           stages = stages;
           plan = plan_seen;
           named = named;
           fit = fit;
-          run = subst (λ (ss : List Stage). HaveRun g.name g.entries ss failed g.before after old new told now) (sym is) (run_behind g.name g.entries first rest failed g.before after new told now run);
+          run = subst (λ (ss : List Stage). HaveRun g.name g.ways ss failed g.before after old new told now) (sym is) (run_behind g.name g.ways first rest failed g.before after new told now run);
         }
 
-        pub removed_by : (failed : Option Call) (after : Holding) → is_package_name g.name ≡ true → AreStagesFit g.name stages g.before.records g.before.lists → HaveRun g.name g.entries stages failed g.before after mid new told now → HasRemoved g failed after old new told now
+        pub removed_by : (failed : Option Call) (after : Holding) → is_package_name g.name ≡ true → AreStagesFit g.name stages g.before.records g.before.lists → HaveRun g.name g.ways stages failed g.before after mid new told now → HasRemoved g failed after old new told now
         removed_by failed after named fit run =
-            let some = some_stage g.entries g.before.lists g.name plan.plan.stored plan.entry plan.plan.to_come g.extent in
+            let some = some_stage g.ways g.before.lists g.name plan.plan.stored plan.entry plan.plan.to_come g.extent in
             removed_from stages refl some.0 some.1 (plan.plan.are ∙ some.2) failed after named fit run

@@ -6,8 +6,7 @@ use Rattle.std.specs.Str.{bytes_eq}
 use Rattle.std.proofs.lemmas.Bool.{false≢true}
 use Rattle.host_core.specs.Paths.{Path}
 use Rattle.administration.specs.Places.{home_path, is_within}
-use Rattle.diversions.specs.Places.{place}
-use Rattle.diversions.specs.declared.entry.Diversion.{Diversion}
+use Rattle.diversions.specs.Ways.{is_led_to, place, Ways}
 use Rattle.file_lists.specs.Owners.{has_other_owner}
 use Rattle.file_lists.specs.declared.paths.PackageList.{PackageList}
 use Rattle.file_removal.specs.declared.leaving.Leaving.{Leaving}
@@ -31,15 +30,15 @@ third_fails false false false d goes = refl
 goes_is : (b : Bool) → IsTrue b → b ≡ true
 goes_is b is = is
 
-module _ (entries : List Diversion) (lists : List PackageList) (name : List ℕ) (to_come conffiles : List Path) where
-  one_spares : (path : Path) → IsTrue (leaving_at entries lists name to_come conffiles path).goes → is_within home_path (place entries name path) ≡ false
+module _ (ways : Ways) (lists : List PackageList) (name : List ℕ) (to_come conffiles : List Path) where
+  one_spares : (path : Path) → IsTrue (leaving_at ways lists name to_come conffiles path).goes → is_within home_path (place ways name path) ≡ false
   one_spares path goes =
-      let at = place entries name path in
-      third_fails (list_any (bytes_eq path) conffiles) (bytes_eq at []) (is_within home_path at) (is_place_of entries name to_come at || has_other_owner entries lists name at) (goes_is _ goes)
+      let at = place ways name path in
+      third_fails (list_any (bytes_eq path) conffiles) (is_led_to ways at) (is_within home_path at) (is_place_of ways name to_come at || has_other_owner ways lists name at) (goes_is _ goes)
 
-  pub leaving_spares : (listed : List Path) → SparesAdministration (leaving_of entries lists name to_come conffiles listed)
+  pub leaving_spares : (listed : List Path) → SparesAdministration (leaving_of ways lists name to_come conffiles listed)
   leaving_spares [] x has goes = absurd (none_in x has)
-  leaving_spares (path ∷ listed) x has goes = elim (first_or_later (leaving_at entries lists name to_come conffiles path) (leaving_of entries lists name to_come conffiles listed) x has) [
+  leaving_spares (path ∷ listed) x has goes = elim (first_or_later (leaving_at ways lists name to_come conffiles path) (leaving_of ways lists name to_come conffiles listed) x has) [
     | inl same ↦ ap (λ (y : Leaving). is_within home_path y.place) (sym same) ∙ one_spares path (ap (λ (y : Leaving). y.goes) same ∙ goes_is _ goes)
     | inr later ↦ leaving_spares listed x later goes
   ]

@@ -1,7 +1,7 @@
 -- What a package lists once its files are removed, and which of its paths go (Policy 6.8).
 use Rattle.std.specs.Prelude.{List, [], cond}
 use Rattle.host_core.specs.Paths.{Path}
-use Rattle.diversions.specs.declared.entry.Diversion.{Diversion}
+use Rattle.diversions.specs.Ways.{Ways}
 use Rattle.file_lists.specs.Owners.{AreListPaths, paths_of}
 use Rattle.file_lists.specs.declared.paths.PackageList.{PackageList}
 use Rattle.file_removal.specs.declared.leaving.Leaving.{Leaving}
@@ -21,9 +21,9 @@ pub record IsToCome (r : Record) (stored : Stored) (paths : List Path) : Type 0 
   pub are : IsWithParents (entry_paths (kept_entries r.conffiles)) (housed r stored) paths
 
 -- Of the listed paths those go that aren't in the list to come, but for conffiles.
-abbrev pub leaving_files : List Diversion → List PackageList → Record → (to_come : List Path) → List Leaving
-leaving_files entries lists r to_come = leaving_of entries lists r.name to_come (entry_paths r.conffiles) (paths_of lists r.name)
+abbrev pub leaving_files : Ways → List PackageList → Record → (to_come : List Path) → List Leaving
+leaving_files ways lists r to_come = leaving_of ways lists r.name to_come (entry_paths r.conffiles) (paths_of lists r.name)
 
 -- Behind a purge nothing is listed: each of these paths goes that isn't a conffile, nor another package's.
-abbrev pub leaving_directories : List Diversion → List PackageList → Record → (listed : List Path) → List Leaving
-leaving_directories entries lists r listed = leaving_of entries lists r.name [] (entry_paths r.conffiles) listed
+abbrev pub leaving_directories : Ways → List PackageList → Record → (listed : List Path) → List Leaving
+leaving_directories ways lists r listed = leaving_of ways lists r.name [] (entry_paths r.conffiles) listed

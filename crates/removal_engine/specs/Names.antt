@@ -5,8 +5,7 @@ use Rattle.std.specs.Str.{bytes_eq}
 use Rattle.host_core.specs.Paths.{Path, reserved_suffixes}
 use Rattle.host_core.specs.Suffixes.{suffix_text}
 use Rattle.host_core.specs.declared.suffix.Suffix.TheVariants.{New, Tmp, Inst}
-use Rattle.diversions.specs.Places.{place}
-use Rattle.diversions.specs.declared.entry.Diversion.{Diversion}
+use Rattle.diversions.specs.Ways.{place, Ways}
 use Rattle.file_lists.specs.Owners.{paths_of, has_other_owner}
 use Rattle.file_lists.specs.declared.paths.PackageList.{PackageList}
 use Rattle.list_changes.specs.Clearable.{clearable}
@@ -19,17 +18,17 @@ abbrev pub unpack_names : Path → List Path
 unpack_names at = (at ++ suffix_text Inst) ∷ (at ++ suffix_text Tmp) ∷ []
 
 -- the same of each listed path that isn't a conffile
-abbrev pub stopped_names : List Diversion → List ℕ → (conffiles listed : List Path) → List Path
-stopped_names entries name conffiles listed =
-    flat_map (λ path. cond (list_any (bytes_eq path) conffiles) [] (clearable (unpack_names (place entries name path)))) listed
+abbrev pub stopped_names : Ways → List ℕ → (conffiles listed : List Path) → List Path
+stopped_names ways name conffiles listed =
+    flat_map (λ path. cond (list_any (bytes_eq path) conffiles) [] (clearable (unpack_names (place ways name path)))) listed
 
 -- where conffiles wait to be settled: a removal clears these names before the paths, since one may be all that is left in a directory
-abbrev pub waiting_names : List Diversion → List ℕ → List PendingDigest → List Path
-waiting_names entries name pending = flat_map (λ d. clearable ((place entries name d.path ++ suffix_text New) ∷ [])) pending
+abbrev pub waiting_names : Ways → List ℕ → List PendingDigest → List Path
+waiting_names ways name pending = flat_map (λ d. clearable ((place ways name d.path ++ suffix_text New) ∷ [])) pending
 
 -- the names that a removal clears behind the paths
-abbrev pub cleared_names : List Diversion → List PackageList → Record → List Path
-cleared_names entries lists r = stopped_names entries r.name (entry_paths r.conffiles) (paths_of lists r.name)
+abbrev pub cleared_names : Ways → List PackageList → Record → List Path
+cleared_names ways lists r = stopped_names ways r.name (entry_paths r.conffiles) (paths_of lists r.name)
 
 -- a number sign in front of what stands behind the last slash
 abbrev pub signed : Path → Path
@@ -41,13 +40,13 @@ abbrev pub side_names : Path → List Path
 side_names x = x ∷ (x ++ codes "~") ∷ (x ++ codes "%") ∷ (signed x ++ codes "#") ∷ map (λ suffix. x ++ suffix) reserved_suffixes
 
 -- those of these names that can be cleared and are no place of another package's list
-abbrev pub ownerless : List Diversion → List PackageList → List ℕ → List Path → List Path
-ownerless entries lists name names = filter (λ q. not (has_other_owner entries lists name q)) (clearable names)
+abbrev pub ownerless : Ways → List PackageList → List ℕ → List Path → List Path
+ownerless ways lists name names = filter (λ q. not (has_other_owner ways lists name q)) (clearable names)
 
 -- the side names of one conffile: none where another list has its place
-abbrev pub side_names_at : List Diversion → List PackageList → List ℕ → (at : Path) → List Path
-side_names_at entries lists name at = cond (has_other_owner entries lists name at) [] (ownerless entries lists name (side_names at))
+abbrev pub side_names_at : Ways → List PackageList → List ℕ → (at : Path) → List Path
+side_names_at ways lists name at = cond (has_other_owner ways lists name at) [] (ownerless ways lists name (side_names at))
 
 -- the names that a purge clears
-abbrev pub purged_names : List Diversion → List PackageList → Record → List Path
-purged_names entries lists r = flat_map (λ e. side_names_at entries lists r.name (place entries r.name e.path)) r.conffiles
+abbrev pub purged_names : Ways → List PackageList → Record → List Path
+purged_names ways lists r = flat_map (λ e. side_names_at ways lists r.name (place ways r.name e.path)) r.conffiles

@@ -1,7 +1,7 @@
 -- The stages of a removal and of a purge (Policy 6.8).
 use Rattle.std.specs.Prelude.{Bool, true, false, cond, List, [], ◌∷◌, map}
 use Rattle.host_core.specs.Paths.{Path}
-use Rattle.diversions.specs.declared.entry.Diversion.{Diversion}
+use Rattle.diversions.specs.Ways.{Ways}
 use Rattle.conffiles.specs.declared.entries.Settled.{Settled}
 use Rattle.file_lists.specs.Owners.{paths_of}
 use Rattle.file_lists.specs.declared.paths.PackageList.{PackageList}
@@ -68,23 +68,23 @@ gone_stage r = stage_of (DropsMembers false ∷ Lists [] ∷ DropsList ∷ Forge
 abbrev pub left_stage : Record → Planned
 left_stage r = stage_of (DropsMembers true ∷ Notes (config_files r) ∷ []) (quiet_row r.name)
 
-module _ (entries : List Diversion) (lists : List PackageList) where
+module _ (ways : Ways) (lists : List PackageList) where
   -- what waits to be settled goes, then its files, and then postrm `remove` is called
   abbrev pub files_stage : Record → Stored → (to_come : List Path) → Planned
   files_stage r stored to_come = stage_of
       (
-      Notes (losing_files r) ∷ Clears (waiting_names entries r.name r.pending) ∷ Removes (leaving_files entries lists r to_come)
-      ∷ Clears (cleared_names entries lists r) ∷ Lists to_come ∷ Notes (without_files r) ∷ []
+      Notes (losing_files r) ∷ Clears (waiting_names ways r.name r.pending) ∷ Removes (leaving_files ways lists r to_come)
+      ∷ Clears (cleared_names ways lists r) ∷ Lists to_come ∷ Notes (without_files r) ∷ []
       )
       (postrm_row r.name stored)
 
   -- its conffiles go, and then postrm `purge` is called
   abbrev pub purge_stage : Record → Stored → Planned
-  purge_stage r stored = stage_of (Notes (purged r) ∷ Clears (purged_names entries lists r) ∷ []) (purge_row r.name stored)
+  purge_stage r stored = stage_of (Notes (purged r) ∷ Clears (purged_names ways lists r) ∷ []) (purge_row r.name stored)
 
   -- the directories that it lists go, and all that the administration has of it
   abbrev pub last_stage : Record → (listed : List Path) → Planned
-  last_stage r listed = stage_of (RemovesDirectories (leaving_directories entries lists r listed) ∷ Lists [] ∷ DropsList ∷ DropsMembers false ∷ Forgets ∷ []) (quiet_row r.name)
+  last_stage r listed = stage_of (RemovesDirectories (leaving_directories ways lists r listed) ∷ Lists [] ∷ DropsList ∷ DropsMembers false ∷ Forgets ∷ []) (quiet_row r.name)
 
   -- a purge of a package that is removed
   abbrev pub purge_stages : Record → Stored → (listed : List Path) → List Planned

@@ -10,7 +10,7 @@ use Rattle.host_core.specs.declared.call.Call.{Call}
 use Rattle.host_core.specs.declared.call.Script.{Script}
 use Rattle.host_core.specs.declared.call.Script.TheVariants as script
 use Rattle.undo_rows.specs.Telling.{Begun}
-use Rattle.diversions.specs.declared.entry.Diversion.{Diversion}
+use Rattle.diversions.specs.Ways.{Ways}
 use Rattle.file_lists.specs.declared.paths.PackageList.{PackageList}
 use Rattle.status_records.specs.Records.{record_in}
 use Rattle.status_records.specs.declared.record.Record.{Record}
@@ -38,28 +38,28 @@ pub record IsRemovable (extent : Extent) (records : List Record) (name : List �
   pub begins : BeginsFrom extent entry.state
 
 -- The stages for this record, by what stands in this world: which scripts are stored.
-pub record IsPlanFor (entries : List Diversion) (lists : List PackageList) (r : Record) (extent : Extent) (w : World) (honest : Bool) (stages : List Stage) : Type 0 where
+pub record IsPlanFor (ways : Ways) (lists : List PackageList) (r : Record) (extent : Extent) (w : World) (honest : Bool) (stages : List Stage) : Type 0 where
   pub stored : Stored
   pub seen : IsTrue honest → AreStored r.name w stored
   pub to_come : List Path
   pub comes : IsToCome r stored to_come
-  pub are : map as_planned stages ≡ removal_stages entries lists extent r stored to_come
+  pub are : map as_planned stages ≡ removal_stages ways lists extent r stored to_come
 
 -- what a unit is given: its extent, the name of its package, the diversions, and the records and lists that it finds
 pub record Given : Type 0 where
   pub extent : Extent
   pub name : List ℕ
-  pub entries : List Diversion
+  pub ways : Ways
   pub before : Holding
 
-abbrev pub given : Extent → List ℕ → List Diversion → Holding → Given
-given extent name entries before = record { extent = extent; name = name; entries = entries; before = before }
+abbrev pub given : Extent → List ℕ → Ways → Holding → Given
+given extent name ways before = record { extent = extent; name = name; ways = ways; before = before }
 
 -- the stages of the package's record
 pub record IsPlanOf (g : Given) (w : World) (honest : Bool) (stages : List Stage) : Type 0 where
   pub entry : Record
   pub found : record_in g.before.records g.name ≡ Some entry
-  pub plan : IsPlanFor g.entries g.before.lists entry g.extent w honest stages
+  pub plan : IsPlanFor g.ways g.before.lists entry g.extent w honest stages
 
 -- The whole unit: it is planned, and then the stages are run, each of which fits what those before it leave.
 pub record HasRemoved (g : Given) (failed : Option Call) (after : Holding) (old new : State) (told now : List Called) : Type 0 where
@@ -67,13 +67,13 @@ pub record HasRemoved (g : Given) (failed : Option Call) (after : Holding) (old 
   pub plan : IsPlanOf g old.world new.honest stages
   pub named : is_package_name g.name ≡ true
   pub fit : AreStagesFit g.name stages g.before.records g.before.lists
-  pub run : HaveRun g.name g.entries stages failed g.before after old new told now
+  pub run : HaveRun g.name g.ways stages failed g.before after old new told now
 
 -- at each moment of it
 pub record IsAmid (g : Given) (old : World) (so_far : List Event) (now : World) : Type 0 where
   pub stages : List Stage
   pub plan : IsPlanOf g old true stages
-  pub running : AreRunning g.name g.entries stages g.before old so_far now
+  pub running : AreRunning g.name g.ways stages g.before old so_far now
 
 -- the same, or it only looks yet
 abbrev pub IsAmidUnit : Given → World → List Event → World → Type 0

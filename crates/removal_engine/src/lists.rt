@@ -52,7 +52,7 @@ pub(crate) fn leaving_files(
 ) -> Result<Vec<Leaving>, AllocError>
     ensures leaving { IfOk result
         (λ leaving. leaving.items
-        ≡ leaving_files diversions.now.entries lists.now.lists entry.now to_come.now) }
+        ≡ leaving_files diversions.now.ways lists.now.lists entry.now to_come.now) }
     ensures spares { IfOk result (λ leaving. SparesAdministration leaving.items) }
 {
     let conffiles = conffile_paths(alloc, entry.conffiles.as_slice())?;
@@ -79,7 +79,7 @@ pub(crate) fn leaving_directories(
 ) -> Result<Vec<Leaving>, AllocError>
     ensures leaving { IfOk result
         (λ leaving. leaving.items
-        ≡ leaving_directories diversions.now.entries lists.now.lists entry.now listed.now) }
+        ≡ leaving_directories diversions.now.ways lists.now.lists entry.now listed.now) }
     ensures spares { IfOk result (λ leaving. SparesAdministration leaving.items) }
 {
     let conffiles = conffile_paths(alloc, entry.conffiles.as_slice())?;

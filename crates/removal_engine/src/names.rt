@@ -4,7 +4,7 @@ ghost use Rattle.std.specs.BTreeSet.{contains_text};
 ghost use Rattle.std.specs.List.{list_any};
 ghost use Rattle.std.specs.Str.{bytes_eq};
 ghost use Rattle.host_core.specs.Paths.{Path};
-ghost use Rattle.diversions.specs.Places.{place};
+ghost use Rattle.diversions.specs.Ways.{place};
 ghost use Rattle.list_changes.specs.Clearable.{clearable};
 ghost use Rattle.listed_files.specs.Concluding.{AreElsewhere};
 ghost use Rattle.removal_engine.specs.Names.{cleared_names, stopped_names, unpack_names, waiting_names};
@@ -73,7 +73,7 @@ fn push_stopped(
         (names.new.items
         ≡ names.old.items
         ++ cond (contains_text conffiles.now path.now) []
-        (clearable (unpack_names (place diversions.now.entries name.now path.now)))) }
+        (clearable (unpack_names (place diversions.now.ways name.now path.now)))) }
 {
     if conffiles.contains(path.as_str()) {
         return Ok(());
@@ -94,7 +94,7 @@ fn push_all_stopped(
     ensures { OnOk result
         (names.new.items
         ≡ names.old.items
-        ++ stopped_names diversions.now.entries name.now conffiles.now listed.now) }
+        ++ stopped_names diversions.now.ways name.now conffiles.now listed.now) }
 {
     let set = texts_of(alloc, conffiles)?;
     for path in listed {
@@ -113,10 +113,10 @@ fn push_waiting(
 ) -> Result<(), AllocError>
     ensures { OnOk result
         (names.new.items
-        ≡ names.old.items ++ waiting_names diversions.now.entries name.now pending.now) }
+        ≡ names.old.items ++ waiting_names diversions.now.ways name.now pending.now) }
 {
     for digest in pending {
-        let place = diversions.ship_place(name, &digest.path);
+        let place = diversions.ship_place(name, &digest.path)?;
         push_name(alloc, place.as_str(), Suffix::New.text(), names)?;
     }
     Ok(())
@@ -130,7 +130,7 @@ pub(crate) fn waiting_names(
 ) -> Result<Vec<RootPath>, AllocError>
     ensures names { IfOk result
         (λ names. names.items
-        ≡ waiting_names diversions.now.entries entry.now.name entry.now.pending) }
+        ≡ waiting_names diversions.now.ways entry.now.name entry.now.pending) }
     ensures elsewhere { IfOk result (λ names. AreElsewhere names.items) }
 {
     let mut names = Vec::new(alloc);
@@ -147,7 +147,7 @@ pub(crate) fn cleared_names(
     entry: &Record,
 ) -> Result<Vec<RootPath>, AllocError>
     ensures names { IfOk result
-        (λ names. names.items ≡ cleared_names diversions.now.entries lists.now.lists entry.now) }
+        (λ names. names.items ≡ cleared_names diversions.now.ways lists.now.lists entry.now) }
     ensures elsewhere { IfOk result (λ names. AreElsewhere names.items) }
 {
     let conffiles = conffile_paths(alloc, entry.conffiles.as_slice())?;

@@ -1,6 +1,6 @@
 // Names beside conffiles at which nothing is left behind a purge.
 ghost use Rattle.std.specs.Prelude.{◌≡◌, ◌≢◌, ◌<◌, ◌++◌, ◌∷◌, [], ℕ, map, IfOk, MatchOption, OnOk, length, get_or, string_bytes, codes};
-ghost use Rattle.diversions.specs.Places.{place};
+ghost use Rattle.diversions.specs.Ways.{place};
 ghost use Rattle.host_core.specs.Paths.{reserved_suffixes};
 ghost use Rattle.host_core.specs.Suffixes.{suffix_text};
 ghost use Rattle.listed_files.specs.Concluding.{AreElsewhere};
@@ -27,7 +27,7 @@ fn push_ownerless(
     ensures { OnOk result
         (names.new.items
         ≡ names.old.items
-        ++ ownerless diversions.now.entries lists.now.lists name.now
+        ++ ownerless diversions.now.ways lists.now.lists name.now
         ((at.now ++ ending.now) ∷ [])) }
 {
     let Some(beside) = clearable_name(alloc, at, ending)? else {
@@ -71,7 +71,7 @@ fn push_edited(
     ensures { OnOk result
         (names.new.items
         ≡ names.old.items
-        ++ ownerless diversions.now.entries lists.now.lists name.now
+        ++ ownerless diversions.now.ways lists.now.lists name.now
         (at.now ∷ (at.now ++ codes "~") ∷ (at.now ++ codes "%") ∷ (signed at.now ++ codes "#")
         ∷ [])) }
 {
@@ -96,7 +96,7 @@ fn push_suffixed(
     ensures { OnOk result
         (names.new.items
         ≡ names.old.items
-        ++ ownerless diversions.now.entries lists.now.lists name.now
+        ++ ownerless diversions.now.ways lists.now.lists name.now
         ((at.now ++ suffix_text suffix) ∷ [])) }
 {
     push_ownerless(alloc, lists, diversions, name, at, suffix.text(), names)
@@ -114,7 +114,7 @@ fn push_reserved(
     ensures { OnOk result
         (names.new.items
         ≡ names.old.items
-        ++ ownerless diversions.now.entries lists.now.lists name.now
+        ++ ownerless diversions.now.ways lists.now.lists name.now
         (map (λ suffix. at.now ++ suffix) reserved_suffixes)) }
 {
     push_suffixed(alloc, lists, diversions, name, at, Suffix::New, names)?;
@@ -137,10 +137,10 @@ fn push_side_names(
     ensures { OnOk result
         (names.new.items
         ≡ names.old.items
-        ++ side_names_at diversions.now.entries lists.now.lists name.now
-        (place diversions.now.entries name.now path.now)) }
+        ++ side_names_at diversions.now.ways lists.now.lists name.now
+        (place diversions.now.ways name.now path.now)) }
 {
-    let place = diversions.ship_place(name, path);
+    let place = diversions.ship_place(name, path)?;
     let at = place.at()?;
     let owned = lists.has_other_owner(alloc, diversions, name, &at)?;
     if owned {
@@ -160,7 +160,7 @@ pub(crate) fn purged_names(
     entry: &Record,
 ) -> Result<Vec<RootPath>, AllocError>
     ensures names { IfOk result
-        (λ names. names.items ≡ purged_names diversions.now.entries lists.now.lists entry.now) }
+        (λ names. names.items ≡ purged_names diversions.now.ways lists.now.lists entry.now) }
     ensures elsewhere { IfOk result (λ names. AreElsewhere names.items) }
 {
     let mut names = Vec::new(alloc);

@@ -83,7 +83,7 @@ fn files_stage(
     requires named { is_package_name entry.now.name ≡ true }
     ensures { IfOk result
         (λ s. planned s
-        ≡ files_stage diversions.now.entries lists.now.lists entry.now stored to_come.now) }
+        ≡ files_stage diversions.now.ways lists.now.lists entry.now stored to_come.now) }
 {
     let waiting = waiting_names(alloc, diversions, entry)?;
     let leaving = leaving_files(alloc, lists, diversions, entry, to_come)?;
@@ -134,7 +134,7 @@ fn purge_stage(
 ) -> Result<Stage, AllocError>
     requires named { is_package_name entry.now.name ≡ true }
     ensures { IfOk result
-        (λ s. planned s ≡ purge_stage diversions.now.entries lists.now.lists entry.now stored) }
+        (λ s. planned s ≡ purge_stage diversions.now.ways lists.now.lists entry.now stored) }
 {
     let names = purged_names(alloc, lists, diversions, entry)?;
     let mut parts = Vec::new(alloc);
@@ -153,7 +153,7 @@ fn last_stage(
     listed: &[RootPath],
 ) -> Result<Stage, AllocError>
     ensures { IfOk result
-        (λ s. planned s ≡ last_stage diversions.now.entries lists.now.lists entry.now listed.now) }
+        (λ s. planned s ≡ last_stage diversions.now.ways lists.now.lists entry.now listed.now) }
 {
     let leaving = leaving_directories(alloc, lists, diversions, entry, listed)?;
     let mut parts = Vec::new(alloc);
@@ -179,7 +179,7 @@ fn push_purge(
     ensures { OnOk result
         (map planned stages.new.items
         ≡ map planned stages.old.items
-        ++ purge_stages diversions.now.entries administration.now.lists.lists entry.now stored
+        ++ purge_stages diversions.now.ways administration.now.lists.lists entry.now stored
         listed.now) }
 {
     let alloc = administration.alloc;
@@ -203,7 +203,7 @@ fn push_end(
     ensures { OnOk result
         (map planned stages.new.items
         ≡ map planned stages.old.items
-        ++ end_stages diversions.now.entries administration.now.lists.lists entry.now stored purge
+        ++ end_stages diversions.now.ways administration.now.lists.lists entry.now stored purge
         to_come.now) }
 {
     let alloc = administration.alloc;
@@ -234,7 +234,7 @@ fn push_files(
     ensures { OnOk result
         (map planned stages.new.items
         ≡ map planned stages.old.items
-        ++ files_stages diversions.now.entries administration.now.lists.lists entry.now stored purge
+        ++ files_stages diversions.now.ways administration.now.lists.lists entry.now stored purge
         to_come.now) }
 {
     let alloc = administration.alloc;
@@ -266,7 +266,7 @@ fn push_from(
     ensures { OnOk result
         (map planned stages.new.items
         ≡ map planned stages.old.items
-        ++ stages_from diversions.now.entries administration.now.lists.lists entry.now.state
+        ++ stages_from diversions.now.ways administration.now.lists.lists entry.now.state
         entry.now stored purge to_come.now) }
 {
     match entry.state {
@@ -310,7 +310,7 @@ pub(crate) fn removal_stages(
     requires named { is_package_name entry.now.name ≡ true }
     ensures { IfOk result
         (λ stages. map planned stages.items
-        ≡ removal_stages diversions.now.entries administration.now.lists.lists extent entry.now
+        ≡ removal_stages diversions.now.ways administration.now.lists.lists extent entry.now
         stored to_come.now) }
 {
     let purge = extent.is_purge();

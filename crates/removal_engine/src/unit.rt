@@ -31,7 +31,7 @@ fn plan<H: Host>(
 ) -> Result<Vec<Stage>, HostFault>
     requires named { is_package_name entry.now.name ≡ true }
     ensures planned { IfOk result
-        (λ stages. IsPlanFor diversions.now.entries administration.now.lists.lists
+        (λ stages. IsPlanFor diversions.now.ways administration.now.lists.lists
         entry.now extent (H.state host.old).world (H.state host.new).honest stages.items) }
     ensures reads { Reads (H.state host.old) (H.state host.new) }
     ensures silent { Silent (H.state host.old) (H.state host.new) }
@@ -59,13 +59,13 @@ pub fn remove<H: Host>(
     extent: Extent,
     told: &mut Vec<Called>,
 ) -> Result<Option<Call>, HostFault>
-    requires open { IsOpen diversions.now.entries administration.old }
+    requires open { IsOpen diversions.now.ways administration.old }
     requires removable { IsRemovable extent administration.old.database.records name.now }
     requires order { Needs (H.state host.old)
         (IsInOrder administration.old.database administration.old.lists.lists) }
     ensures unit { IfOk result
         (λ failed. HasRemoved
-        (given extent name.now diversions.now.entries (holding_of administration.old)) failed
+        (given extent name.now diversions.now.ways (holding_of administration.old)) failed
         (holding_of administration.new) (H.state host.old) (H.state host.new)
         told.old.items told.new.items) }
     ensures end { IfOk result
@@ -74,18 +74,18 @@ pub fn remove<H: Host>(
     ensures order { IfOk result
         (λ failed. Needs (H.state host.new)
         (IsInOrder administration.new.database administration.new.lists.lists)) }
-    ensures open { OnOk result (IsOpen diversions.now.entries administration.new) }
+    ensures open { OnOk result (IsOpen diversions.now.ways administration.new) }
     ensures told { HasCalled
-        (given extent name.now diversions.now.entries (holding_of administration.old))
+        (given extent name.now diversions.now.ways (holding_of administration.old))
         (H.state host.old) (H.state host.new) told.old.items told.new.items }
     ensures any_moment { AtEachMomentOf
-        (IsAmidUnit (given extent name.now diversions.now.entries (holding_of administration.old)))
+        (IsAmidUnit (given extent name.now diversions.now.ways (holding_of administration.old)))
         (H.state host.old) (H.state host.new) }
     ensures apart { WorksApart result is_record_place (H.state host.old) (H.state host.new) }
     ensures counts { Counts (H.state host.old) (H.state host.new) result }
 {
     let alloc = administration.alloc;
-    administration.lists.index(alloc)?;
+    administration.lists.index(alloc, diversions)?;
     let entry = administration.database.get(name).unwrap();
     match plan(host, administration, diversions, entry, extent) {
         Ok(stages) => run_stages(host, administration, diversions, name, stages, told),

@@ -16,7 +16,7 @@ use Rattle.undo_rows.specs.declared.rows.Owner.{Owner}
 use Rattle.undo_rows.specs.declared.rows.Row.{Row}
 use Rattle.undo_rows.specs.Telling.{Made}
 use Rattle.undo_rows.proofs.Tellings.{made_between, made_none, made_then, made_weaker}
-use Rattle.diversions.specs.declared.entry.Diversion.{Diversion}
+use Rattle.diversions.specs.Ways.{Ways}
 use Rattle.unit_stages.specs.declared.part.Part.{Part}
 use Rattle.unit_stages.specs.Calls.{AreCallsOf, Fails}
 use Rattle.unit_stages.specs.Ends.{IsLeftBy}
@@ -53,33 +53,33 @@ pub follow_finished : (ts : List Ran) (w : World) → follow_all (finished ts) w
 follow_finished [] w = refl
 follow_finished (t ∷ ts) w = follow_finished ts (changed t.change w) ∙ sym (changed-append t.change (changes_of (finished ts)) w)
 
-module _ (name : List ℕ) (entries : List Diversion) where
-  restored_silent : (owners : List Owner) (restore : List Part) (before after : Holding) (s t : State) → HasRestored name entries owners restore before after s t → Silent s t
+module _ (name : List ℕ) (ways : Ways) where
+  restored_silent : (owners : List Owner) (restore : List Part) (before after : Holding) (s t : State) → HasRestored name ways owners restore before after s t → Silent s t
   restored_silent owners restore before after s t (HasRestored.restored none does is) = does.silent
   restored_silent owners restore before after s t (HasRestored.left some same is) = subst (Silent s) (sym same) (nothing_done s)
 
-  restored_later : (owners : List Owner) (restore : List Part) (before after : Holding) (s t : State) → HasRestored name entries owners restore before after s t → IsLater s t
+  restored_later : (owners : List Owner) (restore : List Part) (before after : Holding) (s t : State) → HasRestored name ways owners restore before after s t → IsLater s t
   restored_later owners restore before after s t (HasRestored.restored none does is) = does.later
   restored_later owners restore before after s t (HasRestored.left some same is) = subst (IsLater s) (sym same) (later_same s)
 
   -- the calls of a stage
 
-  passed_made : (stage : Stage) (h : Holding) (s t : State) (told now : List Called) → HasPassed name entries stage h s t told now → Made (λ ts. Tries stage.row ts true) s t told now
+  passed_made : (stage : Stage) (h : Holding) (s t : State) (told now : List Called) → HasPassed name ways stage h s t told now → Made (λ ts. Tries stage.row ts true) s t told now
   passed_made stage h s t told now passed =
-      made_between (λ ts. Tries stage.row ts true) (kept_by entries (after_parts name stage.parts.items h)) s passed.ready t t told now passed.parts.silent passed.calls (nothing_done t)
+      made_between (λ ts. Tries stage.row ts true) (kept_by ways (after_parts name stage.parts.items h)) s passed.ready t t told now passed.parts.silent passed.calls (nothing_done t)
 
-  undone_made : (row : Row) (restore : List Part) (before after : Holding) (s t : State) (told now : List Called) → HasUndone name entries row restore before after s t told now → Made (UndoesAny row []) s t told now
+  undone_made : (row : Row) (restore : List Part) (before after : Holding) (s t : State) (told now : List Called) → HasUndone name ways row restore before after s t told now → Made (UndoesAny row []) s t told now
   undone_made row restore before after s t told now undone =
       made_weaker (λ ts. UndoesRow row [] ts undone.owners) (UndoesAny row []) s t told now (λ ts is. (undone.owners, is))
-      (made_between (λ ts. UndoesRow row [] ts undone.owners) (kept_by entries before) s s undone.undone t told now (nothing_done s) undone.undo
+      (made_between (λ ts. UndoesRow row [] ts undone.owners) (kept_by ways before) s s undone.undone t told now (nothing_done s) undone.undo
       (restored_silent undone.owners restore before after undone.undone t undone.restored))
 
   fallen_made : (row : Row) (restore : List Part) (failed : Option Call) (before after : Holding) (s t : State) (told now : List Called)
-      → HasFallen name entries row restore failed before after s t told now → Made (Fails row failed) s t told now
+      → HasFallen name ways row restore failed before after s t told now → Made (Fails row failed) s t told now
   fallen_made row restore failed before after s t told now fell =
       made_then (λ ts. Tries row ts false) (Fails row failed) (λ past ts. UndoesAny row [] ts) s fell.tried t told fell.so_far now
       (λ x y p q. record { call = fell.call; answer = fell.answer; forward = fell.forward; own = x; back = y; are = refl; tries = p; undoes = q })
-      (made_between (λ ts. Tries row ts false) (kept_by entries before) s s fell.tried fell.tried told fell.so_far (nothing_done s) fell.calls (nothing_done fell.tried))
+      (made_between (λ ts. Tries row ts false) (kept_by ways before) s s fell.tried fell.tried told fell.so_far (nothing_done s) fell.calls (nothing_done fell.tried))
       (undone_made row restore before after fell.tried t fell.so_far now fell.undo)
 
   behind_made : (P : List Ran → Type 0) (a b c : State) (told now : List Called) → Silent a b → Made P b c told now → Made P a c told now
@@ -92,7 +92,7 @@ module _ (name : List ℕ) (entries : List Diversion) where
   }
 
   -- the calls of a run
-  pub run_made : (stages : List Stage) (failed : Option Call) (before after : Holding) (s t : State) (told now : List Called) → HaveRun name entries stages failed before after s t told now → Made (AreCallsOf stages failed) s t told now
+  pub run_made : (stages : List Stage) (failed : Option Call) (before after : Holding) (s t : State) (told now : List Called) → HaveRun name ways stages failed before after s t told now → Made (AreCallsOf stages failed) s t told now
   run_made [] failed before after s t told now run =
       subst (λ x. Made (AreCallsOf [] failed) s x told now) (sym run.2)
       (subst (λ x. Made (AreCallsOf [] failed) s s told x) (sym run.3) (made_none (AreCallsOf [] failed) s s told (run.0, refl) (nothing_done s)))
@@ -108,11 +108,11 @@ module _ (name : List ℕ) (entries : List Diversion) where
 
   -- a run is later
 
-  pub undone_later : (row : Row) (restore : List Part) (before after : Holding) (s t : State) (told now : List Called) → HasUndone name entries row restore before after s t told now → IsLater s t
+  pub undone_later : (row : Row) (restore : List Part) (before after : Holding) (s t : State) (told now : List Called) → HasUndone name ways row restore before after s t told now → IsLater s t
   undone_later row restore before after s t told now undone =
       later_then s undone.undone t (calls_later _ undone.undo.0 s undone.undone undone.undo.1) (restored_later undone.owners restore before after undone.undone t undone.restored)
 
-  pub run_later : (stages : List Stage) (failed : Option Call) (before after : Holding) (s t : State) (told now : List Called) → HaveRun name entries stages failed before after s t told now → IsLater s t
+  pub run_later : (stages : List Stage) (failed : Option Call) (before after : Holding) (s t : State) (told now : List Called) → HaveRun name ways stages failed before after s t told now → IsLater s t
   run_later [] failed before after s t told now run = subst (IsLater s) (sym run.2) (later_same s)
   run_later (stage ∷ stages) failed before after s t told now (inl passed) =
       let one = passed.passed in
@@ -127,11 +127,11 @@ module _ (name : List ℕ) (entries : List Diversion) where
 
   -- the records and lists that it leaves
 
-  restored_left : (owners : List Owner) (restore : List Part) (before after : Holding) (s t : State) → HasRestored name entries owners restore before after s t → (after ≡ before) ⊎ (after ≡ after_parts name restore before)
+  restored_left : (owners : List Owner) (restore : List Part) (before after : Holding) (s t : State) → HasRestored name ways owners restore before after s t → (after ≡ before) ⊎ (after ≡ after_parts name restore before)
   restored_left owners restore before after s t (HasRestored.restored none does is) = inr is
   restored_left owners restore before after s t (HasRestored.left some same is) = inl is
 
-  pub run_left : (stages : List Stage) (failed : Option Call) (before after : Holding) (s t : State) (told now : List Called) → HaveRun name entries stages failed before after s t told now → IsLeftBy name stages failed before after
+  pub run_left : (stages : List Stage) (failed : Option Call) (before after : Holding) (s t : State) (told now : List Called) → HaveRun name ways stages failed before after s t told now → IsLeftBy name stages failed before after
   run_left [] None before after s t told now run = run.1
   run_left [] (Some call) before after s t told now run = absurd (none_some call (sym run.0))
   run_left (stage ∷ stages) None before after s t told now (inl passed) = run_left stages None (after_parts name stage.parts.items before) after passed.mid t passed.more now passed.further
@@ -159,11 +159,11 @@ module _ (name : List ℕ) (entries : List Diversion) where
 
   -- a run behind stages that passed
   pub run_on : (front back : List Stage) (failed : Option Call) (before mid after : Holding) (s m t : State) (told more now : List Called)
-      → HaveRun name entries front None before mid s m told more → HaveRun name entries back failed mid after m t more now → HaveRun name entries (front ++ back) failed before after s t told now
+      → HaveRun name ways front None before mid s m told more → HaveRun name ways back failed mid after m t more now → HaveRun name ways (front ++ back) failed before after s t told now
   run_on [] back failed before mid after s m t told more now first second =
-      subst (λ x. HaveRun name entries back failed before after s t x now) first.3
-      (subst (λ x. HaveRun name entries back failed before after x t more now) first.2
-      (subst (λ x. HaveRun name entries back failed x after m t more now) first.1 second))
+      subst (λ x. HaveRun name ways back failed before after s t x now) first.3
+      (subst (λ x. HaveRun name ways back failed before after x t more now) first.2
+      (subst (λ x. HaveRun name ways back failed x after m t more now) first.1 second))
   run_on (stage ∷ front) back failed before mid after s m t told more now (inl passed) second = inl (record {
     mid = passed.mid;
     more = passed.more;
@@ -174,7 +174,7 @@ module _ (name : List ℕ) (entries : List Diversion) where
 
   -- behind a stage that failed none is run
   pub run_ended : (front back : List Stage) (call : Call) (before after : Holding) (s t : State) (told now : List Called)
-      → HaveRun name entries front (Some call) before after s t told now → HaveRun name entries (front ++ back) (Some call) before after s t told now
+      → HaveRun name ways front (Some call) before after s t told now → HaveRun name ways (front ++ back) (Some call) before after s t told now
   run_ended [] back call before after s t told now run = absurd (none_some call (sym run.0))
   run_ended (stage ∷ front) back call before after s t told now (inl passed) = inl (record {
     mid = passed.mid;
@@ -186,8 +186,8 @@ module _ (name : List ℕ) (entries : List Diversion) where
 
   -- stages that passed, as the events and the worlds show it
 
-  passed_past : (stage : Stage) (h : Holding) (s t : State) (told now : List Called) (passed : HasPassed name entries stage h s t told now) → IsTrue t.honest
-      → IsPast name entries stage h s.world (passed.parts.later.added ++ finished passed.calls.0) t.world
+  passed_past : (stage : Stage) (h : Holding) (s t : State) (told now : List Called) (passed : HasPassed name ways stage h s t told now) → IsTrue t.honest
+      → IsPast name ways stage h s.world (passed.parts.later.added ++ finished passed.calls.0) t.world
   passed_past stage h s t told now passed honest =
       let made = passed.calls.1 in
       let ts = passed.calls.0 in
@@ -203,8 +203,8 @@ module _ (name : List ℕ) (entries : List Diversion) where
         passes = subst (λ l. Tries stage.row l true) (sym (calls_of-finished ts)) passed.calls.2.0;
       }
 
-  pub run_past : (stages : List Stage) (before after : Holding) (s t : State) (told now : List Called) → HaveRun name entries stages None before after s t told now → IsTrue t.honest
-      → (added : List Event) × (t.events ≡ s.events ++ added) × ArePast name entries stages before s.world added t.world
+  pub run_past : (stages : List Stage) (before after : Holding) (s t : State) (told now : List Called) → HaveRun name ways stages None before after s t told now → IsTrue t.honest
+      → (added : List Event) × (t.events ≡ s.events ++ added) × ArePast name ways stages before s.world added t.world
   run_past [] before after s t told now run honest = ([], ap (λ x. x.events) run.2 ∙ sym (append-nil s.events), (refl, ap (λ x. x.world) run.2))
   run_past (stage ∷ stages) before after s t told now (inl passed) honest =
       let one = passed.passed in
@@ -221,25 +221,25 @@ module _ (name : List ℕ) (entries : List Diversion) where
   run_past (stage ∷ stages) before after s t told now (inr failing) honest = absurd (none_some failing.fell.call failing.fell.answer)
 
   -- a call that failed and its undo
-  pub fell_by : (row : Row) (restore : List Part) (before after : Holding) (s tried t : State) (told so_far now : List Called) → Makes (kept_by entries before) (λ ts. Tries row ts false) s tried told so_far
-      → HasUndone name entries row restore before after tried t so_far now → HasCalled name entries row restore row.forward before after s t told now
+  pub fell_by : (row : Row) (restore : List Part) (before after : Holding) (s tried t : State) (told so_far now : List Called) → Makes (kept_by ways before) (λ ts. Tries row ts false) s tried told so_far
+      → HasUndone name ways row restore before after tried t so_far now → HasCalled name ways row restore row.forward before after s t told now
   fell_by row restore before after s tried t told so_far now calls undone =
       let call = failed_call row calls.0 calls.2.0 in
       HasCalled.fell (record { call = call.0; answer = call.1; forward = call.1; tried = tried; so_far = so_far; calls = calls; undo = undone })
 
   -- a stage by its parts and its calls
   pub stage_ran : (stage : Stage) (failed : Option Call) (before mid after : Holding) (s ready t : State) (told now : List Called) → mid ≡ after_parts name stage.parts.items before
-      → DoesParts name stage.parts.items before s ready → HasCalled name entries stage.row stage.restore.items failed mid after ready t told now → HaveRun name entries (stage ∷ []) failed before after s t told now
+      → DoesParts name stage.parts.items before s ready → HasCalled name ways stage.row stage.restore.items failed mid after ready t told now → HaveRun name ways (stage ∷ []) failed before after s t told now
   stage_ran stage failed before mid after s ready t told now is parts (HasCalled.succeeded none same calls) = inl (record {
     mid = t;
     more = now;
-    passed = record { ready = ready; parts = parts; calls = subst (λ h. Makes (kept_by entries h) (λ ts. Tries stage.row ts true) ready t told now) is calls };
+    passed = record { ready = ready; parts = parts; calls = subst (λ h. Makes (kept_by ways h) (λ ts. Tries stage.row ts true) ready t told now) is calls };
     further = (none, same ∙ is, refl, refl);
   })
   stage_ran stage failed before mid after s ready t told now is parts (HasCalled.fell fell) = inr (record {
     ready = ready;
     parts = parts;
-    fell = subst (λ h. HasFallen name entries stage.row stage.restore.items failed h after ready t told now) is fell;
+    fell = subst (λ h. HasFallen name ways stage.row stage.restore.items failed h after ready t told now) is fell;
   })
 
 -- of an answer one thing holds, and so another

@@ -7,7 +7,7 @@ use Rattle.host_core.specs.Events.{Event}
 use Rattle.host_core.specs.Host.{State, Needs, Since, AtEachMomentOf}
 use Rattle.host_core.proofs.Moments.{since_then, since_weaker_if}
 use Rattle.undo_rows.specs.declared.rows.Called.{Called}
-use Rattle.diversions.specs.declared.entry.Diversion.{Diversion}
+use Rattle.diversions.specs.Ways.{Ways}
 use Rattle.file_lists.specs.Filed.{Filed}
 use Rattle.status_db.specs.Recorded.{Recorded}
 use Rattle.unit_stages.specs.PartFitting.{AreSettleable, HaveNoSettle}
@@ -42,17 +42,17 @@ module _ (back : List Stage) (stage : Stage) (old now : World) where
   stage_settled (x ∷ front) all = (settles_nothing front back stage all.2).restore
 
 -- before the first stage nothing was done
-pub unmoved : (name : List ℕ) (entries : List Diversion) (stages : List Stage) (before mid : Holding) (a b : State) (told more : List Called) → HaveRun name entries stages None before mid a b told more → stages ≡ [] → b.world ≡ a.world
-unmoved name entries stages before mid a b told more ran none = ap (λ s. s.world) (subst (λ (l : List Stage). HaveRun name entries l None before mid a b told more) none ran).2
+pub unmoved : (name : List ℕ) (ways : Ways) (stages : List Stage) (before mid : Holding) (a b : State) (told more : List Called) → HaveRun name ways stages None before mid a b told more → stages ≡ [] → b.world ≡ a.world
+unmoved name ways stages before mid a b told more ran none = ap (λ s. s.world) (subst (λ (l : List Stage). HaveRun name ways l None before mid a b told more) none ran).2
 
 -- events are added to some in one way
 cancel : (a b c : List Event) → a ++ b ≡ a ++ c → b ≡ c
 cancel [] b c e = e
 cancel (x ∷ a) b c e = cancel a b c (cc)
 
-module _ (name : List ℕ) (entries : List Diversion) (stages : List Stage) (h : Holding) where
+module _ (name : List ℕ) (ways : Ways) (stages : List Stage) (h : Holding) where
   -- before the first stage
-  pub run_starts : (d : Recorded) (f : Filed) (a : State) → h ≡ holding d f → Needs a (IsInOrder d f.lists) → AtEachMomentOf (AreRunning name entries stages h) a a
+  pub run_starts : (d : Recorded) (f : Filed) (a : State) → h ≡ holding d f → Needs a (IsInOrder d f.lists) → AtEachMomentOf (AreRunning name ways stages h) a a
   run_starts d f a is order = record {
     added = [];
     events = sym (append-nil a.events);
@@ -75,13 +75,13 @@ module _ (name : List ℕ) (entries : List Diversion) (stages : List Stage) (h :
 
   -- a stage behind those that passed
   module _ (front back : List Stage) (stage : Stage) (are : stages ≡ front ++ stage ∷ back) (mid : Holding) (a b c : State) (told more : List Called)
-      (ran : HaveRun name entries front None h mid a b told more) where
-    reached : (since : Since (AreRunning name entries stages h a.world) a b) → IsTrue b.honest → ArePast name entries front h a.world since.added b.world
+      (ran : HaveRun name ways front None h mid a b told more) where
+    reached : (since : Since (AreRunning name ways stages h a.world) a b) → IsTrue b.honest → ArePast name ways front h a.world since.added b.world
     reached since honest =
-        let past = run_past name entries front h mid a b told more ran honest in
-        subst (λ es. ArePast name entries front h a.world es b.world) (cancel a.events past.0 since.added (sym past.1 ∙ since.events)) past.2
+        let past = run_past name ways front h mid a b told more ran honest in
+        subst (λ es. ArePast name ways front h a.world es b.world) (cancel a.events past.0 since.added (sym past.1 ∙ since.events)) past.2
 
-    within : (since : Since (AreRunning name entries stages h a.world) a b) → IsTrue b.honest → (so_far : List Event) (now : World) → IsAmidStage name entries stage mid b.world so_far now → AreRunning name entries stages h a.world (since.added ++ so_far) now
+    within : (since : Since (AreRunning name ways stages h a.world) a b) → IsTrue b.honest → (so_far : List Event) (now : World) → IsAmidStage name ways stage mid b.world so_far now → AreRunning name ways stages h a.world (since.added ++ so_far) now
     within since honest so_far now amid = record {
       front = front;
       back = stage ∷ back;
@@ -92,12 +92,12 @@ module _ (name : List ℕ) (entries : List Diversion) (stages : List Stage) (h :
       reached = b.world;
       past = reached since honest;
       table = amid.0;
-      next = IsInNext.inside stage back refl (subst (λ g. IsInStage name entries stage g b.world so_far now amid.0) (run_left name entries front None h mid a b told more ran) amid.1);
+      next = IsInNext.inside stage back refl (subst (λ g. IsInStage name ways stage g b.world so_far now amid.0) (run_left name ways front None h mid a b told more ran) amid.1);
       opens = amid.2;
     }
 
-    pub run_goes_on : AtEachMomentOf (AreRunning name entries stages h) a b → AtEachMomentOf (IsAmidStage name entries stage mid) b c → AtEachMomentOf (AreRunning name entries stages h) a c
+    pub run_goes_on : AtEachMomentOf (AreRunning name ways stages h) a b → AtEachMomentOf (IsAmidStage name ways stage mid) b c → AtEachMomentOf (AreRunning name ways stages h) a c
     run_goes_on first second =
-        since_then (AreRunning name entries stages h a.world) a b c first
-        (since_weaker_if (IsAmidStage name entries stage mid b.world) (λ so_far. AreRunning name entries stages h a.world (first.added ++ so_far)) b c
+        since_then (AreRunning name ways stages h a.world) a b c first
+        (since_weaker_if (IsAmidStage name ways stage mid b.world) (λ so_far. AreRunning name ways stages h a.world (first.added ++ so_far)) b c
         (λ honest so_far w amid. within first (second.honest honest) so_far w amid) second)

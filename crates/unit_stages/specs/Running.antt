@@ -4,7 +4,7 @@ use Rattle.host_core.specs.World.{World}
 use Rattle.host_core.specs.Events.{Event, IsDeniedIn, calls_of, scripts_of}
 use Rattle.host_core.specs.Host.{OnlyScripts}
 use Rattle.undo_rows.specs.Transcript.{Tries}
-use Rattle.diversions.specs.declared.entry.Diversion.{Diversion}
+use Rattle.diversions.specs.Ways.{Ways}
 use Rattle.file_lists.specs.Info.{AreLoose}
 use Rattle.status_db.specs.Held.{CanOpenRecords, HasRecords}
 use Rattle.status_records.specs.declared.record.Record.{Record}
@@ -28,12 +28,12 @@ pub record IsNotedBy (name : List ℕ) (parts : List Part) (rs table : List Reco
   pub are : parts ≡ front ++ back
   pub table_is : table ≡ parts_records name front rs
 
-module _ (name : List ℕ) (entries : List Diversion) where
+module _ (name : List ℕ) (ways : Ways) where
   -- How far the calls of a stage are, and which records stand then: they are made, and leave alone what is kept; or they were made, and
   -- what is done where its call failed is under way.
   pub data IsCalling (restore : List Part) (h : Holding) (old : World) (so_far : List Event) (now : World) (table : List Record) : Type 0 where
-    calling : OnlyScripts (kept_by entries h) old so_far now → table ≡ h.records → IsCalling restore h old so_far now table
-    restoring : (calls after : List Event) (called : World) → so_far ≡ calls ++ after → OnlyScripts (kept_by entries h) old calls called → scripts_of after ≡ []
+    calling : OnlyScripts (kept_by ways h) old so_far now → table ≡ h.records → IsCalling restore h old so_far now table
+    restoring : (calls after : List Event) (called : World) → so_far ≡ calls ++ after → OnlyScripts (kept_by ways h) old calls called → scripts_of after ≡ []
         → AreAmid name restore h.records called after now → IsNotedBy name restore h.records table → IsCalling restore h old so_far now table
 
   -- How far a stage is: its parts are under way, or they are done and its calls are.
@@ -58,7 +58,7 @@ module _ (name : List ℕ) (entries : List Diversion) where
     pub quiet : scripts_of before ≡ []
     pub ready : World
     pub done : HaveDone name (IsDeniedIn before) stage.parts.items h.records old ready
-    pub scripts : OnlyScripts (kept_by entries (after_parts name stage.parts.items h)) ready calls now
+    pub scripts : OnlyScripts (kept_by ways (after_parts name stage.parts.items h)) ready calls now
     pub passes : Tries stage.row (calls_of calls) true
 
   -- A stage is past, and then this.

@@ -9,7 +9,7 @@ use Rattle.undo_rows.specs.Transcript.{Makes, Tries, UndoesRow}
 use Rattle.undo_rows.specs.declared.rows.Called.{Called}
 use Rattle.undo_rows.specs.declared.rows.Owner.{Owner}
 use Rattle.undo_rows.specs.declared.rows.Row.{Row}
-use Rattle.diversions.specs.declared.entry.Diversion.{Diversion}
+use Rattle.diversions.specs.Ways.{Ways}
 use Rattle.file_lists.specs.Owners.{places_in}
 use Rattle.unit_stages.specs.Parts.{HaveDone}
 use Rattle.unit_stages.specs.declared.part.Part.{Part}
@@ -23,10 +23,10 @@ pub record DoesParts (name : List ℕ) (parts : List Part) (h : Holding) (s t : 
   pub done : IsTrue t.honest → HaveDone name (WasDenied s t) parts h.records s.world t.world
 
 -- what scripts leave alone while these lists stand
-abbrev pub kept_by : List Diversion → Holding → Path → Bool
-kept_by entries h = is_kept (places_in entries h.lists)
+abbrev pub kept_by : Ways → Holding → Path → Bool
+kept_by ways h = is_kept (places_in ways h.lists)
 
-module _ (name : List ℕ) (entries : List Diversion) where
+module _ (name : List ℕ) (ways : Ways) where
   -- Where no undo call failed, what was to be done then is done; else nothing is.
   pub data HasRestored (owners : List Owner) (restore : List Part) (before after : Holding) (s t : State) : Type 0 where
     restored : owners ≡ [] → DoesParts name restore before s t → after ≡ after_parts name restore before → HasRestored owners restore before after s t
@@ -36,7 +36,7 @@ module _ (name : List ℕ) (entries : List Diversion) where
   pub record HasUndone (row : Row) (restore : List Part) (before after : Holding) (s t : State) (told now : List Called) : Type 0 where
     pub owners : List Owner
     pub undone : State
-    pub undo : Makes (kept_by entries before) (λ ts. UndoesRow row [] ts owners) s undone told now
+    pub undo : Makes (kept_by ways before) (λ ts. UndoesRow row [] ts owners) s undone told now
     pub restored : HasRestored owners restore before after undone t
 
   -- The call of a row failed, and its undo was called.
@@ -46,19 +46,19 @@ module _ (name : List ℕ) (entries : List Diversion) where
     pub forward : row.forward ≡ Some call
     pub tried : State
     pub so_far : List Called
-    pub calls : Makes (kept_by entries before) (λ ts. Tries row ts false) s tried told so_far
+    pub calls : Makes (kept_by ways before) (λ ts. Tries row ts false) s tried told so_far
     pub undo : HasUndone row restore before after tried t so_far now
 
   -- The call of a row succeeded, or it has none; or it failed.
   pub data HasCalled (row : Row) (restore : List Part) (failed : Option Call) (before after : Holding) (s t : State) (told now : List Called) : Type 0 where
-    succeeded : failed ≡ None → after ≡ before → Makes (kept_by entries before) (λ ts. Tries row ts true) s t told now → HasCalled row restore failed before after s t told now
+    succeeded : failed ≡ None → after ≡ before → Makes (kept_by ways before) (λ ts. Tries row ts true) s t told now → HasCalled row restore failed before after s t told now
     fell : HasFallen row restore failed before after s t told now → HasCalled row restore failed before after s t told now
 
   -- The parts of a stage were done, and then its call succeeded, or it has none.
   pub record HasPassed (stage : Stage) (h : Holding) (s t : State) (told now : List Called) : Type 0 where
     pub ready : State
     pub parts : DoesParts name stage.parts.items h s ready
-    pub calls : Makes (kept_by entries (after_parts name stage.parts.items h)) (λ ts. Tries stage.row ts true) ready t told now
+    pub calls : Makes (kept_by ways (after_parts name stage.parts.items h)) (λ ts. Tries stage.row ts true) ready t told now
 
   -- The parts of a stage were done, and then its call failed.
   pub record HasFailed (stage : Stage) (failed : Option Call) (before after : Holding) (s t : State) (told now : List Called) : Type 0 where

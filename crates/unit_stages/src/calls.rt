@@ -81,7 +81,7 @@ fn undo_stage<H: Host>(
     restore: Vec<Part>,
     told: &mut Vec<Called>,
 ) -> Result<(), HostFault>
-    requires open { IsOpen diversions.now.entries administration.old }
+    requires open { IsOpen diversions.now.ways administration.old }
     requires named { is_package_name name.now ≡ true }
     requires fit { AreFit name.now restore.items
         administration.old.database.records administration.old.lists.lists }
@@ -89,17 +89,17 @@ fn undo_stage<H: Host>(
     requires order { Needs (H.state host.old)
         (IsInOrder administration.old.database administration.old.lists.lists) }
     ensures undone { OnOk result
-        (HasUndone name.now diversions.now.entries row.now restore.items
+        (HasUndone name.now diversions.now.ways row.now restore.items
         (holding_of administration.old) (holding_of administration.new)
         (H.state host.old) (H.state host.new) told.old.items told.new.items) }
     ensures order { OnOk result
         (Needs (H.state host.new)
         (IsInOrder administration.new.database administration.new.lists.lists)) }
-    ensures open { OnOk result (IsOpen diversions.now.entries administration.new) }
+    ensures open { OnOk result (IsOpen diversions.now.ways administration.new) }
     ensures told { Begun (UndoesAny row.now []) (H.state host.old) (H.state host.new)
         told.old.items told.new.items }
     ensures any_moment { AtEachMomentOf
-        (AreCalled name.now diversions.now.entries restore.items (holding_of administration.old))
+        (AreCalled name.now diversions.now.ways restore.items (holding_of administration.old))
         (H.state host.old) (H.state host.new) }
     ensures apart { WorksApart result is_record_place (H.state host.old) (H.state host.new) }
     ensures counts { Counts (H.state host.old) (H.state host.new) result }
@@ -122,7 +122,7 @@ pub(crate) fn call_stage<H: Host>(
     restore: Vec<Part>,
     told: &mut Vec<Called>,
 ) -> Result<Option<Call>, HostFault>
-    requires open { IsOpen diversions.now.entries administration.old }
+    requires open { IsOpen diversions.now.ways administration.old }
     requires named { is_package_name name.now ≡ true }
     requires fit { AreFit name.now restore.items
         administration.old.database.records administration.old.lists.lists }
@@ -130,17 +130,17 @@ pub(crate) fn call_stage<H: Host>(
     requires order { Needs (H.state host.old)
         (IsInOrder administration.old.database administration.old.lists.lists) }
     ensures called { IfOk result
-        (λ failed. HasCalled name.now diversions.now.entries row restore.items failed
+        (λ failed. HasCalled name.now diversions.now.ways row restore.items failed
         (holding_of administration.old) (holding_of administration.new)
         (H.state host.old) (H.state host.new) told.old.items told.new.items) }
     ensures order { OnOk result
         (Needs (H.state host.new)
         (IsInOrder administration.new.database administration.new.lists.lists)) }
-    ensures open { OnOk result (IsOpen diversions.now.entries administration.new) }
+    ensures open { OnOk result (IsOpen diversions.now.ways administration.new) }
     ensures told { Begun (MayCallRow row) (H.state host.old) (H.state host.new)
         told.old.items told.new.items }
     ensures any_moment { AtEachMomentOf
-        (AreCalled name.now diversions.now.entries restore.items (holding_of administration.old))
+        (AreCalled name.now diversions.now.ways restore.items (holding_of administration.old))
         (H.state host.old) (H.state host.new) }
     ensures apart { WorksApart result is_record_place (H.state host.old) (H.state host.new) }
     ensures counts { Counts (H.state host.old) (H.state host.new) result }

@@ -9,7 +9,7 @@ ghost use Rattle.host_core.specs.declared.call.Call.{Call as ACall};
 ghost use Rattle.undo_rows.specs.Transcript.{Tells};
 ghost use Rattle.undo_rows.specs.declared.rows.Called.{Called as ACalled};
 ghost use Rattle.undo_rows.specs.Telling.{Begun, Made};
-ghost use Rattle.diversions.specs.declared.entry.Diversion.{Diversion as ADiversion};
+ghost use Rattle.diversions.specs.Ways.{Ways};
 ghost use Rattle.unit_stages.specs.Aside.{IsAside};
 ghost use Rattle.unit_stages.specs.Calls.{AreCallsOf, MayRunStages};
 ghost use Rattle.unit_stages.specs.Ends.{IsLeftBy};
@@ -23,23 +23,23 @@ ghost use Rattle.unit_stages.specs.declared.stage.Stage.{Stage as AStage};
 /// the one that failed, with what was done then. Its calls are those that are legal for the stages, each was told, and the host's own
 /// list of calls has grown by them.
 pub fn what_a_run_of_stages_leaves()
-    ensures left { (name : List ℕ) (entries : List ADiversion) (stages : List AStage)
+    ensures left { (name : List ℕ) (ways : Ways) (stages : List AStage)
         (failed : Option ACall) (before after : Holding) (s t : State) (told now : List ACalled)
-        → HaveRun name entries stages failed before after s t told now
+        → HaveRun name ways stages failed before after s t told now
         → IsLeftBy name stages failed before after }
-    ensures made { (name : List ℕ) (entries : List ADiversion) (stages : List AStage)
+    ensures made { (name : List ℕ) (ways : Ways) (stages : List AStage)
         (failed : Option ACall) (before after : Holding) (s t : State) (told now : List ACalled)
-        → HaveRun name entries stages failed before after s t told now
+        → HaveRun name ways stages failed before after s t told now
         → Made (AreCallsOf stages failed) s t told now }
-    ensures calls { (name : List ℕ) (entries : List ADiversion) (stages : List AStage)
+    ensures calls { (name : List ℕ) (ways : Ways) (stages : List AStage)
         (failed : Option ACall) (before after : Holding) (s t : State) (told now : List ACalled)
-        → HaveRun name entries stages failed before after s t told now
+        → HaveRun name ways stages failed before after s t told now
         → (ts : List Ran)
         × (calls t ≡ calls s ++ ts)
         × (AreCallsOf stages failed ts × Tells ts told now) }
-    ensures later { (name : List ℕ) (entries : List ADiversion) (stages : List AStage)
+    ensures later { (name : List ℕ) (ways : Ways) (stages : List AStage)
         (failed : Option ACall) (before after : Holding) (s t : State) (told now : List ACalled)
-        → HaveRun name entries stages failed before after s t told now
+        → HaveRun name ways stages failed before after s t told now
         → IsLater s t }
 {}
 
@@ -55,20 +55,20 @@ pub fn what_is_broken_off_begins_a_run_of_stages()
 /// In the end and at each moment of stages that fit, a place of the program's own is as before, unless it is a record's or the
 /// package's.
 pub fn what_stages_leave()
-    ensures run { (name : Path) (entries : List ADiversion) (stages : List AStage)
+    ensures run { (name : Path) (ways : Ways) (stages : List AStage)
         (failed : Option ACall) (before after : Holding) (s t : State) (told now : List ACalled)
         (q : Path)
         → IsAside name q
         → is_own q ≡ true
         → AreStagesFit name stages before.records before.lists
-        → HaveRun name entries stages failed before after s t told now
+        → HaveRun name ways stages failed before after s t told now
         → IsTrue t.honest
         → t.world q ≡ s.world q }
-    ensures running { (name : Path) (entries : List ADiversion) (stages : List AStage) (h : Holding)
+    ensures running { (name : Path) (ways : Ways) (stages : List AStage) (h : Holding)
         (old now : World) (so_far : List Event) (q : Path)
         → IsAside name q
         → is_own q ≡ true
         → AreStagesFit name stages h.records h.lists
-        → AreRunning name entries stages h old so_far now
+        → AreRunning name ways stages h old so_far now
         → now q ≡ old q }
 {}

@@ -48,10 +48,10 @@ fn keep_places(
     name: &Text,
     written: bool,
 ) -> Result<(), AllocError>
-    requires had { HadPlaces diversions.now.entries name.now lists.now.lists places.old }
+    requires had { HadPlaces diversions.now.ways name.now lists.now.lists places.old }
     requires unwritten { written ≡ false
-        → places.old ≡ places_in diversions.now.entries lists.now.lists }
-    ensures { OnOk result (places.new ≡ places_in diversions.now.entries lists.now.lists) }
+        → places.old ≡ places_in diversions.now.ways lists.now.lists }
+    ensures { OnOk result (places.new ≡ places_in diversions.now.ways lists.now.lists) }
 {
     if !written {
         return Ok(());
@@ -68,7 +68,7 @@ pub(crate) fn do_and_keep<H: Host>(
     name: &Text,
     parts: Vec<Part>,
 ) -> Result<(), HostFault>
-    requires open { IsOpen diversions.now.entries administration.old }
+    requires open { IsOpen diversions.now.ways administration.old }
     requires named { is_package_name name.now ≡ true }
     requires fit { AreFit name.now parts.items
         administration.old.database.records administration.old.lists.lists }
@@ -78,7 +78,7 @@ pub(crate) fn do_and_keep<H: Host>(
     ensures left { OnOk result
         (holding_of administration.new
         ≡ after_parts name.now parts.items (holding_of administration.old)) }
-    ensures open { OnOk result (IsOpen diversions.now.entries administration.new) }
+    ensures open { OnOk result (IsOpen diversions.now.ways administration.new) }
     ensures done { OnOk result
         (DoesParts name.now parts.items (holding_of administration.old)
         (H.state host.old) (H.state host.new)) }

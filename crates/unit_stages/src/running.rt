@@ -32,7 +32,7 @@ fn run_stage<H: Host>(
     stage: Stage,
     told: &mut Vec<Called>,
 ) -> Result<Option<Call>, HostFault>
-    requires open { IsOpen diversions.now.entries administration.old }
+    requires open { IsOpen diversions.now.ways administration.old }
     requires named { is_package_name name.now ≡ true }
     requires fit { IsStageFit name.now stage
         administration.old.database.records administration.old.lists.lists }
@@ -41,17 +41,17 @@ fn run_stage<H: Host>(
     requires settleable { Needs (H.state host.old) (AreSettleable stage.parts.items) }
     requires settled { Needs (H.state host.old) (λ w. HaveNoSettle stage.restore.items) }
     ensures ran { IfOk result
-        (λ failed. HaveRun name.now diversions.now.entries (stage ∷ []) failed
+        (λ failed. HaveRun name.now diversions.now.ways (stage ∷ []) failed
         (holding_of administration.old) (holding_of administration.new)
         (H.state host.old) (H.state host.new) told.old.items told.new.items) }
     ensures order { OnOk result
         (Needs (H.state host.new)
         (IsInOrder administration.new.database administration.new.lists.lists)) }
-    ensures open { OnOk result (IsOpen diversions.now.entries administration.new) }
+    ensures open { OnOk result (IsOpen diversions.now.ways administration.new) }
     ensures told { Begun (MayRunStages (stage ∷ [])) (H.state host.old) (H.state host.new)
         told.old.items told.new.items }
     ensures any_moment { AtEachMomentOf
-        (IsAmidStage name.now diversions.now.entries stage (holding_of administration.old))
+        (IsAmidStage name.now diversions.now.ways stage (holding_of administration.old))
         (H.state host.old) (H.state host.new) }
     ensures apart { WorksApart result is_record_place (H.state host.old) (H.state host.new) }
     ensures counts { Counts (H.state host.old) (H.state host.new) result }
@@ -77,7 +77,7 @@ pub fn run_stages<H: Host>(
     stages: Vec<Stage>,
     told: &mut Vec<Called>,
 ) -> Result<Option<Call>, HostFault>
-    requires open { IsOpen diversions.now.entries administration.old }
+    requires open { IsOpen diversions.now.ways administration.old }
     requires named { is_package_name name.now ≡ true }
     requires fit { AreStagesFit name.now stages.items
         administration.old.database.records administration.old.lists.lists }
@@ -85,17 +85,17 @@ pub fn run_stages<H: Host>(
         (IsInOrder administration.old.database administration.old.lists.lists) }
     requires settleable { Needs (H.state host.old) (AreStagesSettleable stages.items) }
     ensures ran { IfOk result
-        (λ failed. HaveRun name.now diversions.now.entries stages.items failed
+        (λ failed. HaveRun name.now diversions.now.ways stages.items failed
         (holding_of administration.old) (holding_of administration.new)
         (H.state host.old) (H.state host.new) told.old.items told.new.items) }
     ensures order { IfOk result
         (λ failed. Needs (H.state host.new)
         (IsInOrder administration.new.database administration.new.lists.lists)) }
-    ensures open { OnOk result (IsOpen diversions.now.entries administration.new) }
+    ensures open { OnOk result (IsOpen diversions.now.ways administration.new) }
     ensures told { Begun (MayRunStages stages.items) (H.state host.old) (H.state host.new)
         told.old.items told.new.items }
     ensures any_moment { AtEachMomentOf
-        (AreRunning name.now diversions.now.entries stages.items (holding_of administration.old))
+        (AreRunning name.now diversions.now.ways stages.items (holding_of administration.old))
         (H.state host.old) (H.state host.new) }
     ensures apart { WorksApart result is_record_place (H.state host.old) (H.state host.new) }
     ensures counts { Counts (H.state host.old) (H.state host.new) result }

@@ -10,7 +10,7 @@ use Rattle.administration.specs.Places.{home_path, is_within, list_name, list_pa
 use Rattle.administration.proofs.Within.{below_within}
 use Rattle.control_members.specs.Stored.{AreStored, stored_member_path}
 use Rattle.control_members.proofs.Apart.{no_list_temporary}
-use Rattle.diversions.specs.declared.entry.Diversion.{Diversion}
+use Rattle.diversions.specs.Ways.{Ways}
 use Rattle.file_lists.specs.declared.paths.PackageList.{PackageList}
 use Rattle.file_lists.specs.Taking.{IsNoList, left_file}
 use Rattle.file_lists.specs.Writing.{list_file}
@@ -45,15 +45,15 @@ fewer test (x ∷ xs) any = by (test x) refl any (fewer test xs) (not_more (λ y
     by true e all later less = omega (arith, less)
     by false e all later less = let l = later all in omega (arith, l)
 
-pub losing_differs : (entries : List Diversion) (places : List Path) (r : Record) → loses_conffile entries places r ≡ true → without_conffiles entries places r ≢ r
-losing_differs entries places r loses e = elim (or_cases (list_any (λ x. is_at entries places r.name x.path) r.conffiles) (list_any (λ p. is_at entries places r.name p.path) r.pending) loses) [
+pub losing_differs : (ways : Ways) (places : List Path) (r : Record) → loses_conffile ways places r ≡ true → without_conffiles ways places r ≢ r
+losing_differs ways places r loses e = elim (or_cases (list_any (λ x. is_at ways places r.name x.path) r.conffiles) (list_any (λ p. is_at ways places r.name p.path) r.pending) loses) [
   | inl some ↦
-      let less = fewer (λ x. is_at entries places r.name x.path) r.conffiles some in
-      let same : length (filter (λ x. not (is_at entries places r.name x.path)) r.conffiles) ≡ length r.conffiles = ap (λ (x : Record). length x.conffiles) e in
+      let less = fewer (λ x. is_at ways places r.name x.path) r.conffiles some in
+      let same : length (filter (λ x. not (is_at ways places r.name x.path)) r.conffiles) ≡ length r.conffiles = ap (λ (x : Record). length x.conffiles) e in
       absurd (omega (arith, less, same))
   | inr some ↦
-      let less = fewer (λ p. is_at entries places r.name p.path) r.pending some in
-      let same : length (filter (λ p. not (is_at entries places r.name p.path)) r.pending) ≡ length r.pending = ap (λ (x : Record). length x.pending) e in
+      let less = fewer (λ p. is_at ways places r.name p.path) r.pending some in
+      let same : length (filter (λ p. not (is_at ways places r.name p.path)) r.pending) ≡ length r.pending = ap (λ (x : Record). length x.pending) e in
       absurd (omega (arith, less, same))
 ]
 
@@ -74,7 +74,7 @@ member_within owner name = below_within home_path (codes "info/" ++ (owner ++ 46
 first_of_names : (x : Path) (xs : List Path) → Contains (x ∷ xs) x
 first_of_names x xs = (0, omega arith, refl)
 
-module _ (c : Changes) (entries : List Diversion) (lists : List PackageList) (old : World) where
+module _ (c : Changes) (ways : Ways) (lists : List PackageList) (old : World) where
   -- all of it is as before, but what it may change
 
   unrenewed : (q : Path) → IsUntouched c q → is_renewed_place c.leaving (list_path c.name) q ≡ false
@@ -85,39 +85,39 @@ module _ (c : Changes) (entries : List Diversion) (lists : List PackageList) (ol
   no_loser : (q : Path) → IsUntouched c q → IsNoList c.losers q
   no_loser q un name has = un.unlisted name (Contains-append_right (c.name ∷ []) c.losers name has)
 
-  pub committed_keeps : (after : List Record) (new : World) (q : Path) → HasCommitted c entries lists after old new → IsUntouched c q → new q ≡ old q
+  pub committed_keeps : (after : List Record) (new : World) (q : Path) → HasCommitted c ways lists after old new → IsUntouched c q → new q ≡ old q
   committed_keeps after new q has un =
       has.noted.rest q un.unnoted
-      ∙ released_keeps entries c.places c.losers (renewed_lists c entries lists) c.names has.stored has.released q has.release (no_loser q un) un.uncleared
+      ∙ released_keeps ways c.places c.losers (renewed_lists c ways lists) c.names has.stored has.released q has.release (no_loser q un) un.uncleared
       ∙ has.replaced.rest q un.no_member
       ∙ renewed_keeps c.leaving (list_path c.name) (list_file c.listed) old has.renewed has.renewal q (unrenewed q un)
 
-  pub committing_keeps : (records before : List Record) (now : World) (q : Path) → MayCommit c entries lists records before old now → IsUntouched c q → now q ≡ old q
+  pub committing_keeps : (records before : List Record) (now : World) (q : Path) → MayCommit c ways lists records before old now → IsUntouched c q → now q ≡ old q
   committing_keeps records before now q (MayCommit.renewing may has opens) un = renewing_keeps c.leaving (list_path c.name) (list_file c.listed) old now may q (unrenewed q un)
   committing_keeps records before now q (MayCommit.replacing renewed stale first is has opens) un =
       is.rest q un.no_member ∙ renewed_keeps c.leaving (list_path c.name) (list_file c.listed) old renewed first q (unrenewed q un)
   committing_keeps records before now q (MayCommit.releasing renewed stored stale first second whole may has opens) un =
-      releasing_keeps entries c.places c.losers (renewed_lists c entries lists) c.names stored now q may (no_loser q un) un.uncleared
+      releasing_keeps ways c.places c.losers (renewed_lists c ways lists) c.names stored now q may (no_loser q un) un.uncleared
       ∙ second.rest q un.no_member
       ∙ renewed_keeps c.leaving (list_path c.name) (list_file c.listed) old renewed first q (unrenewed q un)
   committing_keeps records before now q (MayCommit.noting renewed stored released stale first second whole third is) un =
       is.rest q un.unnoted
-      ∙ released_keeps entries c.places c.losers (renewed_lists c entries lists) c.names stored released q third (no_loser q un) un.uncleared
+      ∙ released_keeps ways c.places c.losers (renewed_lists c ways lists) c.names stored released q third (no_loser q un) un.uncleared
       ∙ second.rest q un.no_member
       ∙ renewed_keeps c.leaving (list_path c.name) (list_file c.listed) old renewed first q (unrenewed q un)
 
   -- lists and control files
 
-  module _ (after : List Record) (new : World) (elsewhere : AreElsewhere c.names) (has : HasCommitted c entries lists after old new) where
+  module _ (after : List Record) (new : World) (elsewhere : AreElsewhere c.names) (has : HasCommitted c ways lists after old new) where
     unreleased : (name : Path) → (Contains c.losers name → ⊥) → new (list_path name) ≡ has.stored (list_path name)
     unreleased name none =
         has.noted.rest (list_path name) refl
-        ∙ released_keeps entries c.places c.losers (renewed_lists c entries lists) c.names has.stored has.released (list_path name) has.release (no_other c.losers name none) (elsewhere (list_path name) (list_within name))
+        ∙ released_keeps ways c.places c.losers (renewed_lists c ways lists) c.names has.stored has.released (list_path name) has.release (no_other c.losers name none) (elsewhere (list_path name) (list_within name))
 
     pub own_list : (Contains c.losers c.name → ⊥) → new (list_path c.name) ≡ Some (list_file c.listed)
     own_list none = unreleased c.name none ∙ has.replaced.rest (list_path c.name) (list_is_no_member c.name c.name) ∙ has.renewal.replaced.target
 
-    pub loser_list : (name : Path) → Contains c.losers name → new (list_path name) ≡ Some (left_file entries c.places (renewed_lists c entries lists) name)
+    pub loser_list : (name : Path) → Contains c.losers name → new (list_path name) ≡ Some (left_file ways c.places (renewed_lists c ways lists) name)
     loser_list name there =
         has.noted.rest (list_path name) refl
         ∙ has.release.cleared.each (list_path name)
@@ -133,6 +133,6 @@ module _ (c : Changes) (entries : List Diversion) (lists : List PackageList) (ol
     pub members_stored : AreStored c.name c.members new
     members_stored name member =
         has.noted.rest (stored_member_path c.name name) refl
-        ∙ released_keeps entries c.places c.losers (renewed_lists c entries lists) c.names has.stored has.released (stored_member_path c.name name) has.release
+        ∙ released_keeps ways c.places c.losers (renewed_lists c ways lists) c.names has.stored has.released (stored_member_path c.name name) has.release
         (λ loser there. member_is_no_list c.name name loser member) (elsewhere (stored_member_path c.name name) (member_within c.name name))
         ∙ has.whole name member

@@ -16,7 +16,7 @@ use Rattle.control_members.specs.Stored.{AreReplaced, AreReplacing, IsSpare, is_
 use Rattle.control_members.specs.declared.member.Member.{Member}
 use Rattle.control_members.proofs.Lookup.{loose_at}
 use Rattle.control_members.proofs.Writing.{spare_free}
-use Rattle.diversions.specs.declared.entry.Diversion.{Diversion}
+use Rattle.diversions.specs.Ways.{Ways}
 use Rattle.file_lists.specs.declared.paths.PackageList.{PackageList}
 use Rattle.file_lists.specs.Info.{AreLoose}
 use Rattle.file_lists.specs.Owners.{paths_of}
@@ -112,36 +112,36 @@ module _ (q : Path) where
         (no_directory_at (old (temporary (stored_member_path owner name))) (old q) (ap old (sym e)) none) (is.spares name member)) d,
   ))) d)
 
-  module _ (entries : List Diversion) (places from : List Path) (had : List PackageList) (old : World) where
-    left_loose : (now : World) (name : Path) → q ≡ list_path name → now (list_path name) ≡ Some (left_file entries places had name) → NoDirectory (now q)
-    left_loose now name e is = no_directory_at (now q) (Some (left_file entries places had name)) (ap now e ∙ is)
-        (no_directory_file (left_file entries places had name) (list_is_file (left_paths entries places name (paths_of had name))))
+  module _ (ways : Ways) (places from : List Path) (had : List PackageList) (old : World) where
+    left_loose : (now : World) (name : Path) → q ≡ list_path name → now (list_path name) ≡ Some (left_file ways places had name) → NoDirectory (now q)
+    left_loose now name e is = no_directory_at (now q) (Some (left_file ways places had name)) (ap now e ∙ is)
+        (no_directory_file (left_file ways places had name) (list_is_file (left_paths ways places name (paths_of had name))))
 
-    taken_loose : (mid : World) → HasTakenAll entries places from had old mid → AreSparesLoose from mid → NoDirectory (old q) → NoDirectory (mid q)
+    taken_loose : (mid : World) → HasTakenAll ways places from had old mid → AreSparesLoose from mid → NoDirectory (old q) → NoDirectory (mid q)
     taken_loose mid taken spares none d = none (subst IsDirectory (taken.rest q (λ name has. (
       λ e. left_loose mid name e (taken.lists name has) d,
       λ e. no_directory_at (mid q) (mid (temporary (list_path name))) (ap mid e) (spares name has) d,
     ))) d)
 
-    list_loose : (now : World) (name : Path) → q ≡ list_path name → (now (list_path name) ≡ old (list_path name)) ⊎ (now (list_path name) ≡ Some (left_file entries places had name)) → NoDirectory (old q) → NoDirectory (now q)
+    list_loose : (now : World) (name : Path) → q ≡ list_path name → (now (list_path name) ≡ old (list_path name)) ⊎ (now (list_path name) ≡ Some (left_file ways places had name)) → NoDirectory (old q) → NoDirectory (now q)
     list_loose now name e (inl same) none = no_directory_at (now q) (old q) (ap now e ∙ same ∙ ap old (sym e)) none
     list_loose now name e (inr left) none = left_loose now name e left
 
-    taking_loose : (now : World) → IsTaking entries places from had old now → NoDirectory (old q) → NoDirectory (now q)
+    taking_loose : (now : World) → IsTaking ways places from had old now → NoDirectory (old q) → NoDirectory (now q)
     taking_loose now is none d = none (subst IsDirectory (is.rest q (λ name has. (
       λ e. list_loose now name e (is.lists name has) none d,
       λ e. no_directory_at (now q) (now (temporary (list_path name))) (ap now e) (is.spares name has) d,
     ))) d)
 
     module _ (names : List Path) where
-      released_loose : (new : World) → HasReleased entries places from had names old new → NoDirectory (old q) → NoDirectory (new q)
+      released_loose : (new : World) → HasReleased ways places from had names old new → NoDirectory (old q) → NoDirectory (new q)
       released_loose new has none = no_directory_at (new q) _ (has.cleared.each q) (by (is_cleared names q) (taken_loose has.mid has.taken has.spares none))
         where
           by : (b : Bool) → NoDirectory (has.mid q) → NoDirectory (cond b (cleared (has.mid q)) (has.mid q))
           by true mid = cleared_loose (has.mid q) mid
           by false mid = mid
 
-      releasing_loose : (now : World) → MayRelease entries places from had names old now → NoDirectory (old q) → NoDirectory (now q)
+      releasing_loose : (now : World) → MayRelease ways places from had names old now → NoDirectory (old q) → NoDirectory (now q)
       releasing_loose now (inl is) none = taking_loose now is none
       releasing_loose now (inr m) none =
           let mid = taken_loose m.0 m.1 m.2 none in
@@ -155,31 +155,31 @@ module _ (q : Path) where
 
 -- so it is of the whole, where no record is noted
 
-module _ (c : Changes) (entries : List Diversion) (lists : List PackageList) (old : World) (q : Path) (out : is_record_place q ≡ false) where
+module _ (c : Changes) (ways : Ways) (lists : List PackageList) (old : World) (q : Path) (out : is_record_place q ≡ false) where
   renewed_then : (renewed : World) → HasRenewed c.leaving (list_path c.name) (list_file c.listed) old renewed → NoDirectory (old q) → NoDirectory (renewed q)
   renewed_then renewed first none = renewed_loose q c.leaving (list_path c.name) c.listed old renewed first none
 
   stored_then : (renewed stored : World) (stale : List Path) → AreReplaced c.name c.members stale renewed stored → NoDirectory (renewed q) → NoDirectory (stored q)
   stored_then renewed stored stale second none = replacing_loose q c.name c.members stale renewed stored (replaced_replacing c.name c.members stale renewed stored second) none
 
-  released_then : (stored released : World) → HasReleased entries c.places c.losers (renewed_lists c entries lists) c.names stored released → NoDirectory (stored q) → NoDirectory (released q)
-  released_then stored released third none = released_loose q entries c.places c.losers (renewed_lists c entries lists) stored c.names released third none
+  released_then : (stored released : World) → HasReleased ways c.places c.losers (renewed_lists c ways lists) c.names stored released → NoDirectory (stored q) → NoDirectory (released q)
+  released_then stored released third none = released_loose q ways c.places c.losers (renewed_lists c ways lists) stored c.names released third none
 
-  pub committed_loose : (after : List Record) (new : World) → HasCommitted c entries lists after old new → NoDirectory (old q) → NoDirectory (new q)
+  pub committed_loose : (after : List Record) (new : World) → HasCommitted c ways lists after old new → NoDirectory (old q) → NoDirectory (new q)
   committed_loose after new has none = no_directory_at (new q) (has.released q) (has.noted.rest q out)
       (released_then has.stored has.released has.release (stored_then has.renewed has.stored has.stale has.replaced (renewed_then has.renewed has.renewal none)))
 
-  pub committing_loose : (records before : List Record) (now : World) → MayCommit c entries lists records before old now → NoDirectory (old q) → NoDirectory (now q)
+  pub committing_loose : (records before : List Record) (now : World) → MayCommit c ways lists records before old now → NoDirectory (old q) → NoDirectory (now q)
   committing_loose records before now (MayCommit.renewing may has opens) none = renewing_loose q c.leaving (list_path c.name) c.listed old now may none
   committing_loose records before now (MayCommit.replacing renewed stale first is has opens) none = replacing_loose q c.name c.members stale renewed now is (renewed_then renewed first none)
   committing_loose records before now (MayCommit.releasing renewed stored stale first second whole may has opens) none =
-      releasing_loose q entries c.places c.losers (renewed_lists c entries lists) stored c.names now may (stored_then renewed stored stale second (renewed_then renewed first none))
+      releasing_loose q ways c.places c.losers (renewed_lists c ways lists) stored c.names now may (stored_then renewed stored stale second (renewed_then renewed first none))
   committing_loose records before now (MayCommit.noting renewed stored released stale first second whole third is) none =
       no_directory_at (now q) (released q) (is.rest q out) (released_then stored released third (stored_then renewed stored stale second (renewed_then renewed first none)))
 
-module _ (c : Changes) (entries : List Diversion) (lists : List PackageList) (old : World) where
-  pub info_loose : (after : List Record) (new : World) → HasCommitted c entries lists after old new → AreLoose old → AreLoose new
-  info_loose after new has loose = λ name plain. committed_loose c entries lists old (info_path ++ 47 ∷ name) refl after new has (loose name plain)
+module _ (c : Changes) (ways : Ways) (lists : List PackageList) (old : World) where
+  pub info_loose : (after : List Record) (new : World) → HasCommitted c ways lists after old new → AreLoose old → AreLoose new
+  info_loose after new has loose = λ name plain. committed_loose c ways lists old (info_path ++ 47 ∷ name) refl after new has (loose name plain)
 
-  pub info_loose_amid : (records before : List Record) (now : World) → MayCommit c entries lists records before old now → AreLoose old → AreLoose now
-  info_loose_amid records before now may loose = λ name plain. committing_loose c entries lists old (info_path ++ 47 ∷ name) refl records before now may (loose name plain)
+  pub info_loose_amid : (records before : List Record) (now : World) → MayCommit c ways lists records before old now → AreLoose old → AreLoose now
+  info_loose_amid records before now may loose = λ name plain. committing_loose c ways lists old (info_path ++ 47 ∷ name) refl records before now may (loose name plain)

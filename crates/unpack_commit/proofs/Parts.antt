@@ -11,7 +11,7 @@ use Rattle.file_removal.proofs.Leavings.{unless_wider}
 use Rattle.listed_files.proofs.Denying.{denied_here, renewed_wider, renewing_wider}
 use Rattle.host_core.proofs.Moments.{since_then, since_weaker_if}
 use Rattle.administration.specs.Places.{list_path}
-use Rattle.diversions.specs.declared.entry.Diversion.{Diversion}
+use Rattle.diversions.specs.Ways.{Ways}
 use Rattle.file_lists.specs.declared.paths.PackageList.{PackageList}
 use Rattle.file_lists.specs.Filed.{Filed}
 use Rattle.file_lists.specs.Taking.{without_all}
@@ -30,7 +30,7 @@ since_more : (Q : World → World → Type 0) (R : World → List Event → Worl
     → (IsTrue c.honest → (later : List Event) (now : World) → Q b.world now → R a.world (first.added ++ later) now) → AtEachMoment Q b c → Since (R a.world) a c
 since_more Q R a b c first so second = since_then (R a.world) a b c first (since_weaker_if (λ so_far. Q b.world) (λ so_far. R a.world (first.added ++ so_far)) b c (λ h later now is. so h later now is) second)
 
-module _ (c : Changes) (entries : List Diversion) (lists : List PackageList) where
+module _ (c : Changes) (ways : Ways) (lists : List PackageList) where
   abbrev Renewing : World → List Event → World → Type 0
   Renewing old so_far now = MayRenewUnless (IsDeniedIn so_far) c.leaving (list_path c.name) (list_file c.listed) old now
 
@@ -49,20 +49,20 @@ module _ (c : Changes) (entries : List Diversion) (lists : List PackageList) whe
       (λ h so_far now may. renewing_wider (IsDeniedIn so_far) any_path (λ p is. tt) c.leaving (list_path c.name) (list_file c.listed) a.world now may) since
 
   abbrev Releasing : World → World → Type 0
-  Releasing = MayRelease entries c.places c.losers (renewed_lists c entries lists) c.names
+  Releasing = MayRelease ways c.places c.losers (renewed_lists c ways lists) c.names
 
   abbrev Released : World → World → Type 0
-  Released = HasReleased entries c.places c.losers (renewed_lists c entries lists) c.names
+  Released = HasReleased ways c.places c.losers (renewed_lists c ways lists) c.names
 
   -- the lists that stood then are those with the new one
-  pub releasing_as : (had : List PackageList) → had ≡ renewed_lists c entries lists → (a b : State) → AtEachMoment (MayRelease entries c.places c.losers had c.names) a b → AtEachMoment Releasing a b
-  releasing_as had same a b = subst (λ had. AtEachMoment (MayRelease entries c.places c.losers had c.names) a b) same
+  pub releasing_as : (had : List PackageList) → had ≡ renewed_lists c ways lists → (a b : State) → AtEachMoment (MayRelease ways c.places c.losers had c.names) a b → AtEachMoment Releasing a b
+  releasing_as had same a b = subst (λ had. AtEachMoment (MayRelease ways c.places c.losers had c.names) a b) same
 
-  pub released_as : (had : List PackageList) → had ≡ renewed_lists c entries lists → (old new : World) → HasReleased entries c.places c.losers had c.names old new → Released old new
-  released_as had same old new = subst (λ had. HasReleased entries c.places c.losers had c.names old new) same
+  pub released_as : (had : List PackageList) → had ≡ renewed_lists c ways lists → (old new : World) → HasReleased ways c.places c.losers had c.names old new → Released old new
+  released_as had same old new = subst (λ had. HasReleased ways c.places c.losers had c.names old new) same
 
   pub has_committed : (declined : Path → Type 0) (after : List Record) (old renewed stored released new : World) → RenewedUnless declined old renewed → HasStored c.name c.members renewed stored → Released stored released → HaveNoted after released new
-      → HasCommittedUnless c entries lists declined after old new
+      → HasCommittedUnless c ways lists declined after old new
   has_committed declined after old renewed stored released new first second third last = record {
     renewed = renewed;
     stored = stored;
@@ -83,14 +83,14 @@ module _ (c : Changes) (entries : List Diversion) (lists : List PackageList) whe
     kept_stored old stored has kept = kept_stays d old stored (written_stays c.name old stored has.replaced.rest) kept
 
     pub kept_released : (old released : World) → Released old released → IsKept d old → IsKept d released
-    kept_released old released has kept = kept_stays d old released (released_stays entries c.places c.losers (renewed_lists c entries lists) c.names old elsewhere released has) kept
+    kept_released old released has kept = kept_stays d old released (released_stays ways c.places c.losers (renewed_lists c ways lists) c.names old elsewhere released has) kept
 
     module _ (records : List Record) where
       abbrev Committing : World → List Event → World → Type 0
-      Committing old so_far now = MayCommitUnless c entries lists (IsDeniedIn so_far) records d.records old now
+      Committing old so_far now = MayCommitUnless c ways lists (IsDeniedIn so_far) records d.records old now
 
       stayed_renewing : (declined : Path → Type 0) (old now : World) (may : MayRenewUnless declined c.leaving (list_path c.name) (list_file c.listed) old now) (has : HasRecords now d.records) (opens : CanOpenRecords now)
-          → MayCommitUnless c entries lists declined records d.records old now
+          → MayCommitUnless c ways lists declined records d.records old now
       stayed_renewing declined old now (inl removing) has opens = (MayCommit.renewing (inl removing) has opens, tt)
       stayed_renewing declined old now (inr m) has opens = (MayCommit.renewing (inr (m.0, unless_wider declined any_path false c.leaving old m.0 (λ p is. tt) m.1, m.2)) has opens, m.1)
 
@@ -101,17 +101,17 @@ module _ (c : Changes) (entries : List Diversion) (lists : List PackageList) whe
           stayed_renewing (IsDeniedIn so_far) old now may still.holds (kept_opens d now still)
 
       module _ (declined : Path → Type 0) (old renewed : World) (first : RenewedUnless declined old renewed) where
-        may_store : (now : World) → IsKept d renewed → IsStoring c.name c.members renewed now → MayCommitUnless c entries lists declined records d.records old now
+        may_store : (now : World) → IsKept d renewed → IsStoring c.name c.members renewed now → MayCommitUnless c ways lists declined records d.records old now
         may_store now kept is =
             let still = kept_stays d renewed now (written_stays c.name renewed now is.replacing.rest) kept in
             (MayCommit.replacing renewed is.stale (renewed_any declined old renewed first) is.replacing still.holds (kept_opens d now still), first.removed)
 
-        may_release : (stored now : World) → IsKept d stored → HasStored c.name c.members renewed stored → Releasing stored now → MayCommitUnless c entries lists declined records d.records old now
+        may_release : (stored now : World) → IsKept d stored → HasStored c.name c.members renewed stored → Releasing stored now → MayCommitUnless c ways lists declined records d.records old now
         may_release stored now kept second may =
-            let still = kept_stays d stored now (releasing_stays entries c.places c.losers (renewed_lists c entries lists) c.names stored elsewhere now may) kept in
+            let still = kept_stays d stored now (releasing_stays ways c.places c.losers (renewed_lists c ways lists) c.names stored elsewhere now may) kept in
             (MayCommit.releasing renewed stored second.stale (renewed_any declined old renewed first) second.replaced second.whole may still.holds (kept_opens d now still), first.removed)
 
-        may_note : (stored released now : World) → HasStored c.name c.members renewed stored → Released stored released → AreNoting records d.records released now → MayCommitUnless c entries lists declined records d.records old now
+        may_note : (stored released now : World) → HasStored c.name c.members renewed stored → Released stored released → AreNoting records d.records released now → MayCommitUnless c ways lists declined records d.records old now
         may_note stored released now second third is = (MayCommit.noting renewed stored released second.stale (renewed_any declined old renewed first) second.replaced second.whole third is, first.removed)
 
       -- moment by moment
@@ -156,8 +156,8 @@ module _ (c : Changes) (entries : List Diversion) (lists : List PackageList) whe
             renewed_end s4 noting has = unless_later (AreNoting records d.records s3.world) s3 s4 noting (unless_released has)
 
 -- whatever was declined
-pub committed_wider : (declined more : Path → Type 0) → ((p : Path) → declined p → more p) → (c : Changes) (entries : List Diversion) (lists : List PackageList) (after : List Record) (old new : World) → HasCommittedUnless c entries lists declined after old new → HasCommittedUnless c entries lists more after old new
-committed_wider declined more wide c entries lists after old new has = record {
+pub committed_wider : (declined more : Path → Type 0) → ((p : Path) → declined p → more p) → (c : Changes) (ways : Ways) (lists : List PackageList) (after : List Record) (old new : World) → HasCommittedUnless c ways lists declined after old new → HasCommittedUnless c ways lists more after old new
+committed_wider declined more wide c ways lists after old new has = record {
   renewed = has.renewed;
   stored = has.stored;
   released = has.released;
@@ -169,8 +169,8 @@ committed_wider declined more wide c entries lists after old new has = record {
   noted = has.noted;
 }
 
-pub committed_any : (declined : Path → Type 0) (c : Changes) (entries : List Diversion) (lists : List PackageList) (after : List Record) (old new : World) → HasCommittedUnless c entries lists declined after old new → HasCommitted c entries lists after old new
-committed_any declined c entries lists after old new has = committed_wider declined any_path (λ p is. tt) c entries lists after old new has
+pub committed_any : (declined : Path → Type 0) (c : Changes) (ways : Ways) (lists : List PackageList) (after : List Record) (old new : World) → HasCommittedUnless c ways lists declined after old new → HasCommitted c ways lists after old new
+committed_any declined c ways lists after old new has = committed_wider declined any_path (λ p is. tt) c ways lists after old new has
 
 -- what holds whatever the answer
 
@@ -184,19 +184,19 @@ on_err_as (Err e) P is = is
 
 -- the lists
 
-module _ (c : Changes) (entries : List Diversion) (old : Filed) where
-  pub lists_both : (renewed released : Filed) → renewed ≡ record old { lists = renewed_lists c entries old.lists } → released ≡ record renewed { lists = without_all entries c.places c.losers renewed.lists } → released ≡ record old { lists = committed_lists c entries old.lists }
-  lists_both renewed released first second = second ∙ ap (λ (f : Filed). record f { lists = without_all entries c.places c.losers f.lists }) first
+module _ (c : Changes) (ways : Ways) (old : Filed) where
+  pub lists_both : (renewed released : Filed) → renewed ≡ record old { lists = renewed_lists c ways old.lists } → released ≡ record renewed { lists = without_all ways c.places c.losers renewed.lists } → released ≡ record old { lists = committed_lists c ways old.lists }
+  lists_both renewed released first second = second ∙ ap (λ (f : Filed). record f { lists = without_all ways c.places c.losers f.lists }) first
 
-  pub lists_first : (now : Filed) → (now ≡ record old { closed = true }) ⊎ (now ≡ old) → (now.closed ≡ true) ⊎ AreListsAmid c entries old.lists now.lists
+  pub lists_first : (now : Filed) → (now ≡ record old { closed = true }) ⊎ (now ≡ old) → (now.closed ≡ true) ⊎ AreListsAmid c ways old.lists now.lists
   lists_first now (inl shut) = inl (ap (λ (f : Filed). f.closed) shut)
   lists_first now (inr same) = inr (inl (ap (λ (f : Filed). f.lists) same))
 
-  pub lists_amid : (renewed : Filed) → renewed ≡ record old { lists = renewed_lists c entries old.lists } → (renewed.closed ≡ true) ⊎ AreListsAmid c entries old.lists renewed.lists
+  pub lists_amid : (renewed : Filed) → renewed ≡ record old { lists = renewed_lists c ways old.lists } → (renewed.closed ≡ true) ⊎ AreListsAmid c ways old.lists renewed.lists
   lists_amid renewed first = inr (inr (inl (ap (λ (f : Filed). f.lists) first)))
 
-  pub lists_last : (renewed now : Filed) → renewed ≡ record old { lists = renewed_lists c entries old.lists } → (now.closed ≡ true) ⊎ (now ≡ record renewed { lists = without_all entries c.places c.losers renewed.lists })
-      → (now.closed ≡ true) ⊎ AreListsAmid c entries old.lists now.lists
+  pub lists_last : (renewed now : Filed) → renewed ≡ record old { lists = renewed_lists c ways old.lists } → (now.closed ≡ true) ⊎ (now ≡ record renewed { lists = without_all ways c.places c.losers renewed.lists })
+      → (now.closed ≡ true) ⊎ AreListsAmid c ways old.lists now.lists
   lists_last renewed now first (inl shut) = inl shut
   lists_last renewed now first (inr second) = inr (inr (inr (ap (λ (f : Filed). f.lists) (lists_both renewed now first second))))
 

@@ -11,7 +11,7 @@ use Rattle.host_core.specs.declared.node.Node.{Node}
 use Rattle.administration.specs.Places.{home_path, is_within, list_path, status_path, temporary, updates_path}
 use Rattle.administration.proofs.Within.{below_within, rest_of}
 use Rattle.control_members.specs.Stored.{KeepsBesideWritten}
-use Rattle.diversions.specs.declared.entry.Diversion.{Diversion}
+use Rattle.diversions.specs.Ways.{Ways}
 use Rattle.file_lists.specs.declared.paths.PackageList.{PackageList}
 use Rattle.file_lists.specs.Taking.{IsNoList}
 use Rattle.file_removal.specs.declared.leaving.Leaving.{Leaving}
@@ -77,15 +77,15 @@ pub written_stays : (owner : Path) (old now : World) → KeepsBesideWritten owne
 unfolding byte
 written_stays owner old now rest = record { same = λ q within other. rest q (λ name member. (λ e. other (ap byte e), λ e. other (ap byte e))) }
 
-module _ (entries : List Diversion) (places from : List Path) (had : List PackageList) (names : List Path) (old : World) (elsewhere : AreElsewhere names) where
+module _ (ways : Ways) (places from : List Path) (had : List PackageList) (names : List Path) (old : World) (elsewhere : AreElsewhere names) where
   no_list : (q : Path) → (byte q ≡ 105 → ⊥) → IsNoList from q
   no_list q other name has = other_list name q other
 
-  pub releasing_stays : (now : World) → MayRelease entries places from had names old now → Stays old now
-  releasing_stays now may = record { same = λ q within other. releasing_keeps entries places from had names old now q may (no_list q other) (elsewhere q within) }
+  pub releasing_stays : (now : World) → MayRelease ways places from had names old now → Stays old now
+  releasing_stays now may = record { same = λ q within other. releasing_keeps ways places from had names old now q may (no_list q other) (elsewhere q within) }
 
-  pub released_stays : (new : World) → HasReleased entries places from had names old new → Stays old new
-  released_stays new has = record { same = λ q within other. released_keeps entries places from had names old new q has (no_list q other) (elsewhere q within) }
+  pub released_stays : (new : World) → HasReleased ways places from had names old new → Stays old new
+  released_stays new has = record { same = λ q within other. released_keeps ways places from had names old new q has (no_list q other) (elsewhere q within) }
 
 -- so the records are kept
 

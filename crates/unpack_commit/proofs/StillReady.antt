@@ -5,7 +5,7 @@ use Rattle.host_core.specs.World.{World, IsDirectory}
 use Rattle.administration.specs.Places.{info_path, list_path, temporary}
 use Rattle.control_members.specs.Stored.{IsMembersReady, stored_member_path}
 use Rattle.control_members.proofs.Apart.{info_no_temporary, info_other}
-use Rattle.diversions.specs.declared.entry.Diversion.{Diversion}
+use Rattle.diversions.specs.Ways.{Ways}
 use Rattle.file_lists.specs.declared.paths.PackageList.{PackageList}
 use Rattle.file_lists.specs.Writing.{IsListReady}
 use Rattle.status_records.specs.declared.record.Record.{Record}
@@ -28,39 +28,39 @@ info_untouched c spares elsewhere = record {
   unnoted = refl;
 }
 
-module _ (c : Changes) (entries : List Diversion) (lists : List PackageList) (old : World) (spares : SparesAdministration c.leaving) (elsewhere : AreElsewhere c.names) where
-  module _ (after : List Record) (new : World) (has : HasCommitted c entries lists after old new) where
+module _ (c : Changes) (ways : Ways) (lists : List PackageList) (old : World) (spares : SparesAdministration c.leaving) (elsewhere : AreElsewhere c.names) where
+  module _ (after : List Record) (new : World) (has : HasCommitted c ways lists after old new) where
     info_after : IsDirectory (old info_path) → IsDirectory (new info_path)
-    info_after info = subst IsDirectory (sym (committed_keeps c entries lists old after new info_path has (info_untouched c spares elsewhere))) info
+    info_after info = subst IsDirectory (sym (committed_keeps c ways lists old after new info_path has (info_untouched c spares elsewhere))) info
 
     pub members_still_ready : (owner : Path) → IsMembersReady owner old → IsMembersReady owner new
     members_still_ready owner ready = record {
       info = info_after ready.info;
-      own = λ name member. committed_loose c entries lists old (stored_member_path owner name) refl after new has (ready.own name member);
-      spares = λ name member. committed_loose c entries lists old (temporary (stored_member_path owner name)) refl after new has (ready.spares name member);
+      own = λ name member. committed_loose c ways lists old (stored_member_path owner name) refl after new has (ready.own name member);
+      spares = λ name member. committed_loose c ways lists old (temporary (stored_member_path owner name)) refl after new has (ready.spares name member);
     }
 
     pub lists_still_ready : (name : Path) → IsListReady name old → IsListReady name new
     lists_still_ready name ready = record {
       info = info_after ready.info;
-      target = committed_loose c entries lists old (list_path name) refl after new has ready.target;
-      spare = committed_loose c entries lists old (temporary (list_path name)) refl after new has ready.spare;
+      target = committed_loose c ways lists old (list_path name) refl after new has ready.target;
+      spare = committed_loose c ways lists old (temporary (list_path name)) refl after new has ready.spare;
     }
 
-  module _ (records before : List Record) (now : World) (may : MayCommit c entries lists records before old now) where
+  module _ (records before : List Record) (now : World) (may : MayCommit c ways lists records before old now) where
     info_amid : IsDirectory (old info_path) → IsDirectory (now info_path)
-    info_amid info = subst IsDirectory (sym (committing_keeps c entries lists old records before now info_path may (info_untouched c spares elsewhere))) info
+    info_amid info = subst IsDirectory (sym (committing_keeps c ways lists old records before now info_path may (info_untouched c spares elsewhere))) info
 
     pub members_ready_amid : (owner : Path) → IsMembersReady owner old → IsMembersReady owner now
     members_ready_amid owner ready = record {
       info = info_amid ready.info;
-      own = λ name member. committing_loose c entries lists old (stored_member_path owner name) refl records before now may (ready.own name member);
-      spares = λ name member. committing_loose c entries lists old (temporary (stored_member_path owner name)) refl records before now may (ready.spares name member);
+      own = λ name member. committing_loose c ways lists old (stored_member_path owner name) refl records before now may (ready.own name member);
+      spares = λ name member. committing_loose c ways lists old (temporary (stored_member_path owner name)) refl records before now may (ready.spares name member);
     }
 
     pub lists_ready_amid : (name : Path) → IsListReady name old → IsListReady name now
     lists_ready_amid name ready = record {
       info = info_amid ready.info;
-      target = committing_loose c entries lists old (list_path name) refl records before now may ready.target;
-      spare = committing_loose c entries lists old (temporary (list_path name)) refl records before now may ready.spare;
+      target = committing_loose c ways lists old (list_path name) refl records before now may ready.target;
+      spare = committing_loose c ways lists old (temporary (list_path name)) refl records before now may ready.spare;
     }

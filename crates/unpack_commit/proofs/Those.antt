@@ -7,7 +7,7 @@ use Rattle.std.proofs.Math.Logic.{∥∥₁_elim}
 use Rattle.std.proofs.lemmas.List.Elements.{Contains-append_cases, Contains-append_left, Contains-append_right}
 use Rattle.texts.specs.PackageNames.{is_package_name}
 use Rattle.host_core.specs.Paths.{Path}
-use Rattle.diversions.specs.declared.entry.Diversion.{Diversion}
+use Rattle.diversions.specs.Ways.{Ways}
 use Rattle.status_records.specs.Records.{AreStanding}
 use Rattle.status_records.specs.declared.record.Record.{Record}
 use Rattle.unpack_commit.specs.Takeover.{is_config_files, loses_conffile, losing_records, without_conffiles, yields_of}
@@ -41,12 +41,12 @@ among_all keep (n ∷ ns) name has = by (keep n) (among_all keep ns name) has
     ]
     by false rest has = Contains-append_right (n ∷ []) ns name (rest has)
 
-module _ (entries : List Diversion) (places : List Path) (names : List Path) where
-  pub losing_stand : (records : List Record) → AreStanding records → AreStanding (losing_records entries places names records)
+module _ (ways : Ways) (places : List Path) (names : List Path) where
+  pub losing_stand : (records : List Record) → AreStanding records → AreStanding (losing_records ways places names records)
   losing_stand [] all = tt
-  losing_stand (r ∷ rs) all = by (list_any (bytes_eq r.name) names && loses_conffile entries places r) (losing_stand rs all.1)
+  losing_stand (r ∷ rs) all = by (list_any (bytes_eq r.name) names && loses_conffile ways places r) (losing_stand rs all.1)
     where
-      by : (b : Bool) → AreStanding (losing_records entries places names rs)
-          → AreStanding (map (without_conffiles entries places) (cond b (r ∷ filter (λ x. list_any (bytes_eq x.name) names && loses_conffile entries places x) rs) (filter (λ x. list_any (bytes_eq x.name) names && loses_conffile entries places x) rs)))
+      by : (b : Bool) → AreStanding (losing_records ways places names rs)
+          → AreStanding (map (without_conffiles ways places) (cond b (r ∷ filter (λ x. list_any (bytes_eq x.name) names && loses_conffile ways places x) rs) (filter (λ x. list_any (bytes_eq x.name) names && loses_conffile ways places x) rs)))
       by true rest = (all.0, rest)
       by false rest = rest

@@ -7,7 +7,7 @@ use Rattle.host_core.specs.World.{World, KeepsBut}
 use Rattle.administration.specs.Places.{list_path}
 use Rattle.control_members.specs.Stored.{AreReplaced, AreReplacing, AreStored}
 use Rattle.control_members.specs.declared.member.Member.{Member}
-use Rattle.diversions.specs.declared.entry.Diversion.{Diversion}
+use Rattle.diversions.specs.Ways.{Ways}
 use Rattle.file_lists.specs.Taking.{without_all}
 use Rattle.file_lists.specs.Writing.{list_file, with_list}
 use Rattle.file_lists.specs.declared.paths.PackageList.{PackageList}
@@ -77,13 +77,13 @@ pub record IsStoring (name : List ℕ) (members : List Member) (old now : World)
   pub stale : List Path
   pub replacing : AreReplacing name members stale old now
 
-module _ (c : Changes) (entries : List Diversion) (lists : List PackageList) where
+module _ (c : Changes) (ways : Ways) (lists : List PackageList) where
   -- the lists with the new one, and then without the places
   abbrev pub renewed_lists : List PackageList
   renewed_lists = with_list c.name c.listed lists
 
   abbrev pub committed_lists : List PackageList
-  committed_lists = without_all entries c.places c.losers renewed_lists
+  committed_lists = without_all ways c.places c.losers renewed_lists
 
   -- the lists as far as it went
   abbrev pub AreListsAmid : List PackageList → Type 0
@@ -98,7 +98,7 @@ module _ (c : Changes) (entries : List Diversion) (lists : List PackageList) whe
     pub renewal : HasRenewedUnless declined c.leaving (list_path c.name) (list_file c.listed) old renewed
     pub replaced : AreReplaced c.name c.members stale renewed stored
     pub whole : AreStored c.name c.members stored
-    pub release : HasReleased entries c.places c.losers renewed_lists c.names stored released
+    pub release : HasReleased ways c.places c.losers renewed_lists c.names stored released
     pub noted : HaveNoted after released new
 
   -- whatever was declined
@@ -113,10 +113,10 @@ module _ (c : Changes) (entries : List Diversion) (lists : List PackageList) whe
         → AreReplacing c.name c.members stale renewed now → HasRecords now before → CanOpenRecords now → MayCommit records before old now
     releasing : (renewed stored : World) (stale : List Path) → HasRenewed c.leaving (list_path c.name) (list_file c.listed) old renewed
         → AreReplaced c.name c.members stale renewed stored → AreStored c.name c.members stored
-        → MayRelease entries c.places c.losers renewed_lists c.names stored now → HasRecords now before → CanOpenRecords now → MayCommit records before old now
+        → MayRelease ways c.places c.losers renewed_lists c.names stored now → HasRecords now before → CanOpenRecords now → MayCommit records before old now
     noting : (renewed stored released : World) (stale : List Path) → HasRenewed c.leaving (list_path c.name) (list_file c.listed) old renewed
         → AreReplaced c.name c.members stale renewed stored → AreStored c.name c.members stored
-        → HasReleased entries c.places c.losers renewed_lists c.names stored released → AreNoting records before released now → MayCommit records before old now
+        → HasReleased ways c.places c.losers renewed_lists c.names stored released → AreNoting records before released now → MayCommit records before old now
 
   -- of the directories that could go only those stayed whose removal was declined
   abbrev pub StayedAmid : (declined : Path → Type 0) (records before : List Record) (old now : World) → MayCommit records before old now → Type 0

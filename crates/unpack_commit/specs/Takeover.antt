@@ -8,8 +8,7 @@ use Rattle.host_core.specs.declared.node.Kind.{Kind}
 use Rattle.host_core.specs.declared.node.Kind.TheVariants as kind
 use Rattle.host_core.specs.declared.node.Node.{Node}
 use Rattle.host_core.specs.declared.node.Node.TheVariants.{File, Dir, Link}
-use Rattle.diversions.specs.Places.{place}
-use Rattle.diversions.specs.declared.entry.Diversion.{Diversion}
+use Rattle.diversions.specs.Ways.{place, Ways}
 use Rattle.file_lists.specs.Owners.{paths_of}
 use Rattle.file_lists.specs.declared.paths.PackageList.{PackageList}
 use Rattle.package_files.specs.declared.work.Work.{Work}
@@ -45,10 +44,10 @@ is_taken (Link t) (Some kind.SymbolicLink) = true
 abbrev pub taken_places : List Work → List Path
 taken_places works = map (λ x. x.place) (filter (λ x. is_taken x.node x.had) works)
 
-module _ (entries : List Diversion) (places : List Path) where
+module _ (ways : Ways) (places : List Path) where
   -- a package's path has one of these places
   abbrev pub is_at : List ℕ → Path → Bool
-  is_at name path = list_any (bytes_eq (place entries name path)) places
+  is_at name path = list_any (bytes_eq (place ways name path)) places
 
   -- the packages of these that list one of these places
   abbrev pub losers : List PackageList → List (List ℕ) → List (List ℕ)

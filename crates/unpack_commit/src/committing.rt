@@ -52,11 +52,11 @@ pub fn commit<H: Host>(
     requires members { Needs (H.state host.old) (IsMembersReady change.now.name) }
     requires kept { Needs (H.state host.old) (IsKept database.old) }
     ensures lists { OnOk result (lists.new ≡ record lists.old {
-      lists = committed_lists (changes_of change.now new_list) diversions.now.entries
+      lists = committed_lists (changes_of change.now new_list) diversions.now.ways
           lists.old.lists;
     }) }
     ensures lists_err { OnErr result ((lists.new.closed ≡ true)
-        ⊎ AreListsAmid (changes_of change.now new_list) diversions.now.entries lists.old.lists
+        ⊎ AreListsAmid (changes_of change.now new_list) diversions.now.ways lists.old.lists
         lists.new.lists) }
     ensures records { OnOk result (database.new.records ≡ put_records records.now
         database.old.records) }
@@ -64,12 +64,12 @@ pub fn commit<H: Host>(
     ensures err { OnErr result (HasSomeNoted records.now database.old.records
         database.new.records) }
     ensures committed { Leaves result (HasCommittedUnless (changes_of change.now new_list)
-        diversions.now.entries lists.old.lists (WasDenied (H.state host.old) (H.state host.new))
+        diversions.now.ways lists.old.lists (WasDenied (H.state host.old) (H.state host.new))
         (put_records records.now database.old.records)) (H.state host.old) (H.state host.new) }
     ensures kept { Leaves result (λ old new. IsKept database.new new) (H.state host.old)
         (H.state host.new) }
     ensures any_moment { AtEachMomentOf (λ old so_far now. MayCommitUnless
-        (changes_of change.now new_list) diversions.now.entries lists.old.lists (IsDeniedIn so_far)
+        (changes_of change.now new_list) diversions.now.ways lists.old.lists (IsDeniedIn so_far)
         records.now database.old.records old now) (H.state host.old) (H.state host.new) }
     ensures first { OnOk result (BeganWithBarrier (H.state host.old) (H.state host.new)) }
     ensures apart { WorksApart result is_record_place (H.state host.old) (H.state host.new) }

@@ -5,7 +5,7 @@ ghost use Rattle.host_core.specs.Paths.{Path};
 ghost use Rattle.host_core.specs.World.{World};
 ghost use Rattle.administration.specs.Places.{list_path};
 ghost use Rattle.control_members.specs.Stored.{AreStored, IsMembersReady};
-ghost use Rattle.diversions.specs.declared.entry.Diversion.{Diversion};
+ghost use Rattle.diversions.specs.Ways.{Ways};
 ghost use Rattle.file_lists.specs.Info.{AreLoose};
 ghost use Rattle.file_lists.specs.Taking.{left_file};
 ghost use Rattle.file_lists.specs.Writing.{list_file, IsListReady};
@@ -21,37 +21,37 @@ ghost use Rattle.unpack_commit.specs.Takeover.{losers, loses_conffile, losing_re
 
 /// A record that loses a conffile is another one then.
 pub fn a_losing_record_changes()
-    ensures { (entries : List Diversion) (places : List Path) (r : ARecord)
-        → loses_conffile entries places r ≡ true → without_conffiles entries places r ≢ r }
+    ensures { (ways : Ways) (places : List Path) (r : ARecord)
+        → loses_conffile ways places r ≡ true → without_conffiles ways places r ≢ r }
 {}
 
 /// A commit leaves, in the end and at each moment, all as it was but what it may change; in the end the package's list and
 /// control files are the new ones, each package that loses places has its list without them, other lists are as before, and
 /// the records are those that were noted.
 pub fn what_a_commit_leaves()
-    ensures rest { (c : Changes) (entries : List Diversion) (lists : List PackageList)
-        (after : List ARecord) (old new : World) (q : Path) → HasCommitted c entries lists after old
+    ensures rest { (c : Changes) (ways : Ways) (lists : List PackageList)
+        (after : List ARecord) (old new : World) (q : Path) → HasCommitted c ways lists after old
         new → IsUntouched c q → new q ≡ old q }
-    ensures any_moment { (c : Changes) (entries : List Diversion) (lists : List PackageList)
+    ensures any_moment { (c : Changes) (ways : Ways) (lists : List PackageList)
         (records before : List ARecord) (old now : World) (q : Path)
-        → MayCommit c entries lists records before old now → IsUntouched c q → now q ≡ old q }
-    ensures own_list { (c : Changes) (entries : List Diversion) (lists : List PackageList)
+        → MayCommit c ways lists records before old now → IsUntouched c q → now q ≡ old q }
+    ensures own_list { (c : Changes) (ways : Ways) (lists : List PackageList)
         (after : List ARecord) (old new : World) → AreElsewhere c.names → (Contains c.losers c.name
-        → ⊥) → HasCommitted c entries lists after old new → new (list_path c.name)
+        → ⊥) → HasCommitted c ways lists after old new → new (list_path c.name)
         ≡ Some (list_file c.listed) }
-    ensures losers { (c : Changes) (entries : List Diversion) (lists : List PackageList)
+    ensures losers { (c : Changes) (ways : Ways) (lists : List PackageList)
         (after : List ARecord) (old new : World) (name : List ℕ) → AreElsewhere c.names
-        → Contains c.losers name → HasCommitted c entries lists after old new → new (list_path name)
-        ≡ Some (left_file entries c.places (renewed_lists c entries lists) name) }
-    ensures other_lists { (c : Changes) (entries : List Diversion) (lists : List PackageList)
+        → Contains c.losers name → HasCommitted c ways lists after old new → new (list_path name)
+        ≡ Some (left_file ways c.places (renewed_lists c ways lists) name) }
+    ensures other_lists { (c : Changes) (ways : Ways) (lists : List PackageList)
         (after : List ARecord) (old new : World) (name : List ℕ) → SparesAdministration c.leaving
         → AreElsewhere c.names → name ≢ c.name → (Contains c.losers name → ⊥)
-        → HasCommitted c entries lists after old new → new (list_path name) ≡ old (list_path name) }
-    ensures members { (c : Changes) (entries : List Diversion) (lists : List PackageList)
+        → HasCommitted c ways lists after old new → new (list_path name) ≡ old (list_path name) }
+    ensures members { (c : Changes) (ways : Ways) (lists : List PackageList)
         (after : List ARecord) (old new : World) → AreElsewhere c.names
-        → HasCommitted c entries lists after old new → AreStored c.name c.members new }
-    ensures records { (c : Changes) (entries : List Diversion) (lists : List PackageList)
-        (after : List ARecord) (old new : World) → HasCommitted c entries lists after old new
+        → HasCommitted c ways lists after old new → AreStored c.name c.members new }
+    ensures records { (c : Changes) (ways : Ways) (lists : List PackageList)
+        (after : List ARecord) (old new : World) → HasCommitted c ways lists after old new
         → HasRecords new after }
 {}
 
@@ -60,53 +60,53 @@ pub fn what_a_commit_leaves()
 pub fn losers_are_packages()
     ensures yields { (records : List ARecord) (name : Path) → Contains (yields_of records) name
         → is_package_name name ≡ true }
-    ensures losers { (entries : List Diversion) (places : List Path) (lists : List PackageList)
-        (yields : List Path) (name : Path) → Contains (losers entries places lists yields) name
+    ensures losers { (ways : Ways) (places : List Path) (lists : List PackageList)
+        (yields : List Path) (name : Path) → Contains (losers ways places lists yields) name
         → Contains yields name }
-    ensures standing { (entries : List Diversion) (places names : List Path)
+    ensures standing { (ways : Ways) (places names : List Path)
         (records : List ARecord) → AreStanding records
-        → AreStanding (losing_records entries places names records) }
+        → AreStanding (losing_records ways places names records) }
 {}
 
 /// At each moment of a commit, and in its end, control files can be replaced and lists written as before it: no directory
 /// is in the way. So it is of the lists that lose places too.
 pub fn a_commit_leaves_packages_ready()
-    ensures members { (c : Changes) (entries : List Diversion) (lists : List PackageList)
+    ensures members { (c : Changes) (ways : Ways) (lists : List PackageList)
         (after : List ARecord) (old new : World) (owner : Path) → SparesAdministration c.leaving
-        → AreElsewhere c.names → HasCommitted c entries lists after old new
+        → AreElsewhere c.names → HasCommitted c ways lists after old new
         → IsMembersReady owner old → IsMembersReady owner new }
-    ensures lists { (c : Changes) (entries : List Diversion) (lists : List PackageList)
+    ensures lists { (c : Changes) (ways : Ways) (lists : List PackageList)
         (after : List ARecord) (old new : World) (name : Path) → SparesAdministration c.leaving
-        → AreElsewhere c.names → HasCommitted c entries lists after old new → IsListReady name old
+        → AreElsewhere c.names → HasCommitted c ways lists after old new → IsListReady name old
         → IsListReady name new }
-    ensures members_amid { (c : Changes) (entries : List Diversion) (lists : List PackageList)
+    ensures members_amid { (c : Changes) (ways : Ways) (lists : List PackageList)
         (records before : List ARecord) (old now : World) (owner : Path)
-        → SparesAdministration c.leaving → AreElsewhere c.names → MayCommit c entries lists records
+        → SparesAdministration c.leaving → AreElsewhere c.names → MayCommit c ways lists records
         before old now → IsMembersReady owner old → IsMembersReady owner now }
-    ensures lists_amid { (c : Changes) (entries : List Diversion) (lists : List PackageList)
+    ensures lists_amid { (c : Changes) (ways : Ways) (lists : List PackageList)
         (records before : List ARecord) (old now : World) (name : Path)
-        → SparesAdministration c.leaving → AreElsewhere c.names → MayCommit c entries lists records
+        → SparesAdministration c.leaving → AreElsewhere c.names → MayCommit c ways lists records
         before old now → IsListReady name old → IsListReady name now }
 {}
 
 /// A commit puts no directory into `info`, neither in its end nor at any moment.
 pub fn a_commit_leaves_info_loose()
-    ensures loose { (c : Changes) (entries : List Diversion) (lists : List PackageList)
-        (after : List ARecord) (old new : World) → HasCommitted c entries lists after old new
+    ensures loose { (c : Changes) (ways : Ways) (lists : List PackageList)
+        (after : List ARecord) (old new : World) → HasCommitted c ways lists after old new
         → AreLoose old → AreLoose new }
-    ensures loose_amid { (c : Changes) (entries : List Diversion) (lists : List PackageList)
-        (records before : List ARecord) (old now : World) → MayCommit c entries lists records before
+    ensures loose_amid { (c : Changes) (ways : Ways) (lists : List PackageList)
+        (records before : List ARecord) (old now : World) → MayCommit c ways lists records before
         old now → AreLoose old → AreLoose now }
 {}
 
 /// At each moment of a commit the records can be opened: they are those from before it with the first of the new ones, none
 /// or all of them.
 pub fn a_commit_can_be_opened_amid()
-    ensures records { (c : Changes) (entries : List Diversion) (lists : List PackageList)
-        (records before : List ARecord) (old now : World) → MayCommit c entries lists records before
+    ensures records { (c : Changes) (ways : Ways) (lists : List PackageList)
+        (records before : List ARecord) (old now : World) → MayCommit c ways lists records before
         old now → (front : List ARecord) × (back : List ARecord) × (records ≡ front ++ back)
         × HasRecords now (put_records front before) }
-    ensures opens { (c : Changes) (entries : List Diversion) (lists : List PackageList)
-        (records before : List ARecord) (old now : World) → MayCommit c entries lists records before
+    ensures opens { (c : Changes) (ways : Ways) (lists : List PackageList)
+        (records before : List ARecord) (old now : World) → MayCommit c ways lists records before
         old now → CanOpenRecords now }
 {}

@@ -6,32 +6,61 @@ ghost use Rattle.unpack_commit.specs.Takeover.{is_at, loses_conffile, losing_rec
 
 use crate::taken::Taken;
 use diversions::Diversions;
-use status_records::{ConffileEntries, PendingDigests, Record};
+use status_records::{ConffileEntries, ConffileEntry, PendingDigest, PendingDigests, Record};
 use std::alloc::{AllocError, Global};
 use texts::Text;
 
-fn has_entry(diversions: &Diversions, taken: &Taken, name: &Text, entries: &ConffileEntries) -> bool
-    ensures { result ≡ list_any (λ e. is_at diversions.now.entries taken.now name.now e.path)
-        entries.now }
+fn has_entry(
+    diversions: &Diversions,
+    taken: &Taken,
+    name: &Text,
+    entries: &[ConffileEntry],
+) -> Result<bool, AllocError>
+    ensures { IfOk result
+        (λ has. has
+        ≡ list_any (λ e. is_at diversions.now.ways taken.now name.now e.path) entries.now) }
 {
-    entries
-        .as_slice()
-        .iter()
-        .any(|entry| taken.has_ship_path(diversions, name, &entry.path))
+    for entry in entries {
+        if taken.has_ship_path(diversions, name, &entry.path)? {
+            return Ok(true);
+        }
+    }
+    Ok(false)
 }
 
-fn has_digest(diversions: &Diversions, taken: &Taken, name: &Text, pending: &PendingDigests) -> bool
-    ensures { result ≡ list_any (λ p. is_at diversions.now.entries taken.now name.now p.path)
-        pending.now }
+fn has_digest(
+    diversions: &Diversions,
+    taken: &Taken,
+    name: &Text,
+    pending: &[PendingDigest],
+) -> Result<bool, AllocError>
+    ensures { IfOk result
+        (λ has. has
+        ≡ list_any (λ p. is_at diversions.now.ways taken.now name.now p.path) pending.now) }
 {
-    pending.as_slice().iter().any(|digest| taken.has_ship_path(diversions, name, &digest.path))
+    for digest in pending {
+        if taken.has_ship_path(diversions, name, &digest.path)? {
+            return Ok(true);
+        }
+    }
+    Ok(false)
 }
 
-fn loses_conffile(diversions: &Diversions, taken: &Taken, entry: &Record) -> bool
-    ensures { result ≡ loses_conffile diversions.now.entries taken.now entry.now }
+fn loses_conffile(
+    diversions: &Diversions,
+    taken: &Taken,
+    entry: &Record,
+) -> Result<bool, AllocError>
+    ensures { IfOk result
+        (λ loses. loses ≡ loses_conffile diversions.now.ways taken.now entry.now) }
 {
-    has_entry(diversions, taken, &entry.name, &entry.conffiles)
-        || has_digest(diversions, taken, &entry.name, &entry.pending)
+    let conffiles = entry.conffiles.as_slice();
+    let pending = entry.pending.as_slice();
+    let has = has_entry(diversions, taken, &entry.name, conffiles)?;
+    if has {
+        return Ok(true);
+    }
+    has_digest(diversions, taken, &entry.name, pending)
 }
 
 fn left_entries(
@@ -42,13 +71,14 @@ fn left_entries(
     entries: &ConffileEntries,
 ) -> Result<ConffileEntries, AllocError>
     ensures { IfOk result
-        (λ left. left ≡ filter (λ e. not (is_at diversions.now.entries taken.now name.now e.path))
+        (λ left. left ≡ filter (λ e. not (is_at diversions.now.ways taken.now name.now e.path))
         entries.now) }
 {
     entries.law();
     let mut left = ConffileEntries::new(alloc);
     for entry in entries.as_slice() {
-        if !taken.has_ship_path(diversions, name, &entry.path) {
+        let goes = taken.has_ship_path(diversions, name, &entry.path)?;
+        if !goes {
             left.push(entry.copy()?)?;
         }
     }
@@ -63,13 +93,14 @@ fn left_pending(
     pending: &PendingDigests,
 ) -> Result<PendingDigests, AllocError>
     ensures { IfOk result
-        (λ left. left ≡ filter (λ p. not (is_at diversions.now.entries taken.now name.now p.path))
+        (λ left. left ≡ filter (λ p. not (is_at diversions.now.ways taken.now name.now p.path))
         pending.now) }
 {
     pending.law();
     let mut left = PendingDigests::new(alloc);
     for digest in pending.as_slice() {
-        if !taken.has_ship_path(diversions, name, &digest.path) {
+        let goes = taken.has_ship_path(diversions, name, &digest.path)?;
+        if !goes {
             left.put(digest.copy()?)?;
         }
     }
@@ -82,7 +113,7 @@ fn without_conffiles(
     taken: &Taken,
     entry: &Record,
 ) -> Result<Record, AllocError>
-    ensures { IfOk result (λ r. r ≡ without_conffiles diversions.now.entries taken.now entry.now) }
+    ensures { IfOk result (λ r. r ≡ without_conffiles diversions.now.ways taken.now entry.now) }
 {
     let conffiles = left_entries(alloc, diversions, taken, &entry.name, &entry.conffiles)?;
     let pending = left_pending(alloc, diversions, taken, &entry.name, &entry.pending)?;
@@ -95,11 +126,20 @@ fn is_among(names: &[Text], name: &Text) -> bool
     names.iter().any(|other| name.as_str() == other.as_str())
 }
 
-fn loses(diversions: &Diversions, taken: &Taken, losers: &[Text], entry: &Record) -> bool
-    ensures { result ≡ (list_any (bytes_eq entry.now.name) losers.now && loses_conffile
-        diversions.now.entries taken.now entry.now) }
+fn loses(
+    diversions: &Diversions,
+    taken: &Taken,
+    losers: &[Text],
+    entry: &Record,
+) -> Result<bool, AllocError>
+    ensures { IfOk result
+        (λ loses. loses ≡ (list_any (bytes_eq entry.now.name) losers.now && loses_conffile
+        diversions.now.ways taken.now entry.now)) }
 {
-    is_among(losers, &entry.name) && loses_conffile(diversions, taken, entry)
+    if !is_among(losers, &entry.name) {
+        return Ok(false);
+    }
+    loses_conffile(diversions, taken, entry)
 }
 
 /// The records of these packages that lose conffiles at these places, as they are then.
@@ -110,12 +150,13 @@ pub(crate) fn losing_records(
     losers: &[Text],
     records: &[Record],
 ) -> Result<Vec<Record>, AllocError>
-    ensures { IfOk result (λ losing. losing.items ≡ losing_records diversions.now.entries taken.now
+    ensures { IfOk result (λ losing. losing.items ≡ losing_records diversions.now.ways taken.now
         losers.now records.now) }
 {
     let mut losing = Vec::new(alloc);
     for entry in records {
-        if loses(diversions, taken, losers, entry) {
+        let loses = loses(diversions, taken, losers, entry)?;
+        if loses {
             losing.push(without_conffiles(alloc, diversions, taken, entry)?)?;
         }
     }

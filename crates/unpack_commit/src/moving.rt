@@ -63,18 +63,18 @@ pub(crate) fn release_places<H: Host>(
     requires ready { Needs (H.state host.old) (λ w. (name : List ℕ)
         → Contains change.now.losers name → IsListReady name w) }
     ensures lists { OnOk result (lists.new ≡ record lists.old {
-      lists = without_all diversions.now.entries change.now.places.items change.now.losers
+      lists = without_all diversions.now.ways change.now.places.items change.now.losers
           lists.old.lists;
     }) }
     ensures err { OnErr result ((lists.new.closed ≡ true)
         ⊎ (lists.new ≡ record lists.old {
-          lists = without_all diversions.now.entries
+          lists = without_all diversions.now.ways
               change.now.places.items change.now.losers lists.old.lists;
         })) }
-    ensures released { Leaves result (HasReleased diversions.now.entries change.now.places.items
+    ensures released { Leaves result (HasReleased diversions.now.ways change.now.places.items
         change.now.losers lists.old.lists change.now.names.items) (H.state host.old)
         (H.state host.new) }
-    ensures any_moment { AtEachMoment (MayRelease diversions.now.entries change.now.places.items
+    ensures any_moment { AtEachMoment (MayRelease diversions.now.ways change.now.places.items
         change.now.losers lists.old.lists change.now.names.items) (H.state host.old)
         (H.state host.new) }
     ensures silent { Silent (H.state host.old) (H.state host.new) }

@@ -104,21 +104,22 @@ impl Taken {
         name: &Text,
         path: &RootPath,
     ) -> Result<bool, AllocError>
-        ensures { IfOk result (λ is. is ≡ is_at diversions.now.entries self.now name.now path.now) }
+        ensures { IfOk result (λ is. is ≡ is_at diversions.now.ways self.now name.now path.now) }
     {
         let place = diversions.place(name, path)?;
         Ok(self.has(place.as_str()))
     }
 
-    /// The same of a path that can be shipped. Takes no memory.
+    /// The same of a path that can be shipped.
     pub(crate) fn has_ship_path(
         &self,
         diversions: &Diversions,
         name: &Text,
         path: &ShipPath,
-    ) -> bool
-        ensures { result ≡ is_at diversions.now.entries self.now name.now path.now }
+    ) -> Result<bool, AllocError>
+        ensures { IfOk result (λ is. is ≡ is_at diversions.now.ways self.now name.now path.now) }
     {
-        self.has(diversions.ship_place(name, path).as_str())
+        let place = diversions.ship_place(name, path)?;
+        Ok(self.has(place.as_str()))
     }
 }

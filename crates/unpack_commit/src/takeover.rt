@@ -56,7 +56,7 @@ fn has_one(
     name: &Text,
     paths: &[RootPath],
 ) -> Result<bool, AllocError>
-    ensures { IfOk result (λ has. has ≡ list_any (is_at diversions.now.entries taken.now name.now)
+    ensures { IfOk result (λ has. has ≡ list_any (is_at diversions.now.ways taken.now name.now)
         paths.now) }
 {
     for path in paths {
@@ -74,7 +74,7 @@ fn losers(
     taken: &Taken,
     yields: &[Text],
 ) -> Result<Texts, AllocError>
-    ensures { IfOk result (λ names. names ≡ losers diversions.now.entries taken.now lists.now.lists
+    ensures { IfOk result (λ names. names ≡ losers diversions.now.ways taken.now lists.now.lists
         yields.now) }
 {
     let mut names = Texts::new(alloc);
@@ -97,10 +97,10 @@ pub fn takeover_of(
     yields: &[Text],
 ) -> Result<Takeover, AllocError>
     ensures places { IfOk result (λ t. t.places.items ≡ taken_places works.now) }
-    ensures losers { IfOk result (λ t. t.losers ≡ losers diversions.now.entries
+    ensures losers { IfOk result (λ t. t.losers ≡ losers diversions.now.ways
         (taken_places works.now) lists.now.lists yields.now) }
-    ensures records { IfOk result (λ t. t.records.items ≡ losing_records diversions.now.entries
-        (taken_places works.now) (losers diversions.now.entries (taken_places works.now)
+    ensures records { IfOk result (λ t. t.records.items ≡ losing_records diversions.now.ways
+        (taken_places works.now) (losers diversions.now.ways (taken_places works.now)
         lists.now.lists yields.now) database.now.records) }
 {
     let taken = Taken::of(alloc, works)?;

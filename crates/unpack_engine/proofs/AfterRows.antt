@@ -51,8 +51,8 @@ module _ (g : Ground) (p : Planned) (named : is_package_name (package_name g p) 
     -- what is under way, and the records then
     abbrev Leads : List PackageList → List Record → World → Type 0
     Leads lists table now =
-        (may : MayLeave (changes g p mid.works lists) (commit_records g p mid.works lists table) g.entries lists table (length p.others) ended last.world now)
-        × HasRecords now (put_records (noted_so_far (changes g p mid.works lists) (commit_records g p mid.works lists table) g.entries lists table (length p.others) ended last.world now may) table)
+        (may : MayLeave (changes g p mid.works lists) (commit_records g p mid.works lists table) g.ways lists table (length p.others) ended last.world now)
+        × HasRecords now (put_records (noted_so_far (changes g p mid.works lists) (commit_records g p mid.works lists table) g.ways lists table (length p.others) ended last.world now may) table)
 
     leaving_stage : (so_far : List Event) (now : World) → changes_of so_far ≡ changes_of at.since → Leads mid.lists mid.database.records now → IsStaged g p old so_far now
     leaving_stage so_far now same leads =
@@ -64,28 +64,28 @@ module _ (g : Ground) (p : Planned) (named : is_package_name (package_name g p) 
 
   pub leaving_under_way : (ended : Ended) (at : At (task_from g p begun) mid last (last_place g p ended)) → SparesAdministration p.leaving → AreElsewhere p.names
       → (so_far : List Event) (now : World) → changes_of so_far ≡ changes_of at.since
-      → MayLeave (changes g p mid.works mid.lists) (commit_records g p mid.works mid.lists mid.database.records) g.entries mid.lists mid.database.records (length p.others) ended last.world now → IsUnderWay g p old so_far now
+      → MayLeave (changes g p mid.works mid.lists) (commit_records g p mid.works mid.lists mid.database.records) g.ways mid.lists mid.database.records (length p.others) ended last.world now → IsUnderWay g p old so_far now
   leaving_under_way Committed at spares elsewhere so_far now same may =
       let c = changes g p mid.works mid.lists in
       let records = commit_records g p mid.works mid.lists mid.database.records in
-      let open' = committed_open c records g.entries mid.lists mid.database.records (length p.others) last.world now may in
+      let open' = committed_open c records g.ways mid.lists mid.database.records (length p.others) last.world now may in
       let staged = leaving_stage Committed at so_far now same (may, open'.has) in
       record {
         stage = staged.0;
         records = staged.1;
         opens = open'.opens;
-        incoming = committed_incoming c records g.entries mid.lists mid.database.records (length p.others) last.world now p.members spares elsewhere (last_laid Committed at) may;
-        loose = committed_leaving_loose c records g.entries mid.lists mid.database.records (length p.others) last.world now may (last_loose Committed at);
+        incoming = committed_incoming c records g.ways mid.lists mid.database.records (length p.others) last.world now p.members spares elsewhere (last_laid Committed at) may;
+        loose = committed_leaving_loose c records g.ways mid.lists mid.database.records (length p.others) last.world now may (last_loose Committed at);
       }
   leaving_under_way (Unwound fall failed) at spares elsewhere so_far now same may =
       let c = changes g p mid.works mid.lists in
       let records = commit_records g p mid.works mid.lists mid.database.records in
-      let open' = unwound_open c records g.entries mid.lists mid.database (length p.others) last.world now (Unwound fall failed) fall failed (at.world h).kept may in
+      let open' = unwound_open c records g.ways mid.lists mid.database (length p.others) last.world now (Unwound fall failed) fall failed (at.world h).kept may in
       let staged = leaving_stage (Unwound fall failed) at so_far now same (may, open'.has) in
       record {
         stage = staged.0;
         records = staged.1;
         opens = open'.opens;
-        incoming = unwound_incoming c records g.entries mid.lists mid.database (length p.others) last.world now (Unwound fall failed) fall failed p.members (last_laid (Unwound fall failed) at) may;
-        loose = unwound_leaving_loose c records g.entries mid.lists mid.database.records (length p.others) last.world now fall failed may (last_loose (Unwound fall failed) at);
+        incoming = unwound_incoming c records g.ways mid.lists mid.database (length p.others) last.world now (Unwound fall failed) fall failed p.members (last_laid (Unwound fall failed) at) may;
+        loose = unwound_leaving_loose c records g.ways mid.lists mid.database.records (length p.others) last.world now fall failed may (last_loose (Unwound fall failed) at);
       }

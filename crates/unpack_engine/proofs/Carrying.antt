@@ -14,7 +14,7 @@ use Rattle.package_files.specs.declared.work.Work.{Work}
 use Rattle.held_administration.specs.declared.held.Administration.{Administration}
 use Rattle.undo_rows.specs.declared.rows.Called.{Called}
 use Rattle.undo_rows.specs.declared.rows.Row.{Row}
-use Rattle.diversions.specs.declared.entry.Diversion.{Diversion}
+use Rattle.diversions.specs.Ways.{Ways}
 use Rattle.unpack_rows.specs.EndStates.{end_of, own_name}
 use Rattle.unpack_steps.specs.Task.{task_by}
 use Rattle.unpack_steps.specs.At.{Holding}
@@ -29,31 +29,31 @@ use Rattle.unpack_engine.specs.Units.{HasBegun, HasCarriedOut, HasLeft, HasLeftU
 use Rattle.unpack_engine.proofs.Sequel.{later}
 
 -- where more was declined the same is said of what a unit left
-pub left_wider : (c : Changes) (records : List Record) (entries : List Diversion) (lists : List PackageList) (table : List Record) (others : ℕ) (declined more : Path → Type 0) → ((q : Path) → declined q → more q)
-    → (ended : Ended) (old new : World) → HasLeftUnless c records entries lists table others declined ended old new → HasLeftUnless c records entries lists table others more ended old new
-left_wider c records entries lists table others declined more wide Committed old new left = record {
+pub left_wider : (c : Changes) (records : List Record) (ways : Ways) (lists : List PackageList) (table : List Record) (others : ℕ) (declined more : Path → Type 0) → ((q : Path) → declined q → more q)
+    → (ended : Ended) (old new : World) → HasLeftUnless c records ways lists table others declined ended old new → HasLeftUnless c records ways lists table others more ended old new
+left_wider c records ways lists table others declined more wide Committed old new left = record {
   followed = left.followed;
-  has_followed = committed_wider declined more wide c entries lists (put_records records table) old left.followed left.has_followed;
+  has_followed = committed_wider declined more wide c ways lists (put_records records table) old left.followed left.has_followed;
   removed = left.removed;
 }
-left_wider c records entries lists table others declined more wide (Unwound fall failed) old new left = left
+left_wider c records ways lists table others declined more wide (Unwound fall failed) old new left = left
 
 pub same_end : (n : ℕ) (u : Option Unwinding) → end_place n u ≡ end_of n (ended_as u)
 same_end n None = refl
 same_end n (Some u) = refl
 
-module _ (held : Administration) (entries : List Diversion) (rows : Rows) (works : List Work) (calls : List Row) (commit : PlannedCommit) where
+module _ (held : Administration) (ways : Ways) (rows : Rows) (works : List Work) (calls : List Row) (commit : PlannedCommit) where
   pub carried_out : (ended end : Ended) (mid : Holding) (after : Recorded) (end_of_lists : Filed) (old last new : State) (told now : List Called) → ended ≡ end
-      → HasRunRows (HasBegun commit.members) (λ s. task_by s held entries works rows) calls ended mid old last told now
+      → HasRunRows (HasBegun commit.members) (λ s. task_by s held ways works rows) calls ended mid old last told now
       → Silent last new
-      → AtEachMoment (MayLeave (changes_from (own_name rows.found rows.incoming) rows.yields entries mid.lists mid.works commit) (records_from (own_name rows.found rows.incoming) rows.yields entries mid.lists mid.works commit mid.database.records) entries mid.lists mid.database.records (length rows.others.items) ended) last new
-      → (IsTrue new.honest → HasLeft (changes_from (own_name rows.found rows.incoming) rows.yields entries mid.lists mid.works commit) (records_from (own_name rows.found rows.incoming) rows.yields entries mid.lists mid.works commit mid.database.records) entries mid.lists mid.database.records (length rows.others.items) ended last.world new.world)
-      → (IsTrue new.honest → HasLeftUnless (changes_from (own_name rows.found rows.incoming) rows.yields entries mid.lists mid.works commit) (records_from (own_name rows.found rows.incoming) rows.yields entries mid.lists mid.works commit mid.database.records) entries mid.lists mid.database.records (length rows.others.items) (WasDenied last new) ended last.world new.world)
-      → after.records ≡ ended_table ended (records_from (own_name rows.found rows.incoming) rows.yields entries mid.lists mid.works commit mid.database.records) mid.database.records
-      → end_of_lists.lists ≡ ended_lists ended (changes_from (own_name rows.found rows.incoming) rows.yields entries mid.lists mid.works commit) entries mid.lists
-      → HasCarriedOut (ground_by held entries rows.yields) (planned_from rows works calls commit) end after end_of_lists.lists old new told now
+      → AtEachMoment (MayLeave (changes_from (own_name rows.found rows.incoming) rows.yields ways mid.lists mid.works commit) (records_from (own_name rows.found rows.incoming) rows.yields ways mid.lists mid.works commit mid.database.records) ways mid.lists mid.database.records (length rows.others.items) ended) last new
+      → (IsTrue new.honest → HasLeft (changes_from (own_name rows.found rows.incoming) rows.yields ways mid.lists mid.works commit) (records_from (own_name rows.found rows.incoming) rows.yields ways mid.lists mid.works commit mid.database.records) ways mid.lists mid.database.records (length rows.others.items) ended last.world new.world)
+      → (IsTrue new.honest → HasLeftUnless (changes_from (own_name rows.found rows.incoming) rows.yields ways mid.lists mid.works commit) (records_from (own_name rows.found rows.incoming) rows.yields ways mid.lists mid.works commit mid.database.records) ways mid.lists mid.database.records (length rows.others.items) (WasDenied last new) ended last.world new.world)
+      → after.records ≡ ended_table ended (records_from (own_name rows.found rows.incoming) rows.yields ways mid.lists mid.works commit mid.database.records) mid.database.records
+      → end_of_lists.lists ≡ ended_lists ended (changes_from (own_name rows.found rows.incoming) rows.yields ways mid.lists mid.works commit) ways mid.lists
+      → HasCarriedOut (ground_by held ways rows.yields) (planned_from rows works calls commit) end after end_of_lists.lists old new told now
   carried_out ended end mid after end_of_lists old last new told now same ran silent may left stays table lists_are =
-      let g = ground_by held entries rows.yields in
+      let g = ground_by held ways rows.yields in
       let p = planned_from rows works calls commit in
       subst (λ e. HasCarriedOut g p e after end_of_lists.lists old new told now) same (record {
         mid = mid;
@@ -67,12 +67,12 @@ module _ (held : Administration) (entries : List Diversion) (rows : Rows) (works
         lists_are = lists_are ∙ by_lists ended;
       })
     where
-      by_table : (e : Ended) → ended_table e (records_from (own_name rows.found rows.incoming) rows.yields entries mid.lists mid.works commit mid.database.records) mid.database.records
-          ≡ end_table (ground_by held entries rows.yields) (planned_from rows works calls commit) e mid.works mid.lists mid.database.records
+      by_table : (e : Ended) → ended_table e (records_from (own_name rows.found rows.incoming) rows.yields ways mid.lists mid.works commit mid.database.records) mid.database.records
+          ≡ end_table (ground_by held ways rows.yields) (planned_from rows works calls commit) e mid.works mid.lists mid.database.records
       by_table Committed = refl
       by_table (Unwound fall failed) = refl
 
-      by_lists : (e : Ended) → ended_lists e (changes_from (own_name rows.found rows.incoming) rows.yields entries mid.lists mid.works commit) entries mid.lists
-          ≡ end_lists (ground_by held entries rows.yields) (planned_from rows works calls commit) e mid.works mid.lists
+      by_lists : (e : Ended) → ended_lists e (changes_from (own_name rows.found rows.incoming) rows.yields ways mid.lists mid.works commit) ways mid.lists
+          ≡ end_lists (ground_by held ways rows.yields) (planned_from rows works calls commit) e mid.works mid.lists
       by_lists Committed = refl
       by_lists (Unwound fall failed) = refl

@@ -12,7 +12,7 @@ use Rattle.status_db.specs.Held.{CanOpenRecords, HasRecords, IsKept, is_record_p
 use Rattle.status_db.specs.Recorded.{Recorded}
 use Rattle.status_records.specs.declared.record.Record.{Record}
 use Rattle.status_db.proofs.NotedWorlds.{place_differs, records_on}
-use Rattle.diversions.specs.declared.entry.Diversion.{Diversion}
+use Rattle.diversions.specs.Ways.{Ways}
 use Rattle.file_lists.specs.declared.paths.PackageList.{PackageList}
 use Rattle.unpack_commit.specs.Areas.{IsUntouched}
 use Rattle.unpack_commit.specs.Commit.{Changes, HasCommitted}
@@ -72,7 +72,7 @@ tmp_untouched c q spares elsewhere within =
       unnoted = (tmp_beside [] q within).unnoted;
     }
 
-pub committed_laid : (c : Changes) (entries : List Diversion) (lists : List PackageList) (after : List Record) (members : List Member) (v w : World) → SparesAdministration c.leaving → AreElsewhere c.names
-    → HasCommitted c entries lists after v w → AreLaidOut members v → AreLaidOut members w
-committed_laid c entries lists after members v w spares elsewhere has laid =
-    laid_elsewhere members v w (λ q within. committed_keeps c entries lists v after w q has (tmp_untouched c q spares elsewhere within)) laid
+pub committed_laid : (c : Changes) (ways : Ways) (lists : List PackageList) (after : List Record) (members : List Member) (v w : World) → SparesAdministration c.leaving → AreElsewhere c.names
+    → HasCommitted c ways lists after v w → AreLaidOut members v → AreLaidOut members w
+committed_laid c ways lists after members v w spares elsewhere has laid =
+    laid_elsewhere members v w (λ q within. committed_keeps c ways lists v after w q has (tmp_untouched c q spares elsewhere within)) laid

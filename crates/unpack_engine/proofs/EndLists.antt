@@ -200,9 +200,9 @@ module _ (G : Given) (stored : Present) (p : Planned) (plan : IsPlanned (job_of 
     lost = unit_losers (ground_of G places) p mid.works mid.lists
 
     abbrev losing : List Record
-    losing = losing_records G.entries taken lost mid.database.records
+    losing = losing_records G.ways taken lost mid.database.records
 
-    left : HasLeft (changes (ground_of G places) p mid.works mid.lists) (commit_records (ground_of G places) p mid.works mid.lists mid.database.records) G.entries mid.lists mid.database.records (length p.others) Committed last.world new.world
+    left : HasLeft (changes (ground_of G places) p mid.works mid.lists) (commit_records (ground_of G places) p mid.works mid.lists mid.database.records) G.ways mid.lists mid.database.records (length p.others) Committed last.world new.world
     left = out.leaves h
 
     -- the names
@@ -217,7 +217,7 @@ module _ (G : Given) (stored : Present) (p : Planned) (plan : IsPlanned (job_of 
     recorded_before : (q : List ℕ) → q ≢ own → Contains (record_names after.records) q → Contains names q
     recorded_before q ne is = elim (puts_named (losing ++ p.fresh ∷ []) mid.database.records q (subst (λ rs. Contains (record_names rs) q) out.records is)) [
       | inl noted_now ↦ elim (Contains-append_cases (record_names losing) (p.fresh.name ∷ []) q (subst (λ (l : List (List ℕ)). Contains l q) (map-append (λ (r : Record). r.name) losing (p.fresh ∷ [])) noted_now)) [
-        | inl loses ↦ both_recorded mid.database.records G.records q (other_mid q ne) (losing_named G.entries taken lost mid.database.records q loses)
+        | inl loses ↦ both_recorded mid.database.records G.records q (other_mid q ne) (losing_named G.ways taken lost mid.database.records q loses)
         | inr fresh ↦ absurd (ne (one_of p.fresh.name q fresh ∙ fresh_own))
       ]
       | inr there ↦ both_recorded mid.database.records G.records q (other_mid q ne) there
@@ -233,11 +233,11 @@ module _ (G : Given) (stored : Present) (p : Planned) (plan : IsPlanned (job_of 
     -- the lists
 
     lost_other : (q : List ℕ) → Contains lost q → q ≢ own
-    lost_other q loses = loser_other G.entries taken mid.lists own yields q loses
+    lost_other q loses = loser_other G.ways taken mid.lists own yields q loses
 
     lost_recorded : (q : List ℕ) → Contains lost q → Contains names q
     lost_recorded q loses =
-        let one = loser_lists G.entries taken mid.lists own yields q loses in
+        let one = loser_lists G.ways taken mid.lists own yields q loses in
         (has.sound q one.0 (subst (λ (l : List Path). Contains l one.0) (paths_mid out.ran.begun last mid Committed out.ran.rows_end q (lost_other q loses)) one.1)).0
 
     own_keeps : Contains lost own → ⊥
@@ -250,27 +250,27 @@ module _ (G : Given) (stored : Present) (p : Planned) (plan : IsPlanned (job_of 
     paths_renewed q ne = paths_with mid.lists own q p.new_list ∙ cond-false (bytes_eq q own) p.new_list (paths_of mid.lists q) (not_own q own ne) ∙ paths_mid out.ran.begun last mid Committed out.ran.rows_end q ne
 
     paths_spared_by : (q : List ℕ) → (Contains lost q → ⊥) → paths_of lists q ≡ paths_of renewed q
-    paths_spared_by q spared = ap (λ l. paths_of l q) out.lists_are ∙ paths_spared G.entries taken lost renewed q spared
+    paths_spared_by q spared = ap (λ l. paths_of l q) out.lists_are ∙ paths_spared G.ways taken lost renewed q spared
 
     end_own : IsListEnd old.world new.world names (record_names after.records) G.lists lists own
     end_own = IsListEnd.written p.new_list plan.lists_are.new_is.paths_are.room texts
-        (left.removed.rest (list_path own) refl ∙ own_list (changes (ground_of G places) p mid.works mid.lists) G.entries mid.lists last.world _ left.followed plan.names_are.elsewhere left.has_followed own_keeps)
+        (left.removed.rest (list_path own) refl ∙ own_list (changes (ground_of G places) p mid.works mid.lists) G.ways mid.lists last.world _ left.followed plan.names_are.elsewhere left.has_followed own_keeps)
         (paths_spared_by own own_keeps ∙ paths_with mid.lists own own p.new_list ∙ cond-true (bytes_eq own own) p.new_list (paths_of mid.lists own) ((bytes_eq-Decides own own).1 refl))
 
     end_lost : (q : List ℕ) → Contains lost q → IsListEnd old.world new.world names (record_names after.records) G.lists lists q
     end_lost q loses =
         let ne = lost_other q loses in
-        IsListEnd.written (left_paths G.entries taken q (paths_of G.lists q))
-        (all_from IsListable (left_paths G.entries taken q (paths_of G.lists q)) (λ x there. listed_can old.world new.world names (record_names after.records) G.lists lists has q x (among_kept _ (paths_of G.lists q) x there)))
-        (all_from IsUtf8 (left_paths G.entries taken q (paths_of G.lists q)) (λ x there. listed_texts old.world new.world names (record_names after.records) G.lists lists has q x (among_kept _ (paths_of G.lists q) x there)))
-        (left.removed.rest (list_path q) refl ∙ loser_list (changes (ground_of G places) p mid.works mid.lists) G.entries mid.lists last.world _ left.followed plan.names_are.elsewhere left.has_followed q loses
-        ∙ ap (λ (l : List Path). Some (list_file (left_paths G.entries taken q l))) (paths_renewed q ne))
-        (ap (λ l. paths_of l q) out.lists_are ∙ paths_taken G.entries taken lost renewed q loses ∙ ap (left_paths G.entries taken q) (paths_renewed q ne))
+        IsListEnd.written (left_paths G.ways taken q (paths_of G.lists q))
+        (all_from IsListable (left_paths G.ways taken q (paths_of G.lists q)) (λ x there. listed_can old.world new.world names (record_names after.records) G.lists lists has q x (among_kept _ (paths_of G.lists q) x there)))
+        (all_from IsUtf8 (left_paths G.ways taken q (paths_of G.lists q)) (λ x there. listed_texts old.world new.world names (record_names after.records) G.lists lists has q x (among_kept _ (paths_of G.lists q) x there)))
+        (left.removed.rest (list_path q) refl ∙ loser_list (changes (ground_of G places) p mid.works mid.lists) G.ways mid.lists last.world _ left.followed plan.names_are.elsewhere left.has_followed q loses
+        ∙ ap (λ (l : List Path). Some (list_file (left_paths G.ways taken q l))) (paths_renewed q ne))
+        (ap (λ l. paths_of l q) out.lists_are ∙ paths_taken G.ways taken lost renewed q loses ∙ ap (left_paths G.ways taken q) (paths_renewed q ne))
 
     end_other : (q : List ℕ) → q ≢ own → (Contains lost q → ⊥) → Contains names q → IsListEnd old.world new.world names (record_names after.records) G.lists lists q
     end_other q ne spared is = IsListEnd.stays is
         (left.removed.rest (list_path q) refl
-        ∙ other_list (changes (ground_of G places) p mid.works mid.lists) G.entries mid.lists last.world _ left.followed plan.names_are.elsewhere left.has_followed q plan.lists_are.spares ne spared
+        ∙ other_list (changes (ground_of G places) p mid.works mid.lists) G.ways mid.lists last.world _ left.followed plan.names_are.elsewhere left.has_followed q plan.lists_are.spares ne spared
         ∙ list_kept out.ran.begun last mid Committed out.ran.rows_end old (out.ran.begins_so (out.since.honest h)) (out.since.honest h) q ne)
         (paths_spared_by q spared ∙ paths_renewed q ne)
 
@@ -325,7 +325,7 @@ module _ (G : Given) (stored : Present) (p : Planned) (plan : IsPlanned (job_of 
     begins : BeginsAt (ground_of G places) p (last_place (ground_of G places) p (Unwound fall failed)) old.world rows_end.base
     begins = begun_at (ground_of G places) p (last_place (ground_of G places) p (Unwound fall failed)) old.world begun back_mid back (out.ran.begins_so hb) rows_end hb
 
-    gone : HasLeft (changes (ground_of G places) p back_mid.works back_mid.lists) (commit_records (ground_of G places) p back_mid.works back_mid.lists back_mid.database.records) G.entries back_mid.lists back_mid.database.records (length p.others) (Unwound fall failed) back.world new.world
+    gone : HasLeft (changes (ground_of G places) p back_mid.works back_mid.lists) (commit_records (ground_of G places) p back_mid.works back_mid.lists back_mid.database.records) G.ways back_mid.lists back_mid.database.records (length p.others) (Unwound fall failed) back.world new.world
     gone = out.leaves h
 
     -- the names

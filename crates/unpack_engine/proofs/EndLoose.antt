@@ -6,7 +6,7 @@ use Rattle.administration.specs.Places.{info_path, list_path}
 use Rattle.undo_rows.specs.declared.fall.Fall.{Fall}
 use Rattle.undo_rows.specs.declared.failed.Failed.{Failed}
 use Rattle.undo_rows.specs.Transcripts.{Ended, Committed, Unwound}
-use Rattle.diversions.specs.declared.entry.Diversion.{Diversion}
+use Rattle.diversions.specs.Ways.{Ways}
 use Rattle.file_lists.specs.Info.{AreLoose}
 use Rattle.file_lists.specs.declared.paths.PackageList.{PackageList}
 use Rattle.status_records.specs.Records.{record_in}
@@ -36,19 +36,19 @@ may_drop_loose true None name v w dropping loose = λ entry plain is.
 may_drop_loose true (Some r) name v w same loose = subst AreLoose (sym same) loose
 may_drop_loose false found name v w same loose = subst AreLoose (sym same) loose
 
-module _ (c : Changes) (records : List Record) (entries : List Diversion) (lists : List PackageList) (table : List Record) (others : ℕ) (old : World) where
-  pub followed_loose : (ended : Ended) (new : World) → HasFollowed c records entries lists table others ended old new → AreLoose old → AreLoose new
-  followed_loose Committed new has loose = info_loose c entries lists old (put_records records table) new has loose
+module _ (c : Changes) (records : List Record) (ways : Ways) (lists : List PackageList) (table : List Record) (others : ℕ) (old : World) where
+  pub followed_loose : (ended : Ended) (new : World) → HasFollowed c records ways lists table others ended old new → AreLoose old → AreLoose new
+  followed_loose Committed new has loose = info_loose c ways lists old (put_records records table) new has loose
   followed_loose (Unwound fall failed) new has loose = dropped_loose (nat_le others fall.row) (record_in table c.name) c.name old new has loose
 
-  pub left_loose : (ended : Ended) (new : World) → HasLeft c records entries lists table others ended old new → AreLoose old → AreLoose new
+  pub left_loose : (ended : Ended) (new : World) → HasLeft c records ways lists table others ended old new → AreLoose old → AreLoose new
   left_loose ended new left loose = laid_loose left.followed new left.removed.rest (followed_loose ended left.followed left.has_followed loose)
 
-  pub committed_leaving_loose : (now : World) → MayLeave c records entries lists table others Committed old now → AreLoose old → AreLoose now
-  committed_leaving_loose now (MayLeaveBy.following may) loose = info_loose_amid c entries lists old records table now may loose
+  pub committed_leaving_loose : (now : World) → MayLeave c records ways lists table others Committed old now → AreLoose old → AreLoose now
+  committed_leaving_loose now (MayLeaveBy.following may) loose = info_loose_amid c ways lists old records table now may loose
   committed_leaving_loose now (MayLeaveBy.clearing_away followed has opens laying) loose = laid_loose followed now laying.rest (followed_loose Committed followed has loose)
 
-  pub unwound_leaving_loose : (now : World) (fall : Fall) (failed : List Failed) → MayLeave c records entries lists table others (Unwound fall failed) old now → AreLoose old → AreLoose now
+  pub unwound_leaving_loose : (now : World) (fall : Fall) (failed : List Failed) → MayLeave c records ways lists table others (Unwound fall failed) old now → AreLoose old → AreLoose now
   unwound_leaving_loose now fall failed (MayLeaveBy.following may) loose = may_drop_loose (nat_le others fall.row) (record_in table c.name) c.name old now may loose
   unwound_leaving_loose now fall failed (MayLeaveBy.clearing_away followed has opens laying) loose =
       laid_loose followed now laying.rest (followed_loose (Unwound fall failed) followed has loose)

@@ -8,7 +8,7 @@ use Rattle.std.proofs.lemmas.List.Elements.{Contains-append_cases, Contains-appe
 use Rattle.std.proofs.lemmas.Slice.Eq.{bytes_eq-Decides}
 use Rattle.host_core.specs.Paths.{Path}
 use Rattle.host_core.proofs.Paths.{decide}
-use Rattle.diversions.specs.declared.entry.Diversion.{Diversion}
+use Rattle.diversions.specs.Ways.{Ways}
 use Rattle.status_records.specs.Records.{put_record, record_in}
 use Rattle.status_records.specs.declared.record.Record.{Record}
 use Rattle.status_records.proofs.Tables.{record_in-put_record}
@@ -97,5 +97,5 @@ mapped_kept f keep same (r ∷ rs) q has = by (keep r) (λ h. mapped_kept f keep
     ]
     by false rest there = Contains-append_right (r.name ∷ []) (record_names rs) q (rest there)
 
-pub losing_named : (entries : List Diversion) (places : List Path) (names : List (List ℕ)) (records : List Record) (q : List ℕ) → Contains (record_names (losing_records entries places names records)) q → Contains (record_names records) q
-losing_named entries places names records q has = mapped_kept (without_conffiles entries places) (λ r. list_any (bytes_eq r.name) names && loses_conffile entries places r) (λ r. refl) records q has
+pub losing_named : (ways : Ways) (places : List Path) (names : List (List ℕ)) (records : List Record) (q : List ℕ) → Contains (record_names (losing_records ways places names records)) q → Contains (record_names records) q
+losing_named ways places names records q has = mapped_kept (without_conffiles ways places) (λ r. list_any (bytes_eq r.name) names && loses_conffile ways places r) (λ r. refl) records q has

@@ -9,7 +9,7 @@ use Rattle.host_core.specs.Host.{State, Needs}
 use Rattle.administration.specs.Places.{home_path, info_path, list_path, tmp_path}
 use Rattle.undo_rows.specs.declared.rows.Called.{Called}
 use Rattle.undo_rows.specs.Transcripts.{Ended, Committed, Unwound}
-use Rattle.diversions.specs.declared.entry.Diversion.{Diversion}
+use Rattle.diversions.specs.Ways.{Ways}
 use Rattle.file_lists.specs.Info.{AreLoose}
 use Rattle.file_lists.specs.Lists.{HasLists}
 use Rattle.file_lists.specs.Writing.{IsListReady}
@@ -41,13 +41,13 @@ use Rattle.unpack_engine.proofs.Frames.{IsBeside, come_same}
 use Rattle.unpack_engine.proofs.Order.{info_there, there_directory}
 
 -- `info` is there yet after what follows the rows
-module _ (c : Changes) (records : List Record) (entries : List Diversion) (lists : List PackageList) (table : List Record) (others : ℕ) (old : World) (spares : SparesAdministration c.leaving) (elsewhere : AreElsewhere c.names) where
-  pub followed_info : (ended : Ended) (new : World) → HasFollowed c records entries lists table others ended old new → IsListReady c.name old → IsDirectory (new info_path)
-  followed_info Committed new has ready = (lists_still_ready c entries lists old spares elsewhere (put_records records table) new has c.name ready).info
+module _ (c : Changes) (records : List Record) (ways : Ways) (lists : List PackageList) (table : List Record) (others : ℕ) (old : World) (spares : SparesAdministration c.leaving) (elsewhere : AreElsewhere c.names) where
+  pub followed_info : (ended : Ended) (new : World) → HasFollowed c records ways lists table others ended old new → IsListReady c.name old → IsDirectory (new info_path)
+  followed_info Committed new has ready = (lists_still_ready c ways lists old spares elsewhere (put_records records table) new has c.name ready).info
   followed_info (Unwound fall failed) new has ready =
       subst IsDirectory (sym (dropped_same (nat_le others fall.row) (record_in table c.name) c.name old new info_path has ((info_is_no_list c.name).0))) ready.info
 
-  pub left_info : (ended : Ended) (new : World) → HasLeft c records entries lists table others ended old new → IsListReady c.name old → IsDirectory (new info_path)
+  pub left_info : (ended : Ended) (new : World) → HasLeft c records ways lists table others ended old new → IsListReady c.name old → IsDirectory (new info_path)
   left_info ended new left ready = subst IsDirectory (sym (left.removed.rest info_path refl)) (followed_info ended left.followed left.has_followed ready)
 
 -- while the rows ran no entry of `info` became a directory
@@ -65,12 +65,12 @@ module _ (g : Ground) (p : Planned) (named : is_package_name (package_name g p) 
 
   -- all but the lists, which others show
   module _ (spares : SparesAdministration p.leaving) (elsewhere : AreElsewhere p.names) (new : World)
-      (left : HasLeft (changes g p mid.works mid.lists) (commit_records g p mid.works mid.lists mid.database.records) g.entries mid.lists mid.database.records (length p.others) ended last.world new) where
+      (left : HasLeft (changes g p mid.works mid.lists) (commit_records g p mid.works mid.lists mid.database.records) g.ways mid.lists mid.database.records (length p.others) ended last.world new) where
     pub end_order : (after : Recorded) (lists : List PackageList) → IsKept after new → ∥ HasLists new (record_names after.records) lists ∥₁ → IsInOrder after lists new
     end_order after lists kept listed = record {
       home = there_directory (new home_path) kept.unblocked.home;
-      info = there_directory (new info_path) (left_info (changes g p mid.works mid.lists) (commit_records g p mid.works mid.lists mid.database.records) g.entries mid.lists mid.database.records (length p.others) last.world spares elsewhere ended new left ((at.world h).ready));
-      loose = left_loose (changes g p mid.works mid.lists) (commit_records g p mid.works mid.lists mid.database.records) g.entries mid.lists mid.database.records (length p.others) last.world ended new left rows_loose;
+      info = there_directory (new info_path) (left_info (changes g p mid.works mid.lists) (commit_records g p mid.works mid.lists mid.database.records) g.ways mid.lists mid.database.records (length p.others) last.world spares elsewhere ended new left ((at.world h).ready));
+      loose = left_loose (changes g p mid.works mid.lists) (commit_records g p mid.works mid.lists mid.database.records) g.ways mid.lists mid.database.records (length p.others) last.world ended new left rows_loose;
       tmp = left.removed.inside tmp_path refl;
       kept = kept;
       listed = listed;

@@ -8,7 +8,7 @@ use Rattle.std.proofs.lemmas.Slice.Eq.{bytes_eq-Decides}
 use Rattle.std.proofs.lemmas.List.Elements.{Contains-append_right}
 use Rattle.undo_rows.specs.Place.{Place, Forward, Ready, Back}
 use Rattle.undo_rows.specs.declared.failed.Failed.{Failed}
-use Rattle.diversions.specs.declared.entry.Diversion.{Diversion}
+use Rattle.diversions.specs.Ways.{Ways}
 use Rattle.host_core.specs.Paths.{Path}
 use Rattle.status_records.specs.Records.{AreStanding, drop_record, place_record, put_record, record_in}
 use Rattle.status_records.specs.Words.{is_not_installed}
@@ -205,9 +205,9 @@ module _ (names : List (List ℕ)) (own : List ℕ) (start : Option Record) (inc
 
 -- the records that lose conffiles keep their names
 
-all_without : (names : List (List ℕ)) (own : List ℕ) (entries : List Diversion) (places : List Path) (rs : List Record) → AllByRecursion (IsKnown names own) rs → AllByRecursion (IsKnown names own) (map (without_conffiles entries places) rs)
-all_without names own entries places [] all = tt
-all_without names own entries places (r ∷ rs) all = (record { stands = all.0.stands; named = all.0.named }, all_without names own entries places rs all.1)
+all_without : (names : List (List ℕ)) (own : List ℕ) (ways : Ways) (places : List Path) (rs : List Record) → AllByRecursion (IsKnown names own) rs → AllByRecursion (IsKnown names own) (map (without_conffiles ways places) rs)
+all_without names own ways places [] all = tt
+all_without names own ways places (r ∷ rs) all = (record { stands = all.0.stands; named = all.0.named }, all_without names own ways places rs all.1)
 
 pub found_known : (names : List (List ℕ)) (own : List ℕ) (rs : List Record) → AllByRecursion (IsKnown names own) rs → (q : List ℕ) (r : Record) → record_in rs q ≡ Some r → IsKnown names own r
 found_known names own rs all q r is = all_found (IsKnown names own) rs q r all is
@@ -217,8 +217,8 @@ pub recorded_known : (names : List (List ℕ)) (own : List ℕ) (table others : 
 recorded_known names own table [] recorded all = tt
 recorded_known names own table (r ∷ rs) recorded all = (found_known names own table all r.name r recorded.0, recorded_known names own table rs recorded.1 all)
 
-pub committed_known : (names : List (List ℕ)) (own : List ℕ) (entries : List Diversion) (places : List Path) (losing : List (List ℕ)) (table : List Record) (fresh : Record) → AllByRecursion (IsKnown names own) table → IsKnown names own fresh
-    → AllByRecursion (IsKnown names own) (put_records (losing_records entries places losing table ++ fresh ∷ []) table)
-committed_known names own entries places losing table fresh all here =
-    all_puts (IsKnown names own) (losing_records entries places losing table ++ fresh ∷ []) table
-    (all_then (IsKnown names own) (losing_records entries places losing table) (fresh ∷ []) (all_without names own entries places _ (all_filter (IsKnown names own) _ table all)) (here, tt)) all
+pub committed_known : (names : List (List ℕ)) (own : List ℕ) (ways : Ways) (places : List Path) (losing : List (List ℕ)) (table : List Record) (fresh : Record) → AllByRecursion (IsKnown names own) table → IsKnown names own fresh
+    → AllByRecursion (IsKnown names own) (put_records (losing_records ways places losing table ++ fresh ∷ []) table)
+committed_known names own ways places losing table fresh all here =
+    all_puts (IsKnown names own) (losing_records ways places losing table ++ fresh ∷ []) table
+    (all_then (IsKnown names own) (losing_records ways places losing table) (fresh ∷ []) (all_without names own ways places _ (all_filter (IsKnown names own) _ table all)) (here, tt)) all

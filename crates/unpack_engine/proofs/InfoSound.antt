@@ -176,7 +176,7 @@ no_link_member ms name stood is link = at (member_of ms name) (sym is ∙ link.1
 
 module _ (g : Ground) (p : Planned) (named : is_package_name (package_name g p) ≡ true) (works_named : Each IsNamed p.works) (spares : SparesAdministration p.leaving) (elsewhere : AreElsewhere p.names)
     (ended : Ended) (mid : Holding) (old : World) (begun last : State) (begins : Begins g p old begun.world) (at : At (task_from g p begun) mid last (last_place g p ended)) (h : IsTrue last.honest)
-    (new : World) (left : HasLeft (changes g p mid.works mid.lists) (commit_records g p mid.works mid.lists mid.database.records) g.entries mid.lists mid.database.records (length p.others) ended last.world new) where
+    (new : World) (left : HasLeft (changes g p mid.works mid.lists) (commit_records g p mid.works mid.lists mid.database.records) g.ways mid.lists mid.database.records (length p.others) ended last.world new) where
   abbrev own : List ℕ
   own = package_name g p
 
@@ -184,7 +184,7 @@ module _ (g : Ground) (p : Planned) (named : is_package_name (package_name g p) 
   c = changes g p mid.works mid.lists
 
   losers_named : (q : List ℕ) → Contains c.losers q → is_package_name q ≡ true
-  losers_named = loser_named g.entries (taken_places mid.works) mid.lists own g.yields
+  losers_named = loser_named g.ways (taken_places mid.works) mid.lists own g.yields
 
   -- where the rows and what follows them leave an entry as it was
 
@@ -202,9 +202,9 @@ module _ (g : Ground) (p : Planned) (named : is_package_name (package_name g p) 
   base_same entry aside = begun_beside g p place old at.base then (entry_path entry) refl
       (record { list = (aside.lists own (zero, omega arith, refl)).0; members = λ member is. (aside.members member is).0 })
 
-  followed_same : (entry : Path) → IsAside own c.losers entry → (e : Ended) (v w : World) → HasFollowed c (commit_records g p mid.works mid.lists mid.database.records) g.entries mid.lists mid.database.records (length p.others) e v w → w (entry_path entry) ≡ v (entry_path entry)
+  followed_same : (entry : Path) → IsAside own c.losers entry → (e : Ended) (v w : World) → HasFollowed c (commit_records g p mid.works mid.lists mid.database.records) g.ways mid.lists mid.database.records (length p.others) e v w → w (entry_path entry) ≡ v (entry_path entry)
   followed_same entry aside Committed v w has =
-      committed_keeps c g.entries mid.lists v (put_records (commit_records g p mid.works mid.lists mid.database.records) mid.database.records) w (entry_path entry) has (record {
+      committed_keeps c g.ways mid.lists v (put_records (commit_records g p mid.works mid.lists mid.database.records) mid.database.records) w (entry_path entry) has (record {
         stays = no_leaving_place p.leaving (entry_path entry) spares refl;
         uncleared = elsewhere (entry_path entry) refl;
         unlisted = aside.lists;
@@ -235,13 +235,13 @@ module _ (g : Ground) (p : Planned) (named : is_package_name (package_name g p) 
   base_link script (Some r) gone same before link =
       before r refl (subst IsLink (ap (λ (w : World). w (entry_path (stored_name own script))) same ∙ then.begins.lays (entry_path (stored_name own script)) refl) link)
 
-  followed_link : (script : Script) (e : Ended) (w : World) → HasFollowed c (commit_records g p mid.works mid.lists mid.database.records) g.entries mid.lists mid.database.records (length p.others) e last.world w
+  followed_link : (script : Script) (e : Ended) (w : World) → HasFollowed c (commit_records g p mid.works mid.lists mid.database.records) g.ways mid.lists mid.database.records (length p.others) e last.world w
       → (IsLink (last.world (entry_path (stored_name own script))) → ⊥) → IsLink (w (entry_path (stored_name own script))) → ⊥
   followed_link script Committed w has before link =
       let word = script_name script in
       let is = script_is_member script in
       no_link_member p.members word (w (stored_member_path own word))
-      (members_stored c g.entries mid.lists last.world (put_records (commit_records g p mid.works mid.lists mid.database.records) mid.database.records) w elsewhere has word is) link
+      (members_stored c g.ways mid.lists last.world (put_records (commit_records g p mid.works mid.lists mid.database.records) mid.database.records) w elsewhere has word is) link
   followed_link script (Unwound fall failed) w dropped before link =
       before (subst IsLink (dropped_same (nat_le (length p.others) fall.row) (record_in mid.database.records own) own last.world w (entry_path (stored_name own script)) dropped (no_list own own (script_name script) (script_is_member script))) link)
 

@@ -14,7 +14,7 @@ use Rattle.host_core.specs.World.{World}
 use Rattle.host_core.specs.declared.node.Node.{Node}
 use Rattle.host_core.specs.declared.node.Node.TheVariants.{File, Dir, Link}
 use Rattle.administration.specs.Places.{list_path}
-use Rattle.diversions.specs.declared.entry.Diversion.{Diversion}
+use Rattle.diversions.specs.Ways.{Ways}
 use Rattle.diversions.specs.Lines.{lines_in}
 use Rattle.file_lists.specs.Lists.{HasLists, IsGood, IsReadable, Lists, paths_in, root_line}
 use Rattle.file_lists.specs.Owners.{IsListable, paths_of}
@@ -45,31 +45,31 @@ none_has x has = absurd (omega (arith, has.1))
 
 -- what a name lists once places were taken from some
 
-module _ (entries : List Diversion) (places : List Path) where
-  without_is : (names : List (List ℕ)) (had : List PackageList) (n : List ℕ) → paths_of (without_all entries places names had) n ≡ cond (list_any (bytes_eq n) names) (left_paths entries places n (paths_of had n)) (paths_of had n)
+module _ (ways : Ways) (places : List Path) where
+  without_is : (names : List (List ℕ)) (had : List PackageList) (n : List ℕ) → paths_of (without_all ways places names had) n ≡ cond (list_any (bytes_eq n) names) (left_paths ways places n (paths_of had n)) (paths_of had n)
   without_is [] had n = refl
-  without_is (m ∷ ms) had n = without_is ms next n ∙ join (list_any (bytes_eq n) ms) (bytes_eq n m) refl (paths_with had m n (left_paths entries places m (paths_of had m)))
+  without_is (m ∷ ms) had n = without_is ms next n ∙ join (list_any (bytes_eq n) ms) (bytes_eq n m) refl (paths_with had m n (left_paths ways places m (paths_of had m)))
     where
       next : List PackageList
-      next = without_places entries places m had
+      next = without_places ways places m had
 
-      lefts : left_paths entries places n (paths_of next n) ≡ left_paths entries places n (paths_of had n)
-      lefts = lefts_step entries places had had next m (λ x. refl) refl n
+      lefts : left_paths ways places n (paths_of next n) ≡ left_paths ways places n (paths_of had n)
+      lefts = lefts_step ways places had had next m (λ x. refl) refl n
 
-      join : (a b : Bool) → bytes_eq n m ≡ b → paths_of next n ≡ cond b (left_paths entries places m (paths_of had m)) (paths_of had n)
-          → cond a (left_paths entries places n (paths_of next n)) (paths_of next n) ≡ cond (b || a) (left_paths entries places n (paths_of had n)) (paths_of had n)
+      join : (a b : Bool) → bytes_eq n m ≡ b → paths_of next n ≡ cond b (left_paths ways places m (paths_of had m)) (paths_of had n)
+          → cond a (left_paths ways places n (paths_of next n)) (paths_of next n) ≡ cond (b || a) (left_paths ways places n (paths_of had n)) (paths_of had n)
       join true true e is = lefts
       join true false e is = lefts
-      join false true e is = is ∙ ap (λ (x : List ℕ). left_paths entries places x (paths_of had x)) (sym ((bytes_eq-Decides n m).0 e))
+      join false true e is = is ∙ ap (λ (x : List ℕ). left_paths ways places x (paths_of had x)) (sym ((bytes_eq-Decides n m).0 e))
       join false false e is = is
 
-  pub paths_taken : (names : List (List ℕ)) (had : List PackageList) (n : List ℕ) → Contains names n → paths_of (without_all entries places names had) n ≡ left_paths entries places n (paths_of had n)
+  pub paths_taken : (names : List (List ℕ)) (had : List PackageList) (n : List ℕ) → Contains names n → paths_of (without_all ways places names had) n ≡ left_paths ways places n (paths_of had n)
   paths_taken names had n has = without_is names had n ∙ cond-true (list_any (bytes_eq n) names) _ _ (has_any names n has)
 
-  pub paths_spared : (names : List (List ℕ)) (had : List PackageList) (n : List ℕ) → (Contains names n → ⊥) → paths_of (without_all entries places names had) n ≡ paths_of had n
+  pub paths_spared : (names : List (List ℕ)) (had : List PackageList) (n : List ℕ) → (Contains names n → ⊥) → paths_of (without_all ways places names had) n ≡ paths_of had n
   paths_spared names had n hasnt = without_is names had n ∙ by (list_any (bytes_eq n) names) refl
     where
-      by : (b : Bool) → list_any (bytes_eq n) names ≡ b → cond b (left_paths entries places n (paths_of had n)) (paths_of had n) ≡ paths_of had n
+      by : (b : Bool) → list_any (bytes_eq n) names ≡ b → cond b (left_paths ways places n (paths_of had n)) (paths_of had n) ≡ paths_of had n
       by true is = absurd (hasnt (any_has names n is))
       by false is = refl
 

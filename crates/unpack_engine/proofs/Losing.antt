@@ -7,7 +7,7 @@ use Rattle.std.proofs.lemmas.List.Elements.{Contains-append_cases, Contains-appe
 use Rattle.std.proofs.lemmas.Slice.Eq.{bytes_eq-Decides}
 use Rattle.texts.specs.PackageNames.{is_package_name}
 use Rattle.host_core.specs.Paths.{Path}
-use Rattle.diversions.specs.declared.entry.Diversion.{Diversion}
+use Rattle.diversions.specs.Ways.{Ways}
 use Rattle.file_lists.specs.Owners.{paths_of}
 use Rattle.file_lists.specs.declared.paths.PackageList.{PackageList}
 use Rattle.unpack_commit.specs.Takeover.{is_at, losers}
@@ -35,7 +35,7 @@ kept_passes keep (x ∷ xs) y has = by (keep x) refl (λ h. kept_passes keep xs 
     by false is rest there = rest there
 
 -- a package that loses places is another one, by the name of a package, and lists a path
-module _ (entries : List Diversion) (places : List Path) (lists : List PackageList) (own : List ℕ) (yields : List (List ℕ)) (q : List ℕ) (has : Contains (losers entries places lists (yields_beside own yields)) q) where
+module _ (ways : Ways) (places : List Path) (lists : List PackageList) (own : List ℕ) (yields : List (List ℕ)) (q : List ℕ) (has : Contains (losers ways places lists (yields_beside own yields)) q) where
   parts : (is_package_name q ≡ true) × (not (bytes_eq q own) ≡ true)
   parts = and_parts (is_package_name q) (not (bytes_eq q own)) (kept_passes (is_other_package own) yields q (among_kept _ (yields_beside own yields) q has))
 
@@ -46,8 +46,8 @@ module _ (entries : List Diversion) (places : List Path) (lists : List PackageLi
   loser_other same = absurd (true≢false (sym parts.1 ∙ ap not ((bytes_eq-Decides q own).1 same)))
 
   pub loser_lists : (path : Path) × Contains (paths_of lists q) path
-  loser_lists = some_of (paths_of lists q) (kept_passes (λ name. list_any (is_at entries places name) (paths_of lists name)) (yields_beside own yields) q has)
+  loser_lists = some_of (paths_of lists q) (kept_passes (λ name. list_any (is_at ways places name) (paths_of lists name)) (yields_beside own yields) q has)
     where
-      some_of : (paths : List Path) → list_any (is_at entries places q) paths ≡ true → (path : Path) × Contains paths path
+      some_of : (paths : List Path) → list_any (is_at ways places q) paths ≡ true → (path : Path) × Contains paths path
       some_of [] any = absurd (true≢false (sym any))
       some_of (path ∷ rest) any = (path, (zero, omega arith, refl))

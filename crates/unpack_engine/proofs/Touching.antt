@@ -8,7 +8,7 @@ use Rattle.std.proofs.lemmas.Cmp.{nat_list_eq_equiv}
 use Rattle.std.proofs.lemmas.List.Folds.{list_any-append}
 use Rattle.std.proofs.lemmas.Slice.Eq.{bytes_eq-Decides}
 use Rattle.host_core.specs.Paths.{Path}
-use Rattle.diversions.specs.declared.entry.Diversion.{Diversion}
+use Rattle.diversions.specs.Ways.{Ways}
 use Rattle.status_records.specs.declared.record.Record.{Record}
 use Rattle.status_records.specs.Records.{AreApart, IsWithout, put_record, record_in}
 use Rattle.status_records.specs.Standings.{with_conffiles}
@@ -72,37 +72,37 @@ each_found : (rs : List Record) → AreApart rs → AllByRecursion (λ r. record
 each_found [] apart = tt
 each_found (r ∷ rs) apart = (found_here rs r r.name refl, widened r rs rs apart.0 (each_found rs apart.1))
 
-module _ (entries : List Diversion) (places : List Path) where
+module _ (ways : Ways) (places : List Path) where
   -- a record without conffiles that another one has isn't that other one
-  losing_other : (r s : Record) → r.conffiles ≡ s.conffiles → r.pending ≡ s.pending → loses_conffile entries places r ≡ true → without_conffiles entries places r ≢ s
+  losing_other : (r s : Record) → r.conffiles ≡ s.conffiles → r.pending ≡ s.pending → loses_conffile ways places r ≡ true → without_conffiles ways places r ≢ s
   losing_other r s same_conffiles same_pending loses e =
-      let conffiles : (without_conffiles entries places r).conffiles ≡ r.conffiles = ap (λ (x : Record). x.conffiles) e ∙ sym same_conffiles in
-      let pending : (without_conffiles entries places r).pending ≡ r.pending = ap (λ (x : Record). x.pending) e ∙ sym same_pending in
-      losing_differs entries places r loses
-      (ap (λ c. with_conffiles c (without_conffiles entries places r).pending r) conffiles ∙ ap (λ p. with_conffiles r.conffiles p r) pending)
+      let conffiles : (without_conffiles ways places r).conffiles ≡ r.conffiles = ap (λ (x : Record). x.conffiles) e ∙ sym same_conffiles in
+      let pending : (without_conffiles ways places r).pending ≡ r.pending = ap (λ (x : Record). x.pending) e ∙ sym same_pending in
+      losing_differs ways places r loses
+      (ap (λ c. with_conffiles c (without_conffiles ways places r).pending r) conffiles ∙ ap (λ p. with_conffiles r.conffiles p r) pending)
 
-module _ (entries : List Diversion) (places : List Path) (names : List Path) (others before table : List Record) (q : Path) (ends : EndsFor others before q (record_in table q)) where
+module _ (ways : Ways) (places : List Path) (names : List Path) (others before table : List Record) (q : Path) (ends : EndsFor others before q (record_in table q)) where
   abbrev Changed : Record → Type 0
   Changed r = r.name ≡ q → Some r ≢ record_in before q
 
   -- a record that loses conffiles is another one than that of before
-  one_changed : (r : Record) → record_in table q ≡ Some r → loses_conffile entries places r ≡ true → Some (without_conffiles entries places r) ≢ record_in before q
+  one_changed : (r : Record) → record_in table q ≡ Some r → loses_conffile ways places r ≡ true → Some (without_conffiles ways places r) ≢ record_in before q
   one_changed r found loses e = by ends
     where
       by : EndsFor others before q (record_in table q) → ⊥
-      by (EndsFor.stayed is) = losing_differs entries places r loses (some_same (without_conffiles entries places r) r (e ∙ sym is ∙ found))
+      by (EndsFor.stayed is) = losing_differs ways places r loses (some_same (without_conffiles ways places r) r (e ∙ sym is ∙ found))
       by (EndsFor.deconfigured s has named recorded is) =
           let same : r ≡ half_configured s = some_same r (half_configured s) (sym found ∙ is) in
-          losing_other entries places r s (ap (λ (x : Record). x.conffiles) same) (ap (λ (x : Record). x.pending) same) loses (some_same (without_conffiles entries places r) s (e ∙ recorded))
+          losing_other ways places r s (ap (λ (x : Record). x.conffiles) same) (ap (λ (x : Record). x.pending) same) loses (some_same (without_conffiles ways places r) s (e ∙ recorded))
 
-  losing_changed : (rs : List Record) → AllByRecursion (λ r. record_in table r.name ≡ Some r) rs → AllByRecursion Changed (losing_records entries places names rs)
+  losing_changed : (rs : List Record) → AllByRecursion (λ r. record_in table r.name ≡ Some r) rs → AllByRecursion Changed (losing_records ways places names rs)
   losing_changed [] all = tt
-  losing_changed (r ∷ rs) all = by (list_any (bytes_eq r.name) names && loses_conffile entries places r) refl (losing_changed rs all.1)
+  losing_changed (r ∷ rs) all = by (list_any (bytes_eq r.name) names && loses_conffile ways places r) refl (losing_changed rs all.1)
     where
-      by : (b : Bool) → list_any (bytes_eq r.name) names && loses_conffile entries places r ≡ b → AllByRecursion Changed (losing_records entries places names rs)
-          → AllByRecursion Changed (map (without_conffiles entries places) (cond b (r ∷ filter (λ x. list_any (bytes_eq x.name) names && loses_conffile entries places x) rs) (filter (λ x. list_any (bytes_eq x.name) names && loses_conffile entries places x) rs)))
+      by : (b : Bool) → list_any (bytes_eq r.name) names && loses_conffile ways places r ≡ b → AllByRecursion Changed (losing_records ways places names rs)
+          → AllByRecursion Changed (map (without_conffiles ways places) (cond b (r ∷ filter (λ x. list_any (bytes_eq x.name) names && loses_conffile ways places x) rs) (filter (λ x. list_any (bytes_eq x.name) names && loses_conffile ways places x) rs)))
       by true e rest = (
-        (λ named. one_changed r (ap (record_in table) (sym named) ∙ all.0) (both_second (list_any (bytes_eq r.name) names) (loses_conffile entries places r) e)),
+        (λ named. one_changed r (ap (record_in table) (sym named) ∙ all.0) (both_second (list_any (bytes_eq r.name) names) (loses_conffile ways places r) e)),
         rest,
       )
       by false e rest = rest
@@ -111,8 +111,8 @@ module _ (entries : List Diversion) (places : List Path) (names : List Path) (ot
   with_last [] r all here = (here, tt)
   with_last (s ∷ rs) r all here = (all.0, with_last rs r all.1 here)
 
-  pub noted_changed : (fresh : Record) (name : Path) → AreApart table → fresh.name ≡ name → q ≢ name → AllByRecursion Changed (losing_records entries places names table ++ fresh ∷ [])
-  noted_changed fresh name apart same other = with_last (losing_records entries places names table) fresh (losing_changed table (each_found table apart)) (λ e. absurd (other (sym e ∙ same)))
+  pub noted_changed : (fresh : Record) (name : Path) → AreApart table → fresh.name ≡ name → q ≢ name → AllByRecursion Changed (losing_records ways places names table ++ fresh ∷ [])
+  noted_changed fresh name apart same other = with_last (losing_records ways places names table) fresh (losing_changed table (each_found table apart)) (λ e. absurd (other (sym e ∙ same)))
 
 -- the packages that are half-configured then and weren't before
 module _ (before after : List Record) where

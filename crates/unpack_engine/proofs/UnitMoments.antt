@@ -14,7 +14,7 @@ use Rattle.undo_rows.specs.declared.rows.Row.{Row}
 use Rattle.undo_rows.specs.Transcripts.{Ended}
 use Rattle.control_members.specs.LaidOut.{IsLaying}
 use Rattle.control_members.proofs.LaidOut.{incoming_absent}
-use Rattle.diversions.specs.declared.entry.Diversion.{Diversion}
+use Rattle.diversions.specs.Ways.{Ways}
 use Rattle.file_lists.specs.declared.paths.PackageList.{PackageList}
 use Rattle.package_files.specs.declared.work.Work.{Work}
 use Rattle.held_administration.specs.declared.held.Administration.{Administration}
@@ -56,9 +56,9 @@ module _ (g : Ground) (j : Job) (p : Planned) (planned : IsPlanned j p) (before 
       (incoming_absent a.world (tree (first.honest h)) o.tmp) before o.kept same so_far now is) first
 
   module _ (c : State) (ended : Ended) (mid : Holding) (told now : List Called) (ran : HasRunRows (Begins g p) (task_from g p) p.rows ended mid a b told now) (silent : Silent b c)
-      (second : AtEachMoment (MayLeave (changes g p mid.works mid.lists) (commit_records g p mid.works mid.lists mid.database.records) g.entries mid.lists mid.database.records (length p.others) ended) b c) where
+      (second : AtEachMoment (MayLeave (changes g p mid.works mid.lists) (commit_records g p mid.works mid.lists mid.database.records) g.ways mid.lists mid.database.records (length p.others) ended) b c) where
     abbrev MayEnd : World → Type 0
-    MayEnd = MayLeave (changes g p mid.works mid.lists) (commit_records g p mid.works mid.lists mid.database.records) g.entries mid.lists mid.database.records (length p.others) ended b.world
+    MayEnd = MayLeave (changes g p mid.works mid.lists) (commit_records g p mid.works mid.lists mid.database.records) g.ways mid.lists mid.database.records (length p.others) ended b.world
 
     ends : (h : IsTrue c.honest) (so_far : List Event) (now : World) → MayEnd now × (scripts_of so_far ≡ []) → IsUnderWay g p a.world (run_moments.added ++ so_far) now
     ends h so_far now is =
@@ -74,24 +74,24 @@ module _ (g : Ground) (j : Job) (p : Planned) (planned : IsPlanned j p) (before 
         (since_weaker_if (λ so_far now. MayEnd now × (scripts_of so_far ≡ [])) (λ so_far. IsUnderWay g p a.world (run_moments.added ++ so_far)) b c ends (since_silent (λ so_far. MayEnd) b c silent second))
 
 -- by the parts of a plan
-module _ (held : Administration) (entries : List Diversion) (rows : Rows) (works : List Work) (calls : List Row) (commit : PlannedCommit)
+module _ (held : Administration) (ways : Ways) (rows : Rows) (works : List Work) (calls : List Row) (commit : PlannedCommit)
     (j : Job) (planned : IsPlanned j (planned_from rows works calls commit))
     (a b : State) (order : Needs a (IsInOrder held.database held.lists.lists)) (tree : Needs a IsTree) where
   abbrev own : Path
   own = own_name rows.found rows.incoming
 
   abbrev g : Ground
-  g = ground_by held entries rows.yields
+  g = ground_by held ways rows.yields
 
   abbrev p : Planned
   p = planned_from rows works calls commit
 
-  pub plan_begins : AtEachMomentOf (IsRunning (HasBegun commit.members) IsLaying (λ s. task_by s held entries works rows)) a b → AtEachMomentOf (IsUnderWay g p) a b
+  pub plan_begins : AtEachMomentOf (IsRunning (HasBegun commit.members) IsLaying (λ s. task_by s held ways works rows)) a b → AtEachMomentOf (IsUnderWay g p) a b
   plan_begins first = run_moments g j p planned held.database held.lists.lists refl a b order tree first
 
   pub plan_moments : (c : State) (ended : Ended) (mid : Holding) (told now : List Called)
-      → AtEachMomentOf (IsRunning (HasBegun commit.members) IsLaying (λ s. task_by s held entries works rows)) a b
-      → HasRunRows (HasBegun commit.members) (λ s. task_by s held entries works rows) calls ended mid a b told now → Silent b c
-      → AtEachMoment (MayLeave (changes_from own rows.yields entries mid.lists mid.works commit) (records_from own rows.yields entries mid.lists mid.works commit mid.database.records) entries mid.lists mid.database.records (length rows.others.items) ended) b c
+      → AtEachMomentOf (IsRunning (HasBegun commit.members) IsLaying (λ s. task_by s held ways works rows)) a b
+      → HasRunRows (HasBegun commit.members) (λ s. task_by s held ways works rows) calls ended mid a b told now → Silent b c
+      → AtEachMoment (MayLeave (changes_from own rows.yields ways mid.lists mid.works commit) (records_from own rows.yields ways mid.lists mid.works commit mid.database.records) ways mid.lists mid.database.records (length rows.others.items) ended) b c
       → AtEachMomentOf (IsUnderWay g p) a c
   plan_moments c ended mid told now first ran silent second = unit_moments g j p planned held.database held.lists.lists refl a b order tree first c ended mid told now ran silent second

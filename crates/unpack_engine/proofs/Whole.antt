@@ -10,7 +10,7 @@ use Rattle.undo_rows.specs.Place.{Fit}
 use Rattle.undo_rows.specs.Transcripts.{Ended, Committed, Unwound}
 use Rattle.control_members.specs.LaidOut.{AreLaidOut}
 use Rattle.control_members.proofs.LaidOut.{incoming_absent}
-use Rattle.diversions.specs.declared.entry.Diversion.{Diversion}
+use Rattle.diversions.specs.Ways.{Ways}
 use Rattle.file_lists.specs.Filed.{Filed}
 use Rattle.file_lists.specs.Info.{AreLoose}
 use Rattle.file_lists.specs.declared.paths.PackageList.{PackageList}
@@ -112,7 +112,7 @@ module _ (g : Ground) (j : Job) (p : Planned) (planned : IsPlanned j p) (d : Rec
       (incoming_absent old.world (tree (at_old h)) there'.tmp) mid ran.begun last (ran.begins_so h) h ended there
 
   pub noted_stand : AreStanding mid.database.records → AreStanding (commit_records g p mid.works mid.lists mid.database.records)
-  noted_stand standing = last_stands _ p.fresh (losing_stand g.entries (taken_places mid.works) _ mid.database.records standing) (ap is_not_installed planned.records_are.fresh_is.is.state_is)
+  noted_stand standing = last_stands _ p.fresh (losing_stand g.ways (taken_places mid.works) _ mid.database.records standing) (ap is_not_installed planned.records_are.fresh_is.is.state_is)
 
   -- which packages are touched
   pub rows_end_for : (q : Path) → q ≢ package_name g p → EndsFor p.others g.records q (record_in mid.database.records q)
@@ -130,7 +130,7 @@ module _ (g : Ground) (j : Job) (p : Planned) (planned : IsPlanned j p) (d : Rec
       → AreTold (package_name g p) (commit_records g p mid.works mid.lists mid.database.records ++ deconfigured after p.others) touched → IsTouched (package_name g p) g.records after touched
   committed_touched apart after touched is told =
       touched_by (package_name g p) p.others g.records mid.database.records after (commit_records g p mid.works mid.lists mid.database.records) there.sound.concerned.recorded rows_end_for
-      (λ q other. noted_changed g.entries (taken_places mid.works) _ p.others g.records mid.database.records q (rows_end_for q other) p.fresh (package_name g p) apart fresh_named other) is touched told
+      (λ q other. noted_changed g.ways (taken_places mid.works) _ p.others g.records mid.database.records q (rows_end_for q other) p.fresh (package_name g p) apart fresh_named other) is touched told
 
   pub unwound_touched : (after : List Record) (touched : List Path) → after ≡ mid.database.records → AreTold (package_name g p) (deconfigured after p.others) touched → IsTouched (package_name g p) g.records after touched
   unwound_touched after touched is told =
@@ -142,21 +142,21 @@ module _ (g : Ground) (j : Job) (p : Planned) (planned : IsPlanned j p) (d : Rec
   touched_ended (Unwound fall failed) apart after touched is told = unwound_touched after touched is told
 
 -- the same by the parts of a plan
-module _ (held : Administration) (entries : List Diversion) (rows : Rows) (works : List Work) (calls : List Row) (commit : PlannedCommit)
+module _ (held : Administration) (ways : Ways) (rows : Rows) (works : List Work) (calls : List Row) (commit : PlannedCommit)
     (plan : IsPlanBy held.database.records (planned_from rows works calls commit)) where
   abbrev own : Path
   own = own_name rows.found rows.incoming
 
   abbrev g : Ground
-  g = ground_by held entries rows.yields
+  g = ground_by held ways rows.yields
 
   abbrev p : Planned
   p = planned_from rows works calls commit
 
   abbrev noted_then : Holding → List Record
-  noted_then mid = records_from own rows.yields entries mid.lists mid.works commit mid.database.records
+  noted_then mid = records_from own rows.yields ways mid.lists mid.works commit mid.database.records
 
-  pub parts_sound : AreStanding held.database.records → (s : State) → IsSound (task_by s held entries works rows)
+  pub parts_sound : AreStanding held.database.records → (s : State) → IsSound (task_by s held ways works rows)
   parts_sound standing s = plan_sound g plan.job p plan.records_are plan.planned plan.others standing s
 
   pub parts_kinds : rows.kinds.items ≡ kinds_of rows.found rows.others.items
@@ -169,7 +169,7 @@ module _ (held : Administration) (entries : List Diversion) (rows : Rows) (works
   parts_length = plan_length g plan.job p plan.records_are plan.planned plan.others
 
   module _ (ended : Ended) (mid : Holding) (old last : State) (order : Needs old (IsInOrder held.database held.lists.lists)) (tree : Needs old IsTree) (told now : List Called)
-      (ran : HasRunRows (HasBegun commit.members) (λ s. task_by s held entries works rows) calls ended mid old last told now) where
+      (ran : HasRunRows (HasBegun commit.members) (λ s. task_by s held ways works rows) calls ended mid old last told now) where
     pub parts_info : Needs last (λ w. IsDirectory (w info_path))
     parts_info = last_info g plan.job p plan.planned held.database held.lists.lists old last order tree ended mid told now ran parts_length
 

@@ -17,7 +17,7 @@ use Rattle.undo_rows.specs.Telling.{Begun, HasRun}
 use Rattle.undo_rows.specs.Transcripts.{Ended, Committed, Unwound, MayRun}
 use Rattle.control_members.specs.LaidOut.{AreLaidOut, IsIncoming, IsLaying}
 use Rattle.control_members.specs.declared.member.Member.{Member}
-use Rattle.diversions.specs.declared.entry.Diversion.{Diversion}
+use Rattle.diversions.specs.Ways.{Ways}
 use Rattle.file_lists.specs.Increasing.{AreIncreasing}
 use Rattle.file_lists.specs.Info.{AreLoose}
 use Rattle.file_lists.specs.declared.paths.PackageList.{PackageList}
@@ -52,26 +52,26 @@ pub record Given : Type 0 where
   pub «package» : Package
   pub records : List Record
   pub lists : List PackageList
-  pub entries : List Diversion
+  pub ways : Ways
   pub others : List OtherPackage
   pub yields : List (List ℕ)
 
-abbrev pub given_beside : Package → List Record → List PackageList → List Diversion → List OtherPackage → List (List ℕ) → Given
-given_beside «package» records lists entries others yields =
-    record { «package» = «package»; records = records; lists = lists; entries = entries; others = others; yields = yields }
+abbrev pub given_beside : Package → List Record → List PackageList → Ways → List OtherPackage → List (List ℕ) → Given
+given_beside «package» records lists ways others yields =
+    record { «package» = «package»; records = records; lists = lists; ways = ways; others = others; yields = yields }
 
 -- what is held of the administration says so
-abbrev pub given_from : Package → Administration → List Diversion → List OtherPackage → List (List ℕ) → Given
-given_from «package» a entries others yields = given_beside «package» a.database.records a.lists.lists entries others yields
+abbrev pub given_from : Package → Administration → Ways → List OtherPackage → List (List ℕ) → Given
+given_from «package» a ways others yields = given_beside «package» a.database.records a.lists.lists ways others yields
 
 -- where no other package has a row or yields
-abbrev pub given : Package → List Record → List PackageList → List Diversion → Given
-given «package» records lists entries = given_beside «package» records lists entries [] []
+abbrev pub given : Package → List Record → List PackageList → Ways → Given
+given «package» records lists ways = given_beside «package» records lists ways [] []
 
 -- with the scripts of the old version that are stored
 abbrev pub job_of : Given → Present → Job
 job_of g stored =
-    record { «package» = g.«package»; records = g.records; lists = g.lists; entries = g.entries; stored = stored; others = g.others }
+    record { «package» = g.«package»; records = g.records; lists = g.lists; ways = g.ways; stored = stored; others = g.others }
 
 -- which scripts are stored with a package, by its record: without one none is looked for
 abbrev pub IsSeen : Option Record → List ℕ → World → Present → Type 0
@@ -113,13 +113,13 @@ pub data MayLeaveBy (follows may_follow : World → World → Type 0) (old now :
 
 -- what follows the rows, of which so many are of other packages: this commit with these records; or for a package that has no
 -- record now the end of its list
-module _ (c : Changes) (records : List Record) (entries : List Diversion) (lists : List PackageList) (table : List Record) (others : ℕ) where
+module _ (c : Changes) (records : List Record) (ways : Ways) (lists : List PackageList) (table : List Record) (others : ℕ) where
   abbrev pub HasFollowed : Ended → World → World → Type 0
-  HasFollowed Committed old new = HasCommitted c entries lists (put_records records table) old new
+  HasFollowed Committed old new = HasCommitted c ways lists (put_records records table) old new
   HasFollowed (Unwound fall failed) old new = HasDropped (nat_le others fall.row) (record_in table c.name) c.name old new
 
   abbrev pub MayFollow : Ended → World → World → Type 0
-  MayFollow Committed old now = MayCommit c entries lists records table old now
+  MayFollow Committed old now = MayCommit c ways lists records table old now
   MayFollow (Unwound fall failed) old now = MayDrop (nat_le others fall.row) (record_in table c.name) c.name old now
 
   -- and then `tmp.ci` goes
@@ -128,14 +128,14 @@ module _ (c : Changes) (records : List Record) (entries : List Diversion) (lists
 
   -- and of the old version's directories that could go only those stayed whose removal was declined
   abbrev pub HasLeftUnless : (declined : Path → Type 0) → Ended → World → World → Type 0
-  HasLeftUnless declined Committed = HasLeftBy (HasCommittedUnless c entries lists declined (put_records records table))
+  HasLeftUnless declined Committed = HasLeftBy (HasCommittedUnless c ways lists declined (put_records records table))
   HasLeftUnless declined (Unwound fall failed) = HasLeft (Unwound fall failed)
 
   abbrev pub MayLeave : Ended → World → World → Type 0
   MayLeave ended = MayLeaveBy (HasFollowed ended) (MayFollow ended)
 
   -- of the commit's records those that are noted so far: none before all else in it is done, and all behind it
-  abbrev pub noted_by_commit : (old now : World) → MayCommit c entries lists records table old now → List Record
+  abbrev pub noted_by_commit : (old now : World) → MayCommit c ways lists records table old now → List Record
   noted_by_commit old now (MayCommit.renewing may has opens) = []
   noted_by_commit old now (MayCommit.replacing renewed stale first may has opens) = []
   noted_by_commit old now (MayCommit.releasing renewed stored stale first second whole may has opens) = []
@@ -167,17 +167,17 @@ pub data IsRunning (begins may_begin : World → World → Type 0) (task : State
 pub record Ground : Type 0 where
   pub records : List Record
   pub lists : List PackageList
-  pub entries : List Diversion
+  pub ways : Ways
   pub places : List Path
   pub yields : List (List ℕ)
 
-abbrev pub ground : List Record → List PackageList → List Diversion → List Path → List (List ℕ) → Ground
-ground records lists entries places yields =
-    record { records = records; lists = lists; entries = entries; places = places; yields = yields }
+abbrev pub ground : List Record → List PackageList → Ways → List Path → List (List ℕ) → Ground
+ground records lists ways places yields =
+    record { records = records; lists = lists; ways = ways; places = places; yields = yields }
 
 -- that of an administration that is held
-abbrev pub ground_by : Administration → List Diversion → List (List ℕ) → Ground
-ground_by a entries yields = ground a.database.records a.lists.lists entries a.places yields
+abbrev pub ground_by : Administration → Ways → List (List ℕ) → Ground
+ground_by a ways yields = ground a.database.records a.lists.lists ways a.places yields
 
 module _ (g : Ground) (p : Planned) where
   abbrev pub package_name : List ℕ
@@ -193,7 +193,7 @@ module _ (g : Ground) (p : Planned) where
     start = start;
     records = g.records;
     lists = g.lists;
-    entries = g.entries;
+    ways = g.ways;
     places = g.places;
     found = p.found;
     incoming = p.incoming;
@@ -206,7 +206,7 @@ module _ (g : Ground) (p : Planned) where
 
   -- the packages that lose places to these works, by the lists as the rows left them
   abbrev pub unit_losers : List Work → List PackageList → List (List ℕ)
-  unit_losers works lists = losers g.entries (taken_places works) lists other_yields
+  unit_losers works lists = losers g.ways (taken_places works) lists other_yields
 
   -- what the commit does, beside the notes
   abbrev pub changes : List Work → List PackageList → Changes
@@ -222,7 +222,7 @@ module _ (g : Ground) (p : Planned) where
 
   -- what it notes: the records that lose conffiles, and the package's own last
   abbrev pub commit_records : List Work → List PackageList → List Record → List Record
-  commit_records works lists table = losing_records g.entries (taken_places works) (unit_losers works lists) table ++ p.fresh ∷ []
+  commit_records works lists table = losing_records g.ways (taken_places works) (unit_losers works lists) table ++ p.fresh ∷ []
 
   -- the records in the end, by how the rows ended and what they left
   abbrev pub end_table : Ended → List Work → List PackageList → List Record → List Record
@@ -231,23 +231,23 @@ module _ (g : Ground) (p : Planned) where
 
   -- the lists in the end
   abbrev pub end_lists : Ended → List Work → List PackageList → List PackageList
-  end_lists Committed works lists = committed_lists (changes works lists) g.entries lists
+  end_lists Committed works lists = committed_lists (changes works lists) g.ways lists
   end_lists (Unwound fall failed) works lists = lists
 
   -- what follows rows that left these works, lists and records: the commit, or the end of what they brought
   abbrev pub HasLeftFrom : Ended → List Work → List PackageList → List Record → World → World → Type 0
-  HasLeftFrom ended works lists table = HasLeft (changes works lists) (commit_records works lists table) g.entries lists table (length p.others) ended
+  HasLeftFrom ended works lists table = HasLeft (changes works lists) (commit_records works lists table) g.ways lists table (length p.others) ended
 
   abbrev pub HasLeftUnlessFrom : (declined : Path → Type 0) → Ended → List Work → List PackageList → List Record → World → World → Type 0
   HasLeftUnlessFrom declined ended works lists table =
-      HasLeftUnless (changes works lists) (commit_records works lists table) g.entries lists table (length p.others) declined ended
+      HasLeftUnless (changes works lists) (commit_records works lists table) g.ways lists table (length p.others) declined ended
 
   abbrev pub MayLeaveFrom : Ended → List Work → List PackageList → List Record → World → World → Type 0
-  MayLeaveFrom ended works lists table = MayLeave (changes works lists) (commit_records works lists table) g.entries lists table (length p.others) ended
+  MayLeaveFrom ended works lists table = MayLeave (changes works lists) (commit_records works lists table) g.ways lists table (length p.others) ended
 
   -- of the commit's records those that are noted so far
   abbrev pub noted_from : (ended : Ended) (works : List Work) (lists : List PackageList) (table : List Record) (old now : World) → MayLeaveFrom ended works lists table old now → List Record
-  noted_from ended works lists table = noted_so_far (changes works lists) (commit_records works lists table) g.entries lists table (length p.others) ended
+  noted_from ended works lists table = noted_so_far (changes works lists) (commit_records works lists table) g.ways lists table (length p.others) ended
 
   -- where its rows end
   abbrev pub last_place : Ended → Place
@@ -311,7 +311,7 @@ module _ (g : Ground) (p : Planned) where
 
 -- no path clashes with packages of which only conffiles are left, nor with those that are given
 abbrev pub ground_of : Given → List Path → Ground
-ground_of g places = ground g.records g.lists g.entries places (yields_of g.records ++ g.yields)
+ground_of g places = ground g.records g.lists g.ways places (yields_of g.records ++ g.yields)
 
 -- a plan by these records, of some package and other packages that have rows beside it
 pub record IsPlanBy (records : List Record) (plan : Planned) : Type 0 where

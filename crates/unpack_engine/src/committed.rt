@@ -70,11 +70,11 @@ pub(crate) fn committing_of(
     commit: PlannedCommit,
 ) -> Result<Committing, AllocError>
     ensures change { IfOk result (λ c. changes_of c.change c.new_list
-        ≡ changes_from name.now yields.now diversions.now.entries lists.now.lists works.now
+        ≡ changes_from name.now yields.now diversions.now.ways lists.now.lists works.now
         commit) }
     ensures members { IfOk result (λ c. c.change.members ≡ commit.members) }
     ensures records { IfOk result (λ c. c.records.items
-        ≡ records_from name.now yields.now diversions.now.entries lists.now.lists works.now commit
+        ≡ records_from name.now yields.now diversions.now.ways lists.now.lists works.now commit
         database.now.records) }
 {
     let others = yields_beside(alloc, name, yields)?;
@@ -124,19 +124,19 @@ pub(crate) fn end_committed<H: Host>(
     ensures lists { OnOk result (lists.new
         ≡ record lists.old {
           lists = committed_lists
-              (changes_of change.now new_list) diversions.now.entries lists.old.lists;
+              (changes_of change.now new_list) diversions.now.ways lists.old.lists;
         }) }
     ensures records { OnOk result (database.new.records
         ≡ put_records records.now database.old.records) }
     ensures opened { OnOk result (database.new.closed ≡ false) }
     ensures left { Leaves result
         (HasLeftBy (HasCommitted
-        (changes_of change.now new_list) diversions.now.entries lists.old.lists
+        (changes_of change.now new_list) diversions.now.ways lists.old.lists
         (put_records records.now database.old.records)))
         (H.state host.old) (H.state host.new) }
     ensures stays { Leaves result
         (HasLeftBy (HasCommittedUnless
-        (changes_of change.now new_list) diversions.now.entries lists.old.lists
+        (changes_of change.now new_list) diversions.now.ways lists.old.lists
         (WasDenied (H.state host.old) (H.state host.new))
         (put_records records.now database.old.records)))
         (H.state host.old) (H.state host.new) }
@@ -145,10 +145,10 @@ pub(crate) fn end_committed<H: Host>(
     ensures any_moment { AtEachMoment
         (MayLeaveBy
         (HasCommitted
-        (changes_of change.now new_list) diversions.now.entries lists.old.lists
+        (changes_of change.now new_list) diversions.now.ways lists.old.lists
         (put_records records.now database.old.records))
         (MayCommit
-        (changes_of change.now new_list) diversions.now.entries lists.old.lists records.now
+        (changes_of change.now new_list) diversions.now.ways lists.old.lists records.now
         database.old.records))
         (H.state host.old) (H.state host.new) }
     ensures silent { Silent (H.state host.old) (H.state host.new) }

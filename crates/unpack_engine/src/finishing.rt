@@ -108,7 +108,7 @@ fn finish_ready<H: Host>(
     ensures lists { OnOk result (lists.new
         ≡ record lists.old {
           lists = committed_lists
-              (changes_of committing.change committing.new_list) diversions.now.entries
+              (changes_of committing.change committing.new_list) diversions.now.ways
               lists.old.lists;
         }) }
     ensures records { OnOk result (database.new.records
@@ -116,12 +116,12 @@ fn finish_ready<H: Host>(
     ensures opened { OnOk result (database.new.closed ≡ false) }
     ensures left { Leaves result
         (HasLeftBy (HasCommitted
-        (changes_of committing.change committing.new_list) diversions.now.entries
+        (changes_of committing.change committing.new_list) diversions.now.ways
         lists.old.lists (put_records committing.records.items database.old.records)))
         (H.state host.old) (H.state host.new) }
     ensures stays { Leaves result
         (HasLeftBy (HasCommittedUnless
-        (changes_of committing.change committing.new_list) diversions.now.entries
+        (changes_of committing.change committing.new_list) diversions.now.ways
         lists.old.lists (WasDenied (H.state host.old) (H.state host.new))
         (put_records committing.records.items database.old.records)))
         (H.state host.old) (H.state host.new) }
@@ -130,10 +130,10 @@ fn finish_ready<H: Host>(
     ensures any_moment { AtEachMoment
         (MayLeaveBy
         (HasCommitted
-        (changes_of committing.change committing.new_list) diversions.now.entries
+        (changes_of committing.change committing.new_list) diversions.now.ways
         lists.old.lists (put_records committing.records.items database.old.records))
         (MayCommit
-        (changes_of committing.change committing.new_list) diversions.now.entries
+        (changes_of committing.change committing.new_list) diversions.now.ways
         lists.old.lists committing.records.items database.old.records))
         (H.state host.old) (H.state host.new) }
     ensures silent { Silent (H.state host.old) (H.state host.new) }
@@ -173,49 +173,49 @@ fn finish_committed<H: Host>(
     requires spared { SparesAdministration commit.leaving.items }
     requires paths { AreListPaths commit.new_list }
     requires elsewhere { AreElsewhere commit.names.items }
-    requires stands { AreStanding (records_from name.now yields.now diversions.now.entries
+    requires stands { AreStanding (records_from name.now yields.now diversions.now.ways
         lists.old.lists works.now commit database.old.records) }
     requires info { Needs (H.state host.old) (λ w. IsDirectory (w info_path)) }
     requires loose { Needs (H.state host.old) AreLoose }
     requires kept { Needs (H.state host.old) (IsKept database.old) }
     requires laid { Needs (H.state host.old) (AreLaidOut commit.members) }
     ensures told { IfOk result (AreTold name.now (records_from name.now yields.now
-        diversions.now.entries lists.old.lists works.now commit database.old.records
+        diversions.now.ways lists.old.lists works.now commit database.old.records
         ++ deconfigured database.new.records others.now)) }
     ensures lists { OnOk result (lists.new ≡ record lists.old {
-      lists = committed_lists (changes_from name.now yields.now diversions.now.entries
-          lists.old.lists works.now commit) diversions.now.entries lists.old.lists;
+      lists = committed_lists (changes_from name.now yields.now diversions.now.ways
+          lists.old.lists works.now commit) diversions.now.ways lists.old.lists;
     }) }
     ensures records { OnOk result (database.new.records
         ≡ put_records
-        (records_from name.now yields.now diversions.now.entries lists.old.lists works.now commit
+        (records_from name.now yields.now diversions.now.ways lists.old.lists works.now commit
         database.old.records)
         database.old.records) }
     ensures opened { OnOk result (database.new.closed ≡ false) }
     ensures left { Leaves result
         (HasLeft
-        (changes_from name.now yields.now diversions.now.entries lists.old.lists works.now commit)
-        (records_from name.now yields.now diversions.now.entries lists.old.lists works.now commit
+        (changes_from name.now yields.now diversions.now.ways lists.old.lists works.now commit)
+        (records_from name.now yields.now diversions.now.ways lists.old.lists works.now commit
         database.old.records)
-        diversions.now.entries lists.old.lists database.old.records (length others.now)
+        diversions.now.ways lists.old.lists database.old.records (length others.now)
         Committed)
         (H.state host.old) (H.state host.new) }
     ensures stays { Leaves result
         (HasLeftUnless
-        (changes_from name.now yields.now diversions.now.entries lists.old.lists works.now commit)
-        (records_from name.now yields.now diversions.now.entries lists.old.lists works.now commit
+        (changes_from name.now yields.now diversions.now.ways lists.old.lists works.now commit)
+        (records_from name.now yields.now diversions.now.ways lists.old.lists works.now commit
         database.old.records)
-        diversions.now.entries lists.old.lists database.old.records (length others.now)
+        diversions.now.ways lists.old.lists database.old.records (length others.now)
         (WasDenied (H.state host.old) (H.state host.new)) Committed)
         (H.state host.old) (H.state host.new) }
     ensures kept { Leaves result
         (λ old new. IsKept database.new new) (H.state host.old) (H.state host.new) }
     ensures any_moment { AtEachMoment
         (MayLeave
-        (changes_from name.now yields.now diversions.now.entries lists.old.lists works.now commit)
-        (records_from name.now yields.now diversions.now.entries lists.old.lists works.now commit
+        (changes_from name.now yields.now diversions.now.ways lists.old.lists works.now commit)
+        (records_from name.now yields.now diversions.now.ways lists.old.lists works.now commit
         database.old.records)
-        diversions.now.entries lists.old.lists database.old.records (length others.now)
+        diversions.now.ways lists.old.lists database.old.records (length others.now)
         Committed)
         (H.state host.old) (H.state host.new) }
     ensures silent { Silent (H.state host.old) (H.state host.new) }
@@ -251,7 +251,7 @@ pub(crate) fn finish<H: Host>(
     requires paths { AreListPaths commit.new_list }
     requires elsewhere { AreElsewhere commit.names.items }
     requires stands { AreStanding (records_from
-        (own_name rows.now.found rows.now.incoming) rows.now.yields diversions.now.entries
+        (own_name rows.now.found rows.now.incoming) rows.now.yields diversions.now.ways
         lists.old.lists works.now commit database.old.records) }
     requires info { Needs (H.state host.old) (λ w. IsDirectory (w info_path)) }
     requires loose { Needs (H.state host.old) AreLoose }
@@ -263,7 +263,7 @@ pub(crate) fn finish<H: Host>(
         (ended_records
         (ended_as unwinding)
         (records_from
-        (own_name rows.now.found rows.now.incoming) rows.now.yields diversions.now.entries
+        (own_name rows.now.found rows.now.incoming) rows.now.yields diversions.now.ways
         lists.old.lists works.now commit database.old.records)
         ++ deconfigured database.new.records rows.now.others.items)
         u.touched) }
@@ -272,38 +272,38 @@ pub(crate) fn finish<H: Host>(
           lists = ended_lists
               (ended_as unwinding)
               (changes_from
-              (own_name rows.now.found rows.now.incoming) rows.now.yields diversions.now.entries
+              (own_name rows.now.found rows.now.incoming) rows.now.yields diversions.now.ways
               lists.old.lists works.now commit)
-              diversions.now.entries lists.old.lists;
+              diversions.now.ways lists.old.lists;
         }) }
     ensures records { OnOk result (database.new.records
         ≡ ended_table
         (ended_as unwinding)
         (records_from
-        (own_name rows.now.found rows.now.incoming) rows.now.yields diversions.now.entries
+        (own_name rows.now.found rows.now.incoming) rows.now.yields diversions.now.ways
         lists.old.lists works.now commit database.old.records)
         database.old.records) }
     ensures opened { OnOk result (database.new.closed ≡ false) }
     ensures left { Leaves result
         (HasLeft
         (changes_from
-        (own_name rows.now.found rows.now.incoming) rows.now.yields diversions.now.entries
+        (own_name rows.now.found rows.now.incoming) rows.now.yields diversions.now.ways
         lists.old.lists works.now commit)
         (records_from
-        (own_name rows.now.found rows.now.incoming) rows.now.yields diversions.now.entries
+        (own_name rows.now.found rows.now.incoming) rows.now.yields diversions.now.ways
         lists.old.lists works.now commit database.old.records)
-        diversions.now.entries lists.old.lists database.old.records
+        diversions.now.ways lists.old.lists database.old.records
         (length rows.now.others.items) (ended_as unwinding))
         (H.state host.old) (H.state host.new) }
     ensures stays { Leaves result
         (HasLeftUnless
         (changes_from
-        (own_name rows.now.found rows.now.incoming) rows.now.yields diversions.now.entries
+        (own_name rows.now.found rows.now.incoming) rows.now.yields diversions.now.ways
         lists.old.lists works.now commit)
         (records_from
-        (own_name rows.now.found rows.now.incoming) rows.now.yields diversions.now.entries
+        (own_name rows.now.found rows.now.incoming) rows.now.yields diversions.now.ways
         lists.old.lists works.now commit database.old.records)
-        diversions.now.entries lists.old.lists database.old.records
+        diversions.now.ways lists.old.lists database.old.records
         (length rows.now.others.items) (WasDenied (H.state host.old) (H.state host.new))
         (ended_as unwinding))
         (H.state host.old) (H.state host.new) }
@@ -312,12 +312,12 @@ pub(crate) fn finish<H: Host>(
     ensures any_moment { AtEachMoment
         (MayLeave
         (changes_from
-        (own_name rows.now.found rows.now.incoming) rows.now.yields diversions.now.entries
+        (own_name rows.now.found rows.now.incoming) rows.now.yields diversions.now.ways
         lists.old.lists works.now commit)
         (records_from
-        (own_name rows.now.found rows.now.incoming) rows.now.yields diversions.now.entries
+        (own_name rows.now.found rows.now.incoming) rows.now.yields diversions.now.ways
         lists.old.lists works.now commit database.old.records)
-        diversions.now.entries lists.old.lists database.old.records
+        diversions.now.ways lists.old.lists database.old.records
         (length rows.now.others.items) (ended_as unwinding))
         (H.state host.old) (H.state host.new) }
     ensures silent { Silent (H.state host.old) (H.state host.new) }

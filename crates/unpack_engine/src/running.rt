@@ -36,7 +36,7 @@ pub(crate) fn begin_and_run<H: Host>(
     told: &mut Vec<Called>,
 ) -> Result<Option<Unwinding>, HostFault>
     requires open { CanWrite administration.old }
-    requires sound { IsSound (task_by (H.state host.old) administration.old diversions.now.entries
+    requires sound { IsSound (task_by (H.state host.old) administration.old diversions.now.ways
         works.old.items rows.now) }
     requires kinds { rows.now.kinds.items ≡ (kinds_of rows.now.found rows.now.others.items) }
     requires rows { Fit
@@ -48,7 +48,7 @@ pub(crate) fn begin_and_run<H: Host>(
     requires order { Needs (H.state host.old)
         (IsInOrder administration.old.database administration.old.lists.lists) }
     ensures ran { IfOk result (λ u. HasRunRows (HasBegun members.now)
-        (λ s. task_by s administration.old diversions.now.entries works.old.items rows.now)
+        (λ s. task_by s administration.old diversions.now.ways works.old.items rows.now)
         calls.items (ended_as u) (holding_by administration.new works.new.items)
         (H.state host.old) (H.state host.new) told.old.items told.new.items) }
     ensures cause { IfOk result (IsCauseOf calls.items) }
@@ -57,7 +57,7 @@ pub(crate) fn begin_and_run<H: Host>(
     ensures told { HasCalledRows calls.items
         (H.state host.old) (H.state host.new) told.old.items told.new.items }
     ensures any_moment { AtEachMomentOf (IsRunning (HasBegun members.now) IsLaying
-        (λ s. task_by s administration.old diversions.now.entries works.old.items rows.now))
+        (λ s. task_by s administration.old diversions.now.ways works.old.items rows.now))
         (H.state host.old) (H.state host.new) }
     ensures apart { WorksApart result is_record_place (H.state host.old) (H.state host.new) }
     ensures counts { Counts (H.state host.old) (H.state host.new) result }

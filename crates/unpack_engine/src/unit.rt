@@ -39,7 +39,7 @@ fn carry_out<H: Host>(
     requires order { Needs (H.state host.old)
         (IsInOrder administration.old.database administration.old.lists.lists) }
     ensures unit { IfOk result (λ u. HasCarriedOut
-        (ground_by administration.old diversions.now.entries plan.rows.yields)
+        (ground_by administration.old diversions.now.ways plan.rows.yields)
         (planned plan) (ended_as u.unwinding)
         administration.new.database administration.new.lists.lists
         (H.state host.old) (H.state host.new) told.old.items told.new.items) }
@@ -56,7 +56,7 @@ fn carry_out<H: Host>(
     ensures open { OnOk result (CanWrite administration.new) }
     ensures any_moment { AtEachMomentOf
         (IsUnderWay
-        (ground_by administration.old diversions.now.entries plan.rows.yields)
+        (ground_by administration.old diversions.now.ways plan.rows.yields)
         (planned plan))
         (H.state host.old) (H.state host.new) }
     ensures apart { WorksApart result is_record_place (H.state host.old) (H.state host.new) }
@@ -107,7 +107,7 @@ fn plan_unit<H: Host>(
     others: Others,
 ) -> Result<Plan, HostFault>
     ensures planned { IfOk result (λ plan. IsPlanFor
-        (given_from incoming administration.now diversions.now.entries
+        (given_from incoming administration.now diversions.now.ways
         others.packages.items others.yields)
         (H.state host.old).world (H.state host.new).honest (planned plan)) }
     ensures yields { IfOk result (λ plan. plan.rows.yields
@@ -144,13 +144,13 @@ fn plan_and_carry_out<H: Host>(
     requires others { AreOthers incoming.name administration.old.database.records
         others.packages.items }
     ensures unit { IfOk result (λ u. HasUnpacked
-        (given_from incoming administration.old diversions.now.entries
+        (given_from incoming administration.old diversions.now.ways
         others.packages.items others.yields)
         administration.old.places (ended_as u.unwinding)
         administration.new.database administration.new.lists.lists
         (H.state host.old) (H.state host.new) told.old.items told.new.items) }
     ensures cause { IfOk result (λ u. HasFailedFor
-        (given_from incoming administration.old diversions.now.entries
+        (given_from incoming administration.old diversions.now.ways
         others.packages.items others.yields)
         (H.state host.old) (H.state host.new) u.unwinding) }
     ensures denied { IfOk result (λ u. IfSome u.unwinding
@@ -158,7 +158,7 @@ fn plan_and_carry_out<H: Host>(
     ensures touched { IfOk result (λ u. IsTouched incoming.name
         administration.old.database.records administration.new.database.records u.touched) }
     ensures told { HasCalled
-        (given_from incoming administration.old diversions.now.entries
+        (given_from incoming administration.old diversions.now.ways
         others.packages.items others.yields)
         (H.state host.old) (H.state host.new) told.old.items told.new.items }
     ensures order { IfOk result (λ u. Needs
@@ -167,7 +167,7 @@ fn plan_and_carry_out<H: Host>(
     ensures open { OnOk result (CanWrite administration.new) }
     ensures any_moment { AtEachMomentOf
         (IsAmidUnit
-        (given_from incoming administration.old diversions.now.entries
+        (given_from incoming administration.old diversions.now.ways
         others.packages.items others.yields)
         administration.old.places)
         (H.state host.old) (H.state host.new) }
@@ -190,12 +190,13 @@ const FEW_PATHS: usize = 30;
 fn index_where_many(
     alloc: Global,
     lists: &mut FileLists,
+    diversions: &Diversions,
     incoming: &Package,
 ) -> Result<(), AllocError>
     ensures { lists.new ≡ lists.old }
 {
     if incoming.files.as_slice().len() > FEW_PATHS {
-        lists.index(alloc)?;
+        lists.index(alloc, diversions)?;
     }
     Ok(())
 }
@@ -216,13 +217,13 @@ pub fn unpack<H: Host>(
     requires others { AreOthers incoming.name administration.old.database.records
         others.packages.items }
     ensures unit { IfOk result (λ u. HasUnpacked
-        (given_from incoming administration.old diversions.now.entries
+        (given_from incoming administration.old diversions.now.ways
         others.packages.items others.yields)
         administration.old.places (ended_as u.unwinding)
         administration.new.database administration.new.lists.lists
         (H.state host.old) (H.state host.new) told.old.items told.new.items) }
     ensures cause { IfOk result (λ u. HasFailedFor
-        (given_from incoming administration.old diversions.now.entries
+        (given_from incoming administration.old diversions.now.ways
         others.packages.items others.yields)
         (H.state host.old) (H.state host.new) u.unwinding) }
     ensures denied { IfOk result (λ u. IfSome u.unwinding
@@ -230,7 +231,7 @@ pub fn unpack<H: Host>(
     ensures touched { IfOk result (λ u. IsTouched incoming.name
         administration.old.database.records administration.new.database.records u.touched) }
     ensures told { HasCalled
-        (given_from incoming administration.old diversions.now.entries
+        (given_from incoming administration.old diversions.now.ways
         others.packages.items others.yields)
         (H.state host.old) (H.state host.new) told.old.items told.new.items }
     ensures order { IfOk result (λ u. Needs
@@ -239,13 +240,14 @@ pub fn unpack<H: Host>(
     ensures open { OnOk result (CanWrite administration.new) }
     ensures any_moment { AtEachMomentOf
         (IsAmidUnit
-        (given_from incoming administration.old diversions.now.entries
+        (given_from incoming administration.old diversions.now.ways
         others.packages.items others.yields)
         administration.old.places)
         (H.state host.old) (H.state host.new) }
     ensures apart { WorksApart result is_record_place (H.state host.old) (H.state host.new) }
     ensures counts { Counts (H.state host.old) (H.state host.new) result }
 {
-    index_where_many(administration.alloc, &mut administration.lists, &incoming)?;
+    let alloc = administration.alloc;
+    index_where_many(alloc, &mut administration.lists, diversions, &incoming)?;
     plan_and_carry_out(host, administration, diversions, incoming, others, told)
 }

@@ -124,15 +124,15 @@ module _ (g : Ground) (p : Planned) where
           each_list moved n (suc k, lt, is) = aside.unlost works begun stage moved n (k, omega (arith, lt), is)
 
       module _ (table : List Record) where
-        may_follow_same : (e : Ended) → AreMoved e works → (v w : World) → MayFollow (changes g p works lists) (commit_records g p works lists table) g.entries lists table (length p.others) e v w → w q ≡ v q
-        may_follow_same Committed moved v w may = committing_keeps (changes g p works lists) g.entries lists v (commit_records g p works lists table) table w q may (untouched moved)
+        may_follow_same : (e : Ended) → AreMoved e works → (v w : World) → MayFollow (changes g p works lists) (commit_records g p works lists table) g.ways lists table (length p.others) e v w → w q ≡ v q
+        may_follow_same Committed moved v w may = committing_keeps (changes g p works lists) g.ways lists v (commit_records g p works lists table) table w q may (untouched moved)
         may_follow_same (Unwound fall failed) moved v w may = may_drop_same (nat_le (length p.others) fall.row) (record_in table (package_name g p)) (package_name g p) v w q may aside.list.0
 
-        followed_same : (e : Ended) → AreMoved e works → (v w : World) → HasFollowed (changes g p works lists) (commit_records g p works lists table) g.entries lists table (length p.others) e v w → w q ≡ v q
-        followed_same Committed moved v w has = committed_keeps (changes g p works lists) g.entries lists v (put_records (commit_records g p works lists table) table) w q has (untouched moved)
+        followed_same : (e : Ended) → AreMoved e works → (v w : World) → HasFollowed (changes g p works lists) (commit_records g p works lists table) g.ways lists table (length p.others) e v w → w q ≡ v q
+        followed_same Committed moved v w has = committed_keeps (changes g p works lists) g.ways lists v (put_records (commit_records g p works lists table) table) w q has (untouched moved)
         followed_same (Unwound fall failed) moved v w has = dropped_same (nat_le (length p.others) fall.row) (record_in table (package_name g p)) (package_name g p) v w q has aside.list.0
 
-        pub leave_same : (e : Ended) → AreMoved e works → (v w : World) → MayLeave (changes g p works lists) (commit_records g p works lists table) g.entries lists table (length p.others) e v w → w q ≡ v q
+        pub leave_same : (e : Ended) → AreMoved e works → (v w : World) → MayLeave (changes g p works lists) (commit_records g p works lists table) g.ways lists table (length p.others) e v w → w q ≡ v q
         leave_same e moved v w (MayLeaveBy.following may) = may_follow_same e moved v w may
         leave_same e moved v w (MayLeaveBy.clearing_away followed has opens laying) = laying.rest q aside.tmp ∙ followed_same e moved v followed has
 

@@ -14,7 +14,7 @@ use Rattle.host_core.specs.Events.{changes_of}
 use Rattle.host_core.proofs.Nodes.{none_stands}
 use Rattle.administration.specs.Places.{home_path, is_within, list_path, temporary, tmp_path}
 use Rattle.control_members.specs.Stored.{stored_member_path}
-use Rattle.diversions.specs.Places.{place}
+use Rattle.diversions.specs.Ways.{is_led_to, place}
 use Rattle.undo_rows.specs.Transcripts.{Committed}
 use Rattle.file_lists.specs.Owners.{has_other_owner}
 use Rattle.file_lists.specs.declared.paths.PackageList.{PackageList}
@@ -70,7 +70,7 @@ module _ (g : Given) (stored : Present) (p : Planned) (plan : IsPlanned (job_of 
   own = package_name here p
 
   -- through a commit
-  module _ (works : List Work) (lists : List PackageList) (after : List Record) (last followed : World) (has : HasCommitted (changes here p works lists) g.entries lists after last followed) (q : Path) (out : is_below_administration q ≡ false) where
+  module _ (works : List Work) (lists : List PackageList) (after : List Record) (last followed : World) (has : HasCommitted (changes here p works lists) g.ways lists after last followed) (q : Path) (out : is_below_administration q ≡ false) where
     unnoted : is_record_place q ≡ false
     unnoted = false_from_ne_true (is_record_place q) (λ is. true≢false (sym (record_below q is) ∙ out))
 
@@ -131,7 +131,7 @@ module _ (g : Given) (stored : Present) (p : Planned) (plan : IsPlanned (job_of 
 
   backup_named : (x : Work) → Contains p.works x → is_among p.names x.backup ≡ true
   backup_named x there =
-      let left = left_names g.entries (unit_name g) g.«package».conffiles (known_conffiles p.found) in
+      let left = left_names g.ways (unit_name g) g.«package».conffiles (known_conffiles p.found) in
       ap (λ l. is_among l x.backup) plan.names_are.names_are
       ∙ list_any-append (bytes_eq x.backup) (backups p.works ++ left) (cut_names p.found p.leaving)
       ∙ first_or (is_among (backups p.works ++ left) x.backup) (is_among (cut_names p.found p.leaving) x.backup)
@@ -152,7 +152,7 @@ module _ (g : Given) (stored : Present) (p : Planned) (plan : IsPlanned (job_of 
   all_each P (x ∷ xs) all = (all x (zero, omega arith, refl), all_each P xs (λ y there. all y (Contains-append_right (x ∷ []) xs y there)))
 
   module _ (begun : State) (works : List Work) (change : Change) (lists : List PackageList) (after : List Record) (last followed : World) (ordered : AreOrdered (task_from here p begun) works) (files : HasFiles (task_from here p begun) works change last)
-      (has : HasCommitted (changes here p works lists) g.entries lists after last followed) where
+      (has : HasCommitted (changes here p works lists) g.ways lists after last followed) where
     fresh_last : Each (λ x. IsClear (last x.fresh)) p.works
     fresh_last = each_rearranged (λ x. IsClear (last x.fresh)) (λ x is. is) (λ x is. is) works p.works (IsPermutation-sym _ _ ordered.same) (fresh_clear (task_from here p begun) works change last files ordered.same ordered.named)
 
@@ -170,11 +170,11 @@ module _ (g : Given) (stored : Present) (p : Planned) (plan : IsPlanned (job_of 
   -- old paths
 
   leaving_there : (paths conffiles listed : List Path) (path : Path) → Contains listed path
-      → Contains (leaving_of g.entries g.lists (unit_name g) paths conffiles listed) (leaving_at g.entries g.lists (unit_name g) paths conffiles path)
+      → Contains (leaving_of g.ways g.lists (unit_name g) paths conffiles listed) (leaving_at g.ways g.lists (unit_name g) paths conffiles path)
   leaving_there paths conffiles [] path there = absurd (omega (arith, there.1))
-  leaving_there paths conffiles (l ∷ ls) path (zero, lt, is) = (zero, omega arith, ap (leaving_at g.entries g.lists (unit_name g) paths conffiles) is)
+  leaving_there paths conffiles (l ∷ ls) path (zero, lt, is) = (zero, omega arith, ap (leaving_at g.ways g.lists (unit_name g) paths conffiles) is)
   leaving_there paths conffiles (l ∷ ls) path (suc k, lt, is) =
-      Contains-append_right (leaving_at g.entries g.lists (unit_name g) paths conffiles l ∷ []) (leaving_of g.entries g.lists (unit_name g) paths conffiles ls) (leaving_at g.entries g.lists (unit_name g) paths conffiles path)
+      Contains-append_right (leaving_at g.ways g.lists (unit_name g) paths conffiles l ∷ []) (leaving_of g.ways g.lists (unit_name g) paths conffiles ls) (leaving_at g.ways g.lists (unit_name g) paths conffiles path)
       (leaving_there paths conffiles ls path (k, omega (arith, lt), is))
 
   third_fails : (a b c d : Bool) → a || (b || (c || d)) ≡ false → b ≡ false
@@ -187,32 +187,32 @@ module _ (g : Given) (stored : Present) (p : Planned) (plan : IsPlanned (job_of 
   not_either false true first second = absurd (true≢false second)
   not_either false false first second = refl
 
-  pub no_old_file : (works : List Work) (lists : List PackageList) (after : List Record) (last followed : World) → HasCommitted (changes here p works lists) g.entries lists after last followed → LeavesNoOldFile g followed
+  pub no_old_file : (works : List Work) (lists : List PackageList) (after : List Record) (last followed : World) → HasCommitted (changes here p works lists) g.ways lists after last followed → LeavesNoOldFile g followed
   no_old_file works lists after last followed has = record {
     fresh = p.fresh;
     is_fresh = subst (λ f. IsFresh g.«package» f p.fresh) plan.records_are.found_is plan.records_are.fresh_is;
     paths = p.new_list;
     are = plan.lists_are.new_is;
     none = λ path there plain goes.
-        let at = place g.entries (unit_name g) path in
+        let at = place g.ways (unit_name g) path in
         let conffiles = entry_paths (entries_of (unit_found g)) in
         let inside : is_within home_path at ≡ false =
-        third_fails (bytes_eq at []) (is_within home_path at) (is_place_of g.entries (unit_name g) p.new_list at) (has_other_owner g.entries g.lists (unit_name g) at) goes in
+        third_fails (is_led_to g.ways at) (is_within home_path at) (is_place_of g.ways (unit_name g) p.new_list at) (has_other_owner g.ways g.lists (unit_name g) at) goes in
         gone_clear works lists after last followed has at (false_from_ne_true (is_below_administration at) (λ below. true≢false (sym (below_within at below) ∙ inside)))
-        (leaving_at g.entries g.lists (unit_name g) p.new_list conffiles path)
-        (subst (λ (l : List Leaving). Contains l (leaving_at g.entries g.lists (unit_name g) p.new_list conffiles path))
+        (leaving_at g.ways g.lists (unit_name g) p.new_list conffiles path)
+        (subst (λ (l : List Leaving). Contains l (leaving_at g.ways g.lists (unit_name g) p.new_list conffiles path))
         (sym (plan.lists_are.leaving_is
-        ∙ ap (λ f. old_leaving g.entries g.lists (unit_name g) f p.new_list p.listed) plan.records_are.found_is
-        ∙ ap (λ (l : List Path). old_leaving g.entries g.lists (unit_name g) (unit_found g) p.new_list l) plan.lists_are.listed_is))
+        ∙ ap (λ f. old_leaving g.ways g.lists (unit_name g) f p.new_list p.listed) plan.records_are.found_is
+        ∙ ap (λ (l : List Path). old_leaving g.ways g.lists (unit_name g) (unit_found g) p.new_list l) plan.lists_are.listed_is))
         (leaving_there p.new_list conffiles (unit_listed g) path there))
-        (not_either (list_any (bytes_eq path) conffiles) (stays g.entries g.lists (unit_name g) p.new_list at) plain goes)
+        (not_either (list_any (bytes_eq path) conffiles) (stays g.ways g.lists (unit_name g) p.new_list at) plain goes)
         refl;
   }
 
   -- the whole unit
 
   module _ (after : Recorded) (lists : List PackageList) (old new : State) (told now : List Called) (out : HasCarriedOut here p Committed after lists old new told now) (honest : IsTrue new.honest) where
-    abbrev left : HasLeft (changes here p out.mid.works out.mid.lists) (commit_records here p out.mid.works out.mid.lists out.mid.database.records) g.entries out.mid.lists out.mid.database.records (length p.others) Committed out.last.world new.world
+    abbrev left : HasLeft (changes here p out.mid.works out.mid.lists) (commit_records here p out.mid.works out.mid.lists out.mid.database.records) g.ways out.mid.lists out.mid.database.records (length p.others) Committed out.last.world new.world
     left = out.leaves honest
 
     tmp_out : (q : Path) → is_below_administration q ≡ false → is_within tmp_path q ≡ false
@@ -251,9 +251,9 @@ module _ (g : Given) (stored : Present) (p : Planned) (plan : IsPlanned (job_of 
           paths = before.paths;
           are = before.are;
           none = λ path listed plain goes.
-              let at = place g.entries (unit_name g) path in
+              let at = place g.ways (unit_name g) path in
               let inside : is_within home_path at ≡ false =
-              third_fails (bytes_eq at []) (is_within home_path at) (is_place_of g.entries (unit_name g) before.paths at) (has_other_owner g.entries g.lists (unit_name g) at) goes in
+              third_fails (is_led_to g.ways at) (is_within home_path at) (is_place_of g.ways (unit_name g) before.paths at) (has_other_owner g.ways g.lists (unit_name g) at) goes in
               clear_at (new.world at) (left.followed at) (same_there at (false_from_ne_true (is_below_administration at) (λ below. true≢false (sym (below_within at below) ∙ inside)))) (before.none path listed plain goes);
         }
 

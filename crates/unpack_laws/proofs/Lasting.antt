@@ -10,8 +10,7 @@ use Rattle.host_core.specs.Suffixes.{suffix_text}
 use Rattle.host_core.specs.declared.suffix.Suffix.TheVariants.{New}
 use Rattle.host_core.proofs.ShipNames.{plain_other, ships}
 use Rattle.administration.specs.Places.{home_path, is_within}
-use Rattle.diversions.specs.declared.entry.Diversion.{Diversion}
-use Rattle.diversions.specs.Places.{place}
+use Rattle.diversions.specs.Ways.{Ways, is_led_to, place}
 use Rattle.file_lists.specs.Owners.{has_other_owner}
 use Rattle.file_lists.specs.declared.paths.PackageList.{PackageList}
 use Rattle.file_removal.specs.Clearing.{is_among}
@@ -45,40 +44,40 @@ none_right : (a b : Bool) → b ≡ false → a && b ≡ false
 none_right true b e = e
 none_right false b e = refl
 
-module _ (entries : List Diversion) (name : List ℕ) where
-  place_among : (paths : List Path) (path : Path) → Contains paths path → is_place_of entries name paths (place entries name path) ≡ true
+module _ (ways : Ways) (name : List ℕ) where
+  place_among : (paths : List Path) (path : Path) → Contains paths path → is_place_of ways name paths (place ways name path) ≡ true
   place_among [] path has = absurd (omega (arith, has.1))
   place_among (p ∷ paths) path (zero, lt, is) =
-      some_left (bytes_eq (place entries name path) (place entries name p)) (is_place_of entries name paths (place entries name path))
-      ((bytes_eq-Decides (place entries name path) (place entries name p)).1 (ap (place entries name) (sym is)))
+      some_left (bytes_eq (place ways name path) (place ways name p)) (is_place_of ways name paths (place ways name path))
+      ((bytes_eq-Decides (place ways name path) (place ways name p)).1 (ap (place ways name) (sym is)))
   place_among (p ∷ paths) path (suc k, lt, is) =
-      some_right (bytes_eq (place entries name path) (place entries name p)) (is_place_of entries name paths (place entries name path)) (place_among paths path (k, omega (arith, lt), is))
+      some_right (bytes_eq (place ways name path) (place ways name p)) (is_place_of ways name paths (place ways name path)) (place_among paths path (k, omega (arith, lt), is))
 
   -- what the list to come has doesn't go
-  module _ (lists : List PackageList) (to_come conffiles : List Path) (q : Path) (has : is_place_of entries name to_come q ≡ true) where
-    stays_there : stays entries lists name to_come q ≡ true
+  module _ (lists : List PackageList) (to_come conffiles : List Path) (q : Path) (has : is_place_of ways name to_come q ≡ true) where
+    stays_there : stays ways lists name to_come q ≡ true
     stays_there =
-        some_right (bytes_eq q []) _ (some_right (is_within home_path q) _ (some_left (is_place_of entries name to_come q) (has_other_owner entries lists name q) has))
+        some_right (is_led_to ways q) _ (some_right (is_within home_path q) _ (some_left (is_place_of ways name to_come q) (has_other_owner ways lists name q) has))
 
-    none_goes : (path : Path) → not (list_any (bytes_eq path) conffiles || stays entries lists name to_come (place entries name path)) && bytes_eq q (place entries name path) ≡ false
-    none_goes path = by (bytes_eq q (place entries name path)) refl
+    none_goes : (path : Path) → not (list_any (bytes_eq path) conffiles || stays ways lists name to_come (place ways name path)) && bytes_eq q (place ways name path) ≡ false
+    none_goes path = by (bytes_eq q (place ways name path)) refl
       where
-        by : (b : Bool) → bytes_eq q (place entries name path) ≡ b → not (list_any (bytes_eq path) conffiles || stays entries lists name to_come (place entries name path)) && b ≡ false
+        by : (b : Bool) → bytes_eq q (place ways name path) ≡ b → not (list_any (bytes_eq path) conffiles || stays ways lists name to_come (place ways name path)) && b ≡ false
         by false e = none_right _ false refl
         by true e =
-            none_left _ true (ap not (some_right (list_any (bytes_eq path) conffiles) (stays entries lists name to_come (place entries name path))
-            (subst (λ r. stays entries lists name to_come r ≡ true) ((bytes_eq-Decides q (place entries name path)).0 e) stays_there)))
+            none_left _ true (ap not (some_right (list_any (bytes_eq path) conffiles) (stays ways lists name to_come (place ways name path))
+            (subst (λ r. stays ways lists name to_come r ≡ true) ((bytes_eq-Decides q (place ways name path)).0 e) stays_there)))
 
-    no_leaving_at : (listed : List Path) → is_leaving_place (leaving_of entries lists name to_come conffiles listed) q ≡ false
+    no_leaving_at : (listed : List Path) → is_leaving_place (leaving_of ways lists name to_come conffiles listed) q ≡ false
     no_leaving_at [] = refl
     no_leaving_at (l ∷ ls) = or_from _ _ (none_goes l) (no_leaving_at ls)
 
   -- a place is no waiting file
-  no_waiting : (q : Path) → is_ship_text q ≡ true → (paths : List Path) → is_among (map (waiting_name entries name) paths) q ≡ false
+  no_waiting : (q : Path) → is_ship_text q ≡ true → (paths : List Path) → is_among (map (waiting_name ways name) paths) q ≡ false
   no_waiting q ship [] = refl
   no_waiting q ship (p ∷ paths) =
-      or_from (bytes_eq q (waiting_name entries name p)) _
-      (false_from_ne_true (bytes_eq q (waiting_name entries name p)) (λ e. plain_other q (place entries name p) New (ships q ship).plain ((bytes_eq-Decides q (waiting_name entries name p)).0 e)))
+      or_from (bytes_eq q (waiting_name ways name p)) _
+      (false_from_ne_true (bytes_eq q (waiting_name ways name p)) (λ e. plain_other q (place ways name p) New (ships q ship).plain ((bytes_eq-Decides q (waiting_name ways name p)).0 e)))
       (no_waiting q ship paths)
 
 -- nor one that a unit left which was cut
@@ -107,12 +106,12 @@ module _ (q : Path) (ship : is_ship_text q ≡ true) where
 module _ (g : Given) (x : Work) (has : Contains (unit_works g) x) (ship : is_ship_text x.place ≡ true) where
   place_lasts : IsLasting g x.place
   place_lasts =
-      let at = work_path g.entries (unit_name g) g.«package».conffiles g.«package».files x has in
+      let at = work_path g.ways (unit_name g) g.«package».conffiles g.«package».files x has in
       record {
-        stays = λ fresh paths is after. no_leaving_at g.entries (unit_name g) g.lists paths (entry_paths (entries_of (unit_found g))) x.place
-            (subst (λ r. is_place_of g.entries (unit_name g) paths r ≡ true) at.2 (place_among g.entries (unit_name g) paths at.0 ((after.are at.0).1 (inl at.1)))) (unit_listed g);
-        uncleared = no_waiting g.entries (unit_name g) x.place ship _;
-        uncut = λ fresh paths is after. no_cut x.place ship (unit_found g) (old_leaving g.entries g.lists (unit_name g) (unit_found g) paths (unit_listed g));
+        stays = λ fresh paths is after. no_leaving_at g.ways (unit_name g) g.lists paths (entry_paths (entries_of (unit_found g))) x.place
+            (subst (λ r. is_place_of g.ways (unit_name g) paths r ≡ true) at.2 (place_among g.ways (unit_name g) paths at.0 ((after.are at.0).1 (inl at.1)))) (unit_listed g);
+        uncleared = no_waiting g.ways (unit_name g) x.place ship _;
+        uncut = λ fresh paths is after. no_cut x.place ship (unit_found g) (old_leaving g.ways g.lists (unit_name g) (unit_found g) paths (unit_listed g));
       }
 
   pub target_lasts : x.target ≡ x.place → IsLasting g x.target

@@ -3,15 +3,16 @@ use Rattle.std.proofs.Common.{◌≡◌, ◌⊎◌, inl, inr, ℕ, zero, suc, tr
 use Rattle.std.proofs.lemmas.List.Elements.{Contains-append_right}
 use Rattle.host_core.specs.Paths.{Path, is_named_by}
 use Rattle.host_core.specs.World.{World, Change, changed, is_kept}
+use Rattle.host_core.specs.declared.node.Node.{Node}
 use Rattle.host_core.specs.Host.{State}
 use Rattle.host_core.proofs.Scripts.{changed_at, changed_kept}
 use Rattle.host_core.proofs.Paths.{decide}
 use Rattle.administration.specs.Places.{home_path, is_within, list_path}
-use Rattle.diversions.specs.declared.entry.Diversion.{Diversion}
-use Rattle.diversions.specs.Places.{place}
+use Rattle.diversions.specs.Ways.{Ways, place}
 use Rattle.file_check.specs.Ships.{shipped_works}
 use Rattle.file_lists.specs.Writing.{list_file}
 use Rattle.file_check.specs.Rearranged.{IsRearranged}
+use Rattle.file_check.proofs.Shipping.{shipped_at}
 use Rattle.package_files.specs.declared.work.Work.{Work}
 use Rattle.package_files.specs.Files.{Each, Misses}
 use Rattle.package_files.specs.Names.{IsNamed}
@@ -77,13 +78,17 @@ each_at P [] x all has = absurd (omega (arith, has.1))
 each_at P (y ∷ works) x all (zero, lt, is) = subst P is all.0
 each_at P (y ∷ works) x all (suc k, lt, is) = each_at P works x all.1 (k, omega (arith, lt), is)
 
+-- a path with what stands there is of a shipped one
+pair_path : (files : List Shipped) (s : Path × Node) → Contains (pairs_of files) s → Contains (shipped_paths files) s.0
+pair_path [] s has = absurd (omega (arith, has.1))
+pair_path (f ∷ files) s (zero, lt, is) = (zero, omega arith, ap (λ (t : Path × Node). t.0) is)
+pair_path (f ∷ files) s (suc k, lt, is) = Contains-append_right (f.path ∷ []) (shipped_paths files) s.0 (pair_path files s (k, omega (arith, lt), is))
+
 -- each work is of a shipped path, at its place
-pub work_path : (entries : List Diversion) (name : List ℕ) (conffiles : List Path) (files : List Shipped) (x : Work) → Contains (shipped_works entries name conffiles (pairs_of files)) x → (path : Path) × Contains (shipped_paths files) path × (place entries name path ≡ x.place)
-work_path entries name conffiles [] x has = absurd (omega (arith, has.1))
-work_path entries name conffiles (f ∷ files) x (zero, lt, is) = (f.path, (zero, omega arith, refl), ap (λ (y : Work). y.place) is)
-work_path entries name conffiles (f ∷ files) x (suc k, lt, is) =
-    let more = work_path entries name conffiles files x (k, omega (arith, lt), is) in
-    (more.0, Contains-append_right (f.path ∷ []) (shipped_paths files) more.0 more.1, more.2)
+pub work_path : (ways : Ways) (name : List ℕ) (conffiles : List Path) (files : List Shipped) (x : Work) → Contains (shipped_works ways name conffiles (pairs_of files)) x → (path : Path) × Contains (shipped_paths files) path × (place ways name path ≡ x.place)
+work_path ways name conffiles files x has =
+    let s = shipped_at ways name conffiles (pairs_of files) x has in
+    (s.0.0, pair_path files s.0 s.1, ap (λ (y : Work). y.place) (sym s.2))
 
 name_by : (x : Work) → IsNamed x → (q : Path) → IsNameOf x q → is_named_by q x.place ≡ true
 name_by x named q (inl at) = ap (λ r. is_named_by r x.place) at ∙ (by_place x named).target
@@ -115,7 +120,7 @@ module _ (g : Given) (stored : Present) (p : Planned) (plan : IsPlanned (job_of 
 
   pub named_in : (paths : List Path) → HasShipped paths → (x : Work) → Contains p.works x → (q : Path) → IsNameOf x q → IsNamedIn g paths q
   named_in paths shipped x has q name =
-      let at = work_path g.entries (unit_name g) g.«package».conffiles g.«package».files x (unit_work x has) in
+      let at = work_path g.ways (unit_name g) g.«package».conffiles g.«package».files x (unit_work x has) in
       (at.0, shipped at.0 at.1, ap (is_named_by q) at.2 ∙ name_by x (each_at IsNamed p.works x plan.works_are.named has) q name)
 
   -- outside the administration

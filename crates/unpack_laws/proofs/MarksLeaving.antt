@@ -22,8 +22,7 @@ use Rattle.undo_rows.specs.declared.fall.Fall.{Fall}
 use Rattle.undo_rows.specs.declared.failed.Failed.{Failed}
 use Rattle.undo_rows.specs.Place.{is_declined}
 use Rattle.undo_rows.specs.Transcripts.{Ended, Committed, Unwound}
-use Rattle.diversions.specs.declared.entry.Diversion.{Diversion}
-use Rattle.diversions.specs.Places.{place}
+use Rattle.diversions.specs.Ways.{Ways, place}
 use Rattle.file_lists.specs.Writing.{list_file}
 use Rattle.file_lists.specs.declared.paths.PackageList.{PackageList}
 use Rattle.file_removal.specs.Clearing.{cleared, is_among}
@@ -98,16 +97,16 @@ put_last [] r table = record_in-put_record r table r.name ∙ cond-true (bytes_e
 put_last (x ∷ rs) r table = put_last rs r (put_record x table)
 
 -- what goes by an old list is at the place of one of its paths
-goes_place : (s : Staying) (entries : List Diversion) (lists : List PackageList) (name : List ℕ) (to_come conffiles listed : List Path) (w : World) (q : Path) → GoesBy s false w (leaving_of entries lists name to_come conffiles listed) q
-    → (path : Path) × Contains listed path × (place entries name path ≡ q)
-goes_place s entries lists name to_come conffiles [] w q goes = absurd goes
-goes_place s entries lists name to_come conffiles (l ∷ ls) w q (inl later) =
-    let more = goes_place s entries lists name to_come conffiles ls w q later in
+goes_place : (s : Staying) (ways : Ways) (lists : List PackageList) (name : List ℕ) (to_come conffiles listed : List Path) (w : World) (q : Path) → GoesBy s false w (leaving_of ways lists name to_come conffiles listed) q
+    → (path : Path) × Contains listed path × (place ways name path ≡ q)
+goes_place s ways lists name to_come conffiles [] w q goes = absurd goes
+goes_place s ways lists name to_come conffiles (l ∷ ls) w q (inl later) =
+    let more = goes_place s ways lists name to_come conffiles ls w q later in
     (more.0, Contains-append_right (l ∷ []) ls more.0 more.1, more.2)
-goes_place s entries lists name to_come conffiles (l ∷ ls) w q (inr here) = (l, (zero, omega arith, refl), here.0)
+goes_place s ways lists name to_come conffiles (l ∷ ls) w q (inr here) = (l, (zero, omega arith, refl), here.0)
 
 -- where a unit left something that was cut is beside the place of one of its paths
-module _ (entries : List Diversion) (lists : List PackageList) (name : List ℕ) (to_come conffiles : List Path) (q : Path) where
+module _ (ways : Ways) (lists : List PackageList) (name : List ℕ) (to_come conffiles : List Path) (q : Path) where
   gone_beside : (at : Path) (goes : Bool) → is_among (cond goes (clearable ((at ++ suffix_text New) ∷ [])) []) q ≡ true → at ++ suffix_text New ≡ q
   gone_beside at false is = absurd (true≢false (sym is))
   gone_beside at true is = by (is_clearable (at ++ suffix_text New)) is
@@ -116,22 +115,22 @@ module _ (entries : List Diversion) (lists : List PackageList) (name : List ℕ)
       by false none = absurd (true≢false (sym none))
       by true some = elim (or_cases (bytes_eq q (at ++ suffix_text New)) false some) [ inl e ↦ sym ((bytes_eq-Decides q (at ++ suffix_text New)).0 e) | inr none ↦ absurd (true≢false (sym none)) ]
 
-  gone_place : (listed : List Path) → is_among (gone_names (leaving_of entries lists name to_come conffiles listed)) q ≡ true → (path : Path) × Contains listed path × (place entries name path ++ suffix_text New ≡ q)
+  gone_place : (listed : List Path) → is_among (gone_names (leaving_of ways lists name to_come conffiles listed)) q ≡ true → (path : Path) × Contains listed path × (place ways name path ++ suffix_text New ≡ q)
   gone_place [] is = absurd (true≢false (sym is))
   gone_place (l ∷ ls) is =
-      let x = leaving_at entries lists name to_come conffiles l in
-      let xs = leaving_of entries lists name to_come conffiles ls in
+      let x = leaving_at ways lists name to_come conffiles l in
+      let xs = leaving_of ways lists name to_come conffiles ls in
       elim (or_cases (is_among (gone_name x) q) (is_among (gone_names xs) q) (sym (list_any-append (bytes_eq q) (gone_name x) (gone_names xs)) ∙ is)) [
         | inl here ↦ (l, (zero, omega arith, refl), gone_beside x.place x.goes here)
         | inr later ↦ let more = gone_place ls later in (more.0, Contains-append_right (l ∷ []) ls more.0 more.1, more.2)
       ]
 
-  cut_place : (found : Option Record) (listed : List Path) → is_among (cut_names found (leaving_of entries lists name to_come conffiles listed)) q ≡ true
-      → (was_cut found ≡ true) × (path : Path) × Contains listed path × (place entries name path ++ suffix_text New ≡ q)
+  cut_place : (found : Option Record) (listed : List Path) → is_among (cut_names found (leaving_of ways lists name to_come conffiles listed)) q ≡ true
+      → (was_cut found ≡ true) × (path : Path) × Contains listed path × (place ways name path ++ suffix_text New ≡ q)
   cut_place found listed is = by (was_cut found) refl is
     where
-      by : (b : Bool) → was_cut found ≡ b → is_among (cond b (gone_names (leaving_of entries lists name to_come conffiles listed)) []) q ≡ true
-          → (was_cut found ≡ true) × (path : Path) × Contains listed path × (place entries name path ++ suffix_text New ≡ q)
+      by : (b : Bool) → was_cut found ≡ b → is_among (cond b (gone_names (leaving_of ways lists name to_come conffiles listed)) []) q ≡ true
+          → (was_cut found ≡ true) × (path : Path) × Contains listed path × (place ways name path ++ suffix_text New ≡ q)
       by true cut some = let at = gone_place listed some in (cut, at.0, at.1, at.2)
       by false cut none = absurd (true≢false (sym none))
 
@@ -171,30 +170,30 @@ module _ (g : Given) (stored : Present) (p : Planned) (plan : IsPlanned (job_of 
   -- which old paths went, and which names were cleared
 
   abbrev waiting : List Path
-  waiting = left_names g.entries (unit_name g) g.«package».conffiles (known_conffiles (unit_found g))
+  waiting = left_names g.ways (unit_name g) g.«package».conffiles (known_conffiles (unit_found g))
 
-  went_at : (s : Staying) (w : World) (q : Path) → GoesBy s false w p.leaving q → (path : Path) × Contains (unit_listed g) path × (place g.entries (unit_name g) path ≡ q)
+  went_at : (s : Staying) (w : World) (q : Path) → GoesBy s false w p.leaving q → (path : Path) × Contains (unit_listed g) path × (place g.ways (unit_name g) path ≡ q)
   went_at s w q goes =
-      let at = goes_place s g.entries g.lists (unit_name g) p.new_list (entry_paths (entries_of p.found)) p.listed w q (subst (λ xs. GoesBy s false w xs q) plan.lists_are.leaving_is goes) in
+      let at = goes_place s g.ways g.lists (unit_name g) p.new_list (entry_paths (entries_of p.found)) p.listed w q (subst (λ xs. GoesBy s false w xs q) plan.lists_are.leaving_is goes) in
       (at.0, subst (λ (l : List Path). Contains l at.0) plan.lists_are.listed_is at.1, at.2)
 
   -- beside the place of an old path, behind a unit that was cut
   abbrev IsCutName : Path → Type 0
-  IsCutName q = (was_cut (unit_found g) ≡ true) × (path : Path) × Contains (unit_listed g) path × (place g.entries (unit_name g) path ++ suffix_text New ≡ q)
+  IsCutName q = (was_cut (unit_found g) ≡ true) × (path : Path) × Contains (unit_listed g) path × (place g.ways (unit_name g) path ++ suffix_text New ≡ q)
 
   cut_at : (q : Path) → is_among (cut_names p.found p.leaving) q ≡ true → IsCutName q
   cut_at q is =
-      let at = cut_place g.entries g.lists (unit_name g) p.new_list (entry_paths (entries_of p.found)) q p.found p.listed (subst (λ xs. is_among (cut_names p.found xs) q ≡ true) plan.lists_are.leaving_is is) in
+      let at = cut_place g.ways g.lists (unit_name g) p.new_list (entry_paths (entries_of p.found)) q p.found p.listed (subst (λ xs. is_among (cut_names p.found xs) q ≡ true) plan.lists_are.leaving_is is) in
       (subst (λ f. was_cut f ≡ true) plan.records_are.found_is at.0, at.1, subst (λ (l : List Path). Contains l at.1) plan.lists_are.listed_is at.2, at.3)
 
   among_waiting : (q : Path) → Each (λ x. Misses x q) p.works → is_among p.names q ≡ true → (is_among waiting q ≡ true) ⊎ IsCutName q
   among_waiting q missed is =
-      let left = left_names g.entries (unit_name g) g.«package».conffiles (known_conffiles p.found) in
+      let left = left_names g.ways (unit_name g) g.«package».conffiles (known_conffiles p.found) in
       let names : is_among ((backups p.works ++ left) ++ cut_names p.found p.leaving) q ≡ true = ap (λ l. is_among l q) (sym plan.names_are.names_are) ∙ is in
       elim (or_cases (is_among (backups p.works ++ left) q) (is_among (cut_names p.found p.leaving) q) (sym (list_any-append (bytes_eq q) (backups p.works ++ left) (cut_names p.found p.leaving)) ∙ names)) [
         | inl first ↦ elim (or_cases (is_among (backups p.works) q) (is_among left q) (sym (list_any-append (bytes_eq q) (backups p.works) left) ∙ first)) [
           | inl backup ↦ absurd (true≢false (sym backup ∙ no_backup p.works q missed))
-          | inr waits ↦ inl (ap (λ f. is_among (left_names g.entries (unit_name g) g.«package».conffiles (known_conffiles f)) q) (sym plan.records_are.found_is) ∙ waits)
+          | inr waits ↦ inl (ap (λ f. is_among (left_names g.ways (unit_name g) g.«package».conffiles (known_conffiles f)) q) (sym plan.records_are.found_is) ∙ waits)
         ]
         | inr cut ↦ inr (cut_at q cut)
       ]
@@ -203,7 +202,7 @@ module _ (g : Given) (stored : Present) (p : Planned) (plan : IsPlanned (job_of 
     -- a path as the rows left it, or going
     data IsLeftAt (now : World) : Type 0 where
       kept : now q ≡ last q → IsLeftAt now
-      went : (path : Path) → Contains (unit_listed g) path → place g.entries (unit_name g) path ≡ q → IsGoing (last q) (now q) → IsLeftAt now
+      went : (path : Path) → Contains (unit_listed g) path → place g.ways (unit_name g) path ≡ q → IsGoing (last q) (now q) → IsLeftAt now
       waited : is_among waiting q ≡ true → IsGoing (last q) (now q) → IsLeftAt now
       cut : IsCutName q → IsGoing (last q) (now q) → IsLeftAt now
 
@@ -260,7 +259,7 @@ module _ (g : Given) (stored : Present) (p : Planned) (plan : IsPlanned (job_of 
           | inr stays ↦ IsLeftAt.kept (has.replaced.rest q (outside_list q out own).0 (outside_list q out own).1 ∙ stays.1)
         ]
 
-        releasing_left : (v now : World) → IsLeftAt v → MayRelease g.entries c.places c.losers (renewed_lists c g.entries lists) c.names v now → IsLeftAt now
+        releasing_left : (v now : World) → IsLeftAt v → MayRelease g.ways c.places c.losers (renewed_lists c g.ways lists) c.names v now → IsLeftAt now
         releasing_left v now left (inl is) = left_then v now (is.rest q (λ n has. outside_list q out n)) left
         releasing_left v now left (inr m) =
             let mid = left_then v m.0 (m.1.rest q (λ n has. outside_list q out n)) left in
@@ -269,12 +268,12 @@ module _ (g : Given) (stored : Present) (p : Planned) (plan : IsPlanned (job_of 
               | inr going ↦ elim going.1 [ inl low ↦ left_lowered m.0 now going.0 low mid | inr gone ↦ left_cleared m.0 now going.0 gone mid ]
             ]
 
-        released_left : (renewed kept_then released : World) → HasRenewed p.leaving list (list_file p.new_list) last renewed → kept_then q ≡ renewed q → HasReleased g.entries c.places c.losers (renewed_lists c g.entries lists) c.names kept_then released → IsLeftAt released
+        released_left : (renewed kept_then released : World) → HasRenewed p.leaving list (list_file p.new_list) last renewed → kept_then q ≡ renewed q → HasReleased g.ways c.places c.losers (renewed_lists c g.ways lists) c.names kept_then released → IsLeftAt released
         released_left renewed kept_then released first same third =
             let mid = left_then kept_then third.mid (third.taken.rest q (λ n has. outside_list q out n)) (left_then renewed kept_then same (renewed_left renewed first)) in
             left_by (is_among p.names q) refl third.mid released (third.cleared.each q) mid
 
-        commit_left : (records before : List Record) (now : World) → MayCommit c g.entries lists records before last now → IsLeftAt now
+        commit_left : (records before : List Record) (now : World) → MayCommit c g.ways lists records before last now → IsLeftAt now
         commit_left records before now (MayCommit.renewing may has opens) = renewing_left now may
         commit_left records before now (MayCommit.replacing renewed stale first is has opens) =
             left_then renewed now (is.rest q (λ m is_member. outside_member q out own m)) (renewed_left renewed first)
@@ -283,7 +282,7 @@ module _ (g : Given) (stored : Present) (p : Planned) (plan : IsPlanned (job_of 
         commit_left records before now (MayCommit.noting renewed kept_then released stale first second whole third is) =
             left_then released now (is.rest q (outside_records q out)) (released_left renewed kept_then released first (second.rest q (λ m is_member. outside_member q out own m)) third)
 
-        committed_left : (after : List Record) (now : World) → HasCommitted c g.entries lists after last now → IsLeftAt now
+        committed_left : (after : List Record) (now : World) → HasCommitted c g.ways lists after last now → IsLeftAt now
         committed_left after now has =
             left_then has.released now (has.noted.rest q (outside_records q out))
             (released_left has.renewed has.stored has.released has.renewal (has.replaced.rest q (λ m is_member. outside_member q out own m)) has.release)
@@ -351,7 +350,7 @@ module _ (g : Given) (stored : Present) (p : Planned) (plan : IsPlanned (job_of 
         by_list (inr new) held records marks = marked_by p.new_list (new_shipped g stored p plan places) new held records marks
 
       no_own_loser : Contains (unit_losers here p works lists) own → ⊥
-      no_own_loser loses = loser_other g.entries (taken_places works) lists own here.yields own loses refl
+      no_own_loser loses = loser_other g.ways (taken_places works) lists own here.yields own loses refl
 
       -- while the records are noted, its own is the last
       abbrev OwnNoted : Option Record → Type 0
@@ -361,11 +360,11 @@ module _ (g : Given) (stored : Present) (p : Planned) (plan : IsPlanned (job_of 
       own_noted front back is =
           good_records OwnNoted own front table
           (good_front OwnNoted own front back (subst (AllByRecursion (IsGoodRecord OwnNoted own)) is
-          (good_then OwnNoted own (losing_records g.entries (taken_places works) (unit_losers here p works lists) table) p.fresh
-          (losing_good OwnNoted own g.entries (taken_places works) (unit_losers here p works lists) no_own_loser table) (λ same. inr refl))))
+          (good_then OwnNoted own (losing_records g.ways (taken_places works) (unit_losers here p works lists) table) p.fresh
+          (losing_good OwnNoted own g.ways (taken_places works) (unit_losers here p works lists) no_own_loser table) (λ same. inr refl))))
           (inl own_marked)
 
-      commit_marks : (now : World) → MayCommit (changes here p works lists) g.entries lists committed table last now → IsMarkedAmid g old now change
+      commit_marks : (now : World) → MayCommit (changes here p works lists) g.ways lists committed table last now → IsMarkedAmid g old now change
       commit_marks now may = at may
         where
           left : (q : Path) → is_within home_path q ≡ false → Each (λ x. Misses x q) p.works → IsLeftAt last q now
@@ -374,7 +373,7 @@ module _ (g : Given) (stored : Present) (p : Planned) (plan : IsPlanned (job_of 
           lists_then : (now list ≡ last list) ⊎ (now list ≡ Some (list_file p.new_list))
           lists_then = committing_list g stored p plan places works lists committed table last now may
 
-          at : MayCommit (changes here p works lists) g.entries lists committed table last now → IsMarkedAmid g old now change
+          at : MayCommit (changes here p works lists) g.ways lists committed table last now → IsMarkedAmid g old now change
           at (MayCommit.renewing renewing records opens) = by_list now left lists_then table records own_marked
           at (MayCommit.replacing renewed stale first is records opens) = by_list now left lists_then table records own_marked
           at (MayCommit.releasing renewed kept_then stale first second whole releasing records opens) = by_list now left lists_then table records own_marked
@@ -385,9 +384,9 @@ module _ (g : Given) (stored : Present) (p : Planned) (plan : IsPlanned (job_of 
 
       fresh_noted : record_in (put_records committed table) own ≡ Some p.fresh
       fresh_noted = subst (λ (n : List ℕ). record_in (put_records committed table) n ≡ Some p.fresh) (plan.records_are.fresh_is.is.name_is ∙ sym plan.records_are.own)
-          (put_last (losing_records g.entries (taken_places works) (unit_losers here p works lists) table) p.fresh table)
+          (put_last (losing_records g.ways (taken_places works) (unit_losers here p works lists) table) p.fresh table)
 
-      committed_marks : (now : World) → MayLeave (changes here p works lists) committed g.entries lists table (length p.others) Committed last now → IsMarkedAmid g old now change
+      committed_marks : (now : World) → MayLeave (changes here p works lists) committed g.ways lists table (length p.others) Committed last now → IsMarkedAmid g old now change
       committed_marks now (MayLeaveBy.following may) = commit_marks now may
       committed_marks now (MayLeaveBy.clearing_away followed has_followed opens laying) =
           noted_by now
@@ -400,12 +399,12 @@ module _ (g : Given) (stored : Present) (p : Planned) (plan : IsPlanned (job_of 
       abbrev ended : Ended
       ended = Unwound fall failed
 
-      unwound_same : (last now : World) → MayLeave (changes here p works lists) records g.entries lists table (length p.others) ended last now → (q : Path) → is_within home_path q ≡ false → now q ≡ last q
+      unwound_same : (last now : World) → MayLeave (changes here p works lists) records g.ways lists table (length p.others) ended last now → (q : Path) → is_within home_path q ≡ false → now q ≡ last q
       unwound_same last now (MayLeaveBy.following may) q out = may_drop_same (nat_le (length p.others) fall.row) (record_in table own) own last now q may (outside_list q out own).0
       unwound_same last now (MayLeaveBy.clearing_away followed has opens laying) q out = laying.rest q (outside_tmp q out) ∙ dropped_same (nat_le (length p.others) fall.row) (record_in table own) own last followed q has (outside_list q out own).0
 
       restored_marks : AreWorksAt task (last_place here p ended) Restored works → (last now : World) → HasCome task Restored works change last
-          → MayLeave (changes here p works lists) records g.entries lists table (length p.others) ended last now → IsMarkedAmid g old now change
+          → MayLeave (changes here p works lists) records g.ways lists table (length p.others) ended last now → IsMarkedAmid g old now change
       restored_marks are last now come may = IsMarkedAmid.restored restored
         where
           name_back : (q : Path) → is_within home_path q ≡ false → (x : Work) → Contains p.works x → IsNameOf x q → IsRestored g old now change q
@@ -427,7 +426,7 @@ module _ (g : Given) (stored : Present) (p : Planned) (plan : IsPlanned (job_of 
           ]
 
       unwound_marks : (b d : Bool) → AreWorksAt task (last_place here p ended) (cond b Restored (cond d Restored Unwritten)) works → (last now : World) → HasCome task (cond b Restored (cond d Restored Unwritten)) works change last
-          → MayLeave (changes here p works lists) records g.entries lists table (length p.others) ended last now → IsMarkedAmid g old now change
+          → MayLeave (changes here p works lists) records g.ways lists table (length p.others) ended last now → IsMarkedAmid g old now change
       unwound_marks false false are last now come may = IsMarkedAmid.untouched (λ q out.
           from_begun g stored p plan places old begun begins change now q out (unwound_same last now may q out ∙ come.rest q (outside_records q out)))
       unwound_marks false true are last now come may = restored_marks are last now come may
@@ -436,7 +435,7 @@ module _ (g : Given) (stored : Present) (p : Planned) (plan : IsPlanned (job_of 
     -- however they ended
     leaving_marks : (ended : Ended) (works : List Work) (change : Change) (last now : World) → AreWorksAt task (last_place here p ended) (stage_of kinds (last_place here p ended)) works
         → HasCome task (stage_of kinds (last_place here p ended)) works change last
-        → MayLeave (changes here p works (lists_at task (stage_of kinds (last_place here p ended)))) (commit_records here p works (lists_at task (stage_of kinds (last_place here p ended))) (table_after here p (last_place here p ended))) g.entries (lists_at task (stage_of kinds (last_place here p ended))) (table_after here p (last_place here p ended)) (length p.others) ended last now
+        → MayLeave (changes here p works (lists_at task (stage_of kinds (last_place here p ended)))) (commit_records here p works (lists_at task (stage_of kinds (last_place here p ended))) (table_after here p (last_place here p ended))) g.ways (lists_at task (stage_of kinds (last_place here p ended))) (table_after here p (last_place here p ended)) (length p.others) ended last now
         → IsMarkedAmid g old now change
     leaving_marks Committed works change last now are come may =
         committed_marks works change last (subst (λ s. AreWorksAt task (last_place here p Committed) s works) wrote_then are) (subst (λ s. HasCome task s works change last) wrote_then come)

@@ -69,7 +69,7 @@ module _ (g : Given) (others : AreOthers (unit_name g) g.records g.others) (plac
     Own = IsOwnRecord g
 
     no_own_loser : (works : List Work) (lists : List PackageList) → Contains (unit_losers here amid.plan works lists) (unit_name g) → ⊥
-    no_own_loser works lists has = loser_other g.entries (taken_places works) lists (package_name here amid.plan) here.yields (unit_name g) has (sym own_is)
+    no_own_loser works lists has = loser_other g.ways (taken_places works) lists (package_name here amid.plan) here.yields (unit_name g) has (sym own_is)
 
     -- the records at its stage
     abbrev table : List Record

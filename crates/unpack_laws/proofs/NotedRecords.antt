@@ -11,7 +11,7 @@ use Rattle.host_core.specs.World.{World}
 use Rattle.undo_rows.specs.Place.{Place, Forward, Ready, Back}
 use Rattle.undo_rows.specs.Transcripts.{Committed, Unwound}
 use Rattle.undo_rows.specs.declared.failed.Failed.{Failed}
-use Rattle.diversions.specs.declared.entry.Diversion.{Diversion}
+use Rattle.diversions.specs.Ways.{Ways}
 use Rattle.file_lists.specs.declared.paths.PackageList.{PackageList}
 use Rattle.file_check.specs.Rearranged.{IsRearranged}
 use Rattle.package_files.specs.declared.work.Work.{Work}
@@ -180,21 +180,21 @@ noted_apart (Put r ∷ notes) table apart = noted_apart notes (put_record r tabl
 noted_apart (Drop name ∷ notes) table apart = noted_apart notes (drop_record name table) (apart_dropped name table apart)
 
 -- the records that lose conffiles, by what is so of each that may
-module _ (P : Option Record → Type 0) (q : List ℕ) (entries : List Diversion) (places : List Path) (names : List (List ℕ)) where
+module _ (P : Option Record → Type 0) (q : List ℕ) (ways : Ways) (places : List Path) (names : List (List ℕ)) where
   abbrev IsGoodLosing : Record → Type 0
-  IsGoodLosing r = r.name ≡ q → Contains names q → P (Some (without_conffiles entries places r))
+  IsGoodLosing r = r.name ≡ q → Contains names q → P (Some (without_conffiles ways places r))
 
-  losing_each : (rs : List Record) → AllByRecursion IsGoodLosing rs → AllByRecursion (IsGoodRecord P q) (losing_records entries places names rs)
+  losing_each : (rs : List Record) → AllByRecursion IsGoodLosing rs → AllByRecursion (IsGoodRecord P q) (losing_records ways places names rs)
   losing_each [] all = tt
-  losing_each (r ∷ rs) all = by (list_any (bytes_eq r.name) names && loses_conffile entries places r) refl (losing_each rs all.1)
+  losing_each (r ∷ rs) all = by (list_any (bytes_eq r.name) names && loses_conffile ways places r) refl (losing_each rs all.1)
     where
-      there : list_any (bytes_eq r.name) names && loses_conffile entries places r ≡ true → IsGoodRecord P q (without_conffiles entries places r)
+      there : list_any (bytes_eq r.name) names && loses_conffile ways places r ≡ true → IsGoodRecord P q (without_conffiles ways places r)
       there keep same =
           let is = (bytes_eq-Decides r.name q).0 same in
-          all.0 is (subst (Contains names) is (any_has names r.name (and_parts (list_any (bytes_eq r.name) names) (loses_conffile entries places r) keep).0))
+          all.0 is (subst (Contains names) is (any_has names r.name (and_parts (list_any (bytes_eq r.name) names) (loses_conffile ways places r) keep).0))
 
-      by : (b : Bool) → list_any (bytes_eq r.name) names && loses_conffile entries places r ≡ b → AllByRecursion (IsGoodRecord P q) (losing_records entries places names rs)
-          → AllByRecursion (IsGoodRecord P q) (map (without_conffiles entries places) (cond b (r ∷ filter (λ x. list_any (bytes_eq x.name) names && loses_conffile entries places x) rs) (filter (λ x. list_any (bytes_eq x.name) names && loses_conffile entries places x) rs)))
+      by : (b : Bool) → list_any (bytes_eq r.name) names && loses_conffile ways places r ≡ b → AllByRecursion (IsGoodRecord P q) (losing_records ways places names rs)
+          → AllByRecursion (IsGoodRecord P q) (map (without_conffiles ways places) (cond b (r ∷ filter (λ x. list_any (bytes_eq x.name) names && loses_conffile ways places x) rs) (filter (λ x. list_any (bytes_eq x.name) names && loses_conffile ways places x) rs)))
       by true keep rest = (there keep, rest)
       by false keep rest = rest
 
@@ -204,16 +204,16 @@ module _ (P : Option Record → Type 0) (q : List ℕ) (entries : List Diversion
     all_spared [] = tt
     all_spared (r ∷ rs) = ((λ same has. absurd (none has)), all_spared rs)
 
-    pub losing_good : (table : List Record) → AllByRecursion (IsGoodRecord P q) (losing_records entries places names table)
+    pub losing_good : (table : List Record) → AllByRecursion (IsGoodRecord P q) (losing_records ways places names table)
     losing_good table = losing_each table (all_spared table)
 
   -- the one that the table has, where names differ in it
-  module _ (table : List Record) (lost : Contains names q → (r : Record) → record_in table q ≡ Some r → P (Some (without_conffiles entries places r))) where
+  module _ (table : List Record) (lost : Contains names q → (r : Record) → record_in table q ≡ Some r → P (Some (without_conffiles ways places r))) where
     all_found : (rs : List Record) → AreRecorded table rs → AllByRecursion IsGoodLosing rs
     all_found [] recorded = tt
     all_found (r ∷ rs) recorded = ((λ same has. lost has r (ap (record_in table) (sym same) ∙ recorded.0)), all_found rs recorded.1)
 
-    losing_found : AreApart table → AllByRecursion (IsGoodRecord P q) (losing_records entries places names table)
+    losing_found : AreApart table → AllByRecursion (IsGoodRecord P q) (losing_records ways places names table)
     losing_found apart = losing_each table (all_found table (each_recorded table apart))
 
 pub good_then : (P : Option Record → Type 0) (q : List ℕ) (xs : List Record) (y : Record) → AllByRecursion (IsGoodRecord P q) xs → IsGoodRecord P q y → AllByRecursion (IsGoodRecord P q) (xs ++ y ∷ [])
@@ -223,7 +223,7 @@ good_then P q (x ∷ xs) y all last = (all.0, good_then P q xs y all.1 last)
 -- the record of a name at each moment of a unit: with Q beside the rows, and with P behind the commit's other steps
 module _ (Q P : Option Record → Type 0) (q : List ℕ) (g : Ground) (p : Planned) (apart : AreApart g.records) (wider : (o : Option Record) → Q o → P o)
     (lost : (works : List Work) (begun : State) → IsRearranged p.works works → Contains (unit_losers g p works (lists_after g p Committed begun)) q
-    → (r : Record) → Q (Some r) → P (Some (without_conffiles g.entries (taken_places works) r)))
+    → (r : Record) → Q (Some r) → P (Some (without_conffiles g.ways (taken_places works) r)))
     (fresh : IsGoodRecord P q p.fresh) (good : AreGoodRows Q q p.found p.incoming p.others) (before : Q (record_in g.records q)) where
   record_then : (place : Place) → Q (record_in (table_after g p place) q)
   record_then place = record_at Q q p.found p.incoming p.others good g.records place before
@@ -240,16 +240,16 @@ module _ (Q P : Option Record → Type 0) (q : List ℕ) (g : Ground) (p : Plann
 
     all_good : AllByRecursion (IsGoodRecord P q) (commit_records g p works lists table)
     all_good =
-        good_then P q (losing_records g.entries (taken_places works) (unit_losers g p works lists) table) p.fresh
-        (losing_found P q g.entries (taken_places works) (unit_losers g p works lists) table
+        good_then P q (losing_records g.ways (taken_places works) (unit_losers g p works lists) table) p.fresh
+        (losing_found P q g.ways (taken_places works) (unit_losers g p works lists) table
         (λ has r is. lost works begun moved has r (subst Q is (record_then (last_place g p Committed)))) table_apart)
         fresh
 
-    record_noted : (last now : World) (may : MayLeave (changes g p works lists) (commit_records g p works lists table) g.entries lists table (length p.others) Committed last now)
-        → P (record_in (put_records (noted_so_far (changes g p works lists) (commit_records g p works lists table) g.entries lists table (length p.others) Committed last now may) table) q)
+    record_noted : (last now : World) (may : MayLeave (changes g p works lists) (commit_records g p works lists table) g.ways lists table (length p.others) Committed last now)
+        → P (record_in (put_records (noted_so_far (changes g p works lists) (commit_records g p works lists table) g.ways lists table (length p.others) Committed last now may) table) q)
     record_noted last now may =
-        let front = noted_so_far (changes g p works lists) (commit_records g p works lists table) g.entries lists table (length p.others) Committed last now may in
-        let first = noted_first (changes g p works lists) (commit_records g p works lists table) g.entries lists table (length p.others) last now Committed may in
+        let front = noted_so_far (changes g p works lists) (commit_records g p works lists table) g.ways lists table (length p.others) Committed last now may in
+        let first = noted_first (changes g p works lists) (commit_records g p works lists table) g.ways lists table (length p.others) last now Committed may in
         good_records P q front table (good_front P q front first.0 (subst (AllByRecursion (IsGoodRecord P q)) first.1 all_good))
         (wider _ (record_then (last_place g p Committed)))
 

@@ -80,9 +80,9 @@ module _ (g : Given) (stored : Present) (p : Planned) (plan : IsPlanned (job_of 
     Left w = Theirs (last theirs) (w theirs)
 
     -- a package that loses places has its list without them
-    left_is : Contains c.losers q → (w : World) → w theirs ≡ Some (left_file g.entries c.places (renewed_lists c g.entries lists) q) → Left w
+    left_is : Contains c.losers q → (w : World) → w theirs ≡ Some (left_file g.ways c.places (renewed_lists c g.ways lists) q) → Left w
     left_is has w is = IsOtherList.left (taken_places works) (loses_places g stored p plan places q other works begun stage moved has)
-        (is ∙ ap (λ (l : List Path). Some (list_file (left_paths g.entries (taken_places works) q l))) (with_other own q ne lists p.new_list ∙ listed_then g stored p plan places q other begun stage))
+        (is ∙ ap (λ (l : List Path). Some (list_file (left_paths g.ways (taken_places works) q l))) (with_other own q ne lists p.new_list ∙ listed_then g stored p plan places q other begun stage))
 
     still : (v w : World) → w theirs ≡ v theirs → Left v → Left w
     still v w same = subst (Theirs (last theirs)) (sym same)
@@ -96,7 +96,7 @@ module _ (g : Given) (stored : Present) (p : Planned) (plan : IsPlanned (job_of 
     cleared_theirs : (v w : World) → w theirs ≡ cond (is_among p.names theirs) (cleared (v theirs)) (v theirs) → w theirs ≡ v theirs
     cleared_theirs v w is = is ∙ ap (λ b. cond b (cleared (v theirs)) (v theirs)) (plan.names_are.elsewhere theirs (list_within q))
 
-    releasing_theirs : (v now : World) → v theirs ≡ last theirs → MayRelease g.entries c.places c.losers (renewed_lists c g.entries lists) c.names v now → Left now
+    releasing_theirs : (v now : World) → v theirs ≡ last theirs → MayRelease g.ways c.places c.losers (renewed_lists c g.ways lists) c.names v now → Left now
     releasing_theirs v now same (inl is) = elim (among c.losers q) [
       | inl has ↦ elim (is.lists q has) [ inl kept ↦ IsOtherList.stood (kept ∙ same) | inr whole ↦ left_is has now whole ]
       | inr none ↦ IsOtherList.stood (is.rest theirs (no_other c.losers q none) ∙ same)
@@ -111,13 +111,13 @@ module _ (g : Given) (stored : Present) (p : Planned) (plan : IsPlanned (job_of 
           | inr gone ↦ absurd (true≢false (sym gone.0 ∙ plan.names_are.elsewhere theirs (list_within q)))
         ]
 
-    released_theirs : (v released : World) → v theirs ≡ last theirs → HasReleased g.entries c.places c.losers (renewed_lists c g.entries lists) c.names v released → Left released
+    released_theirs : (v released : World) → v theirs ≡ last theirs → HasReleased g.ways c.places c.losers (renewed_lists c g.ways lists) c.names v released → Left released
     released_theirs v released same has = elim (among c.losers q) [
       | inl loses ↦ left_is loses released (cleared_theirs has.mid released (has.cleared.each theirs) ∙ has.taken.lists q loses)
       | inr none ↦ IsOtherList.stood (cleared_theirs has.mid released (has.cleared.each theirs) ∙ has.taken.rest theirs (no_other c.losers q none) ∙ same)
     ]
 
-    commit_theirs : (records before : List Record) (now : World) → MayCommit c g.entries lists records before last now → Left now
+    commit_theirs : (records before : List Record) (now : World) → MayCommit c g.ways lists records before last now → Left now
     commit_theirs records before now (MayCommit.renewing may has opens) = IsOtherList.stood (renewing_theirs now may)
     commit_theirs records before now (MayCommit.replacing renewed stale first is has opens) = IsOtherList.stood (is.rest theirs (list_is_no_member own q) ∙ renewed_theirs renewed first)
     commit_theirs records before now (MayCommit.releasing renewed kept_then stale first second whole may has opens) =
@@ -125,7 +125,7 @@ module _ (g : Given) (stored : Present) (p : Planned) (plan : IsPlanned (job_of 
     commit_theirs records before now (MayCommit.noting renewed kept_then released stale first second whole third is) =
         still released now (is.rest theirs refl) (released_theirs kept_then released (second.rest theirs (list_is_no_member own q) ∙ renewed_theirs renewed first) third)
 
-    committed_theirs : (after : List Record) (now : World) → HasCommitted c g.entries lists after last now → Left now
+    committed_theirs : (after : List Record) (now : World) → HasCommitted c g.ways lists after last now → Left now
     committed_theirs after now has =
         still has.released now (has.noted.rest theirs refl) (released_theirs has.stored has.released (has.replaced.rest theirs (list_is_no_member own q) ∙ renewed_theirs has.renewed has.renewal) has.release)
 
@@ -134,7 +134,7 @@ module _ (g : Given) (stored : Present) (p : Planned) (plan : IsPlanned (job_of 
     abbrev had : List PackageList
     had = lists_at (task_from here p begun) stage
 
-    leave_theirs : (e : Ended) → AreMoved here p e works → MayLeave (changes here p works had) (commit_records here p works had table) g.entries had table (length p.others) e last now → Theirs (last theirs) (now theirs)
+    leave_theirs : (e : Ended) → AreMoved here p e works → MayLeave (changes here p works had) (commit_records here p works had table) g.ways had table (length p.others) e last now → Theirs (last theirs) (now theirs)
     leave_theirs Committed moved (MayLeaveBy.following may) = commit_theirs works begun stage moved last (commit_records here p works had table) table now may
     leave_theirs Committed moved (MayLeaveBy.clearing_away followed has opens laying) =
         still works begun stage moved last followed now (laying.rest theirs refl) (committed_theirs works begun stage moved last (put_records (commit_records here p works had table) table) followed has)

@@ -151,7 +151,7 @@ module _ (g : Given) (stored : Present) (p : Planned) (plan : IsPlanned (job_of 
     c = changes here p works lists
 
     own_keeps : Contains (unit_losers here p works lists) own → ⊥
-    own_keeps has = loser_other g.entries (taken_places works) lists own here.yields own has refl
+    own_keeps has = loser_other g.ways (taken_places works) lists own here.yields own has refl
 
     kept_or_new : (v w : World) → MayRenew p.leaving list (list_file p.new_list) v w → (w list ≡ v list) ⊎ (w list ≡ Some (list_file p.new_list))
     kept_or_new v w (inl is) = inl (renewing_keeps p.leaving [] (list_file p.new_list) v w (inl is) list
@@ -162,20 +162,20 @@ module _ (g : Given) (stored : Present) (p : Planned) (plan : IsPlanned (job_of 
     ]
 
     pub noting_list : (records before : List Record) (v renewed stored_then released w : World) (stale : List Path) → HasRenewed p.leaving list (list_file p.new_list) v renewed → AreReplaced own p.members stale renewed stored_then
-        → HasReleased g.entries c.places c.losers (renewed_lists c g.entries lists) c.names stored_then released → AreNoting records before released w → w list ≡ Some (list_file p.new_list)
+        → HasReleased g.ways c.places c.losers (renewed_lists c g.ways lists) c.names stored_then released → AreNoting records before released w → w list ≡ Some (list_file p.new_list)
     noting_list records before v renewed stored_then released w stale first second third is =
         is.rest list refl
-        ∙ released_keeps g.entries c.places c.losers (renewed_lists c g.entries lists) c.names stored_then released list third (no_other c.losers own own_keeps) (plan.names_are.elsewhere list (list_within own))
+        ∙ released_keeps g.ways c.places c.losers (renewed_lists c g.ways lists) c.names stored_then released list third (no_other c.losers own own_keeps) (plan.names_are.elsewhere list (list_within own))
         ∙ second.rest list (list_is_no_member own own) ∙ first.replaced.target
 
-    pub committed_list : (after : List Record) (v w : World) → HasCommitted c g.entries lists after v w → w list ≡ Some (list_file p.new_list)
-    committed_list after v w has = own_list c g.entries lists v after w plan.names_are.elsewhere has own_keeps
+    pub committed_list : (after : List Record) (v w : World) → HasCommitted c g.ways lists after v w → w list ≡ Some (list_file p.new_list)
+    committed_list after v w has = own_list c g.ways lists v after w plan.names_are.elsewhere has own_keeps
 
-    pub committing_list : (records before : List Record) (v w : World) → MayCommit c g.entries lists records before v w → (w list ≡ v list) ⊎ (w list ≡ Some (list_file p.new_list))
+    pub committing_list : (records before : List Record) (v w : World) → MayCommit c g.ways lists records before v w → (w list ≡ v list) ⊎ (w list ≡ Some (list_file p.new_list))
     committing_list records before v w (MayCommit.renewing may has opens) = kept_or_new v w may
     committing_list records before v w (MayCommit.replacing renewed stale first is has opens) = inr (is.rest list (list_is_no_member own own) ∙ first.replaced.target)
     committing_list records before v w (MayCommit.releasing renewed stored_then stale first second whole may has opens) = inr
-        (releasing_keeps g.entries c.places c.losers (renewed_lists c g.entries lists) c.names stored_then w list may (no_other c.losers own own_keeps) (plan.names_are.elsewhere list (list_within own))
+        (releasing_keeps g.ways c.places c.losers (renewed_lists c g.ways lists) c.names stored_then w list may (no_other c.losers own own_keeps) (plan.names_are.elsewhere list (list_within own))
         ∙ second.rest list (list_is_no_member own own) ∙ first.replaced.target)
     committing_list records before v w (MayCommit.noting renewed stored_then released stale first second whole third is) = inr (noting_list records before v renewed stored_then released w stale first second third is)
 
@@ -228,16 +228,16 @@ module _ (g : Given) (stored : Present) (p : Planned) (plan : IsPlanned (job_of 
       kept_or_renewed (inl same) = still same
       kept_or_renewed (inr new) = renews before (w list) new
 
-      may_follow_list : (e : Ended) → MayFollow c (commit_records here p works lists (table_after here p (last_place here p e))) g.entries lists (table_after here p (last_place here p e)) (length p.others) e v w → IsOwnList g before (w list)
+      may_follow_list : (e : Ended) → MayFollow c (commit_records here p works lists (table_after here p (last_place here p e))) g.ways lists (table_after here p (last_place here p e)) (length p.others) e v w → IsOwnList g before (w list)
       may_follow_list Committed may = kept_or_renewed (committing_list (commit_records here p works lists (table_after here p (last_place here p Committed))) (table_after here p (last_place here p Committed)) v w may)
       may_follow_list (Unwound fall failed) may = kept_or_gone (dropping_list (last_place here p (Unwound fall failed)) (nat_le (length p.others) fall.row) (record_in (table_after here p (last_place here p (Unwound fall failed))) own) refl v w may)
 
-      followed_list : (e : Ended) → HasFollowed c (commit_records here p works lists (table_after here p (last_place here p e))) g.entries lists (table_after here p (last_place here p e)) (length p.others) e v w → IsOwnList g before (w list)
+      followed_list : (e : Ended) → HasFollowed c (commit_records here p works lists (table_after here p (last_place here p e))) g.ways lists (table_after here p (last_place here p e)) (length p.others) e v w → IsOwnList g before (w list)
       followed_list Committed has = renews before (w list) (committed_list (put_records (commit_records here p works lists (table_after here p (last_place here p Committed))) (table_after here p (last_place here p Committed))) v w has)
       followed_list (Unwound fall failed) has = kept_or_gone (dropped_list (last_place here p (Unwound fall failed)) (nat_le (length p.others) fall.row) (record_in (table_after here p (last_place here p (Unwound fall failed))) own) refl v w has)
 
     leave_list : (e : Ended) (before : Option Node) (v w : World) → IsOwnList g before (v list)
-        → MayLeave c (commit_records here p works lists (table_after here p (last_place here p e))) g.entries lists (table_after here p (last_place here p e)) (length p.others) e v w → IsOwnList g before (w list)
+        → MayLeave c (commit_records here p works lists (table_after here p (last_place here p e))) g.ways lists (table_after here p (last_place here p e)) (length p.others) e v w → IsOwnList g before (w list)
     leave_list e before v w was (MayLeaveBy.following may) = may_follow_list before v w was e may
     leave_list e before v w was (MayLeaveBy.clearing_away followed has opens laying) = subst (IsOwnList g before) (sym (laying.rest list refl)) (followed_list before v followed was e has)
 

@@ -92,7 +92,7 @@ module _ (g : Given) (stored : Present) (p : Planned) (plan : IsPlanned (job_of 
     replacing_file renewed now same (inr (inl none)) = IsOwnMember.gone none
     replacing_file renewed now same (inr (inr new)) = stores before (now file) new
 
-    commit_file : (records table : List Record) (now : World) → MayCommit c g.entries lists records table last now → Own before (now file)
+    commit_file : (records table : List Record) (now : World) → MayCommit c g.ways lists records table last now → Own before (now file)
     commit_file records table now (MayCommit.renewing may has opens) =
         kept now (renewing_keeps p.leaving (list_path own) (list_file p.new_list) last now may file (no_renewed_place p.leaving (list_path own) file plan.lists_are.spares (member_within own member) apart.0 apart.1))
     commit_file records table now (MayCommit.replacing renewed stale first is has opens) =
@@ -103,19 +103,19 @@ module _ (g : Given) (stored : Present) (p : Planned) (plan : IsPlanned (job_of 
         ]
     commit_file records table now (MayCommit.releasing renewed stored_then stale first second whole may has opens) =
         stores before (now file)
-        (releasing_keeps g.entries c.places c.losers (renewed_lists c g.entries lists) c.names stored_then now file may (λ n loses. member_is_no_list own member n named) (plan.names_are.elsewhere file (member_within own member))
+        (releasing_keeps g.ways c.places c.losers (renewed_lists c g.ways lists) c.names stored_then now file may (λ n loses. member_is_no_list own member n named) (plan.names_are.elsewhere file (member_within own member))
         ∙ whole member named)
     commit_file records table now (MayCommit.noting renewed stored_then released stale first second whole third is) =
         stores before (now file)
         (is.rest file refl
-        ∙ released_keeps g.entries c.places c.losers (renewed_lists c g.entries lists) c.names stored_then released file third (λ n loses. member_is_no_list own member n named) (plan.names_are.elsewhere file (member_within own member))
+        ∙ released_keeps g.ways c.places c.losers (renewed_lists c g.ways lists) c.names stored_then released file third (λ n loses. member_is_no_list own member n named) (plan.names_are.elsewhere file (member_within own member))
         ∙ whole member named)
 
     module _ (table : List Record) (now : World) where
-      leave_file : (e : Ended) → MayLeave c (commit_records here p works lists table) g.entries lists table (length p.others) e last now → Own before (now file)
+      leave_file : (e : Ended) → MayLeave c (commit_records here p works lists table) g.ways lists table (length p.others) e last now → Own before (now file)
       leave_file Committed (MayLeaveBy.following may) = commit_file (commit_records here p works lists table) table now may
       leave_file Committed (MayLeaveBy.clearing_away followed has opens laying) =
-          stores before (now file) (laying.rest file refl ∙ members_stored c g.entries lists last (put_records (commit_records here p works lists table) table) followed plan.names_are.elsewhere has member named)
+          stores before (now file) (laying.rest file refl ∙ members_stored c g.ways lists last (put_records (commit_records here p works lists table) table) followed plan.names_are.elsewhere has member named)
       leave_file (Unwound fall failed) (MayLeaveBy.following may) = kept now (may_drop_same (nat_le (length p.others) fall.row) (record_in table own) own last now file may apart.0)
       leave_file (Unwound fall failed) (MayLeaveBy.clearing_away followed has opens laying) = kept now (laying.rest file refl ∙ dropped_same (nat_le (length p.others) fall.row) (record_in table own) own last followed file has apart.0)
 

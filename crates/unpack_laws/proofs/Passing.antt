@@ -16,7 +16,7 @@ use Rattle.host_core.specs.declared.node.Node.TheVariants.{File, Dir, Link}
 use Rattle.administration.specs.Places.{home_path, list_path, temporary, tmp_path, is_within}
 use Rattle.administration.proofs.Within.{within_is}
 use Rattle.control_members.specs.Stored.{stored_member_path}
-use Rattle.diversions.specs.Places.{place}
+use Rattle.diversions.specs.Ways.{place}
 use Rattle.file_lists.specs.Owners.{paths_of}
 use Rattle.file_lists.specs.Writing.{with_list}
 use Rattle.file_lists.specs.declared.paths.PackageList.{PackageList}
@@ -151,8 +151,8 @@ module _ (own q : List ℕ) (other : q ≢ own) (lists : List PackageList) where
 pub keeps_or_loses : (g : Given) (q : List ℕ) (taken : List Path) → KeepsPlaces g q → LosesPlaces g q taken → ⊥
 keeps_or_loses g q taken (inl stays) is = stays (among_kept _ (unit_yields g) q is.loses)
 keeps_or_loses g q taken (inr apart) is =
-    let one = any_of (is_at g.entries taken q) (paths_of g.lists q) (kept_passes (λ n. list_any (is_at g.entries taken n) (paths_of g.lists n)) (unit_yields g) q is.loses) in
-    apart one.0 one.1 (is.shipped (place g.entries q one.0) (among_has taken (place g.entries q one.0) one.2))
+    let one = any_of (is_at g.ways taken q) (paths_of g.lists q) (kept_passes (λ n. list_any (is_at g.ways taken n) (paths_of g.lists n)) (unit_yields g) q is.loses) in
+    apart one.0 one.1 (is.shipped (place g.ways q one.0) (among_has taken (place g.ways q one.0) one.2))
 
 module _ (g : Given) (stored : Present) (p : Planned) (plan : IsPlanned (job_of g stored) p) (places : List Path) where
   abbrev here : Ground
@@ -182,11 +182,11 @@ module _ (g : Given) (stored : Present) (p : Planned) (plan : IsPlanned (job_of 
     loses_places works begun stage moved has =
         let had = lists_at (task_from here p begun) stage in
         let other_yields = yields_beside (package_name here p) here.yields in
-        let lists_one : List PackageList → List ℕ → Bool = λ l n. list_any (is_at g.entries (taken_places works) n) (paths_of l n) in
+        let lists_one : List PackageList → List ℕ → Bool = λ l n. list_any (is_at g.ways (taken_places works) n) (paths_of l n) in
         record {
           shipped = λ at taken. taken_shipped works at moved taken;
           loses = kept_among (lists_one g.lists) here.yields q (among_kept (is_other_package (package_name here p)) here.yields q (among_kept _ other_yields q has))
-              (ap (λ (l : List Path). list_any (is_at g.entries (taken_places works) q) l) (sym (listed_then begun stage)) ∙ kept_passes (lists_one had) other_yields q has);
+              (ap (λ (l : List Path). list_any (is_at g.ways (taken_places works) q) l) (sym (listed_then begun stage)) ∙ kept_passes (lists_one had) other_yields q has);
         }
 
     -- so one that keeps its places is none of them
@@ -195,11 +195,11 @@ module _ (g : Given) (stored : Present) (p : Planned) (plan : IsPlanned (job_of 
 
   -- the old paths that go, and the names that are cleared
 
-  leaving_told : p.leaving ≡ old_leaving g.entries g.lists (unit_name g) (unit_found g) p.new_list (unit_listed g)
+  leaving_told : p.leaving ≡ old_leaving g.ways g.lists (unit_name g) (unit_found g) p.new_list (unit_listed g)
   leaving_told =
       plan.lists_are.leaving_is
-      ∙ ap (λ f. old_leaving g.entries g.lists (unit_name g) f p.new_list p.listed) plan.records_are.found_is
-      ∙ ap (λ (l : List Path). old_leaving g.entries g.lists (unit_name g) (unit_found g) p.new_list l) plan.lists_are.listed_is
+      ∙ ap (λ f. old_leaving g.ways g.lists (unit_name g) f p.new_list p.listed) plan.records_are.found_is
+      ∙ ap (λ (l : List Path). old_leaving g.ways g.lists (unit_name g) (unit_found g) p.new_list l) plan.lists_are.listed_is
 
   fresh_told : IsFresh g.«package» (unit_found g) p.fresh
   fresh_told = subst (λ f. IsFresh g.«package» f p.fresh) plan.records_are.found_is plan.records_are.fresh_is
@@ -210,17 +210,17 @@ module _ (g : Given) (stored : Present) (p : Planned) (plan : IsPlanned (job_of 
   no_cut_name : (q : Path) → IsNoCut g q → is_among (cut_names p.found p.leaving) q ≡ false
   no_cut_name q uncut =
       ap (λ xs. is_among (cut_names p.found xs) q) leaving_told
-      ∙ ap (λ f. is_among (cut_names f (old_leaving g.entries g.lists (unit_name g) (unit_found g) p.new_list (unit_listed g))) q) plan.records_are.found_is
+      ∙ ap (λ f. is_among (cut_names f (old_leaving g.ways g.lists (unit_name g) (unit_found g) p.new_list (unit_listed g))) q) plan.records_are.found_is
       ∙ uncut p.fresh p.new_list fresh_told plan.lists_are.new_is
 
-  pub no_cleared : (q : Path) → is_among (backups p.works) q ≡ false → is_among (left_names g.entries (unit_name g) g.«package».conffiles (known_conffiles (unit_found g))) q ≡ false → IsNoCut g q → is_among p.names q ≡ false
+  pub no_cleared : (q : Path) → is_among (backups p.works) q ≡ false → is_among (left_names g.ways (unit_name g) g.«package».conffiles (known_conffiles (unit_found g))) q ≡ false → IsNoCut g q → is_among p.names q ≡ false
   no_cleared q kept left uncut =
-      let waiting = left_names g.entries (unit_name g) g.«package».conffiles (known_conffiles p.found) in
+      let waiting = left_names g.ways (unit_name g) g.«package».conffiles (known_conffiles p.found) in
       ap (λ l. is_among l q) plan.names_are.names_are
       ∙ list_any-append (bytes_eq q) (backups p.works ++ waiting) (cut_names p.found p.leaving)
       ∙ or_from (is_among (backups p.works ++ waiting) q) _
       (list_any-append (bytes_eq q) (backups p.works) waiting
-      ∙ or_from (is_among (backups p.works) q) _ kept (ap (λ f. is_among (left_names g.entries (unit_name g) g.«package».conffiles (known_conffiles f)) q) plan.records_are.found_is ∙ left))
+      ∙ or_from (is_among (backups p.works) q) _ kept (ap (λ f. is_among (left_names g.ways (unit_name g) g.«package».conffiles (known_conffiles f)) q) plan.records_are.found_is ∙ left))
       (no_cut_name q uncut)
 
   -- a path at which the unit does nothing

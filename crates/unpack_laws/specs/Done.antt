@@ -5,7 +5,7 @@ use Rattle.std.specs.Str.{bytes_eq}
 use Rattle.host_core.specs.Paths.{Path}
 use Rattle.host_core.specs.World.{World, IsLoose}
 use Rattle.host_core.specs.declared.node.Node.{Node}
-use Rattle.diversions.specs.Places.{place}
+use Rattle.diversions.specs.Ways.{place}
 use Rattle.package_files.specs.declared.work.Work.{Work}
 use Rattle.list_changes.specs.Leaving.{stays}
 use Rattle.status_records.specs.declared.record.Record.{Record}
@@ -31,4 +31,4 @@ pub record LeavesNoOldFile (g : Given) (w : World) : Type 0 where
   pub paths : List Path
   pub are : IsAfter g.«package».files fresh paths
   pub none : (path : Path) → Contains (unit_listed g) path → list_any (bytes_eq path) (entry_paths (entries_of (unit_found g))) ≡ false
-      → stays g.entries g.lists (unit_name g) paths (place g.entries (unit_name g) path) ≡ false → IsClear (w (place g.entries (unit_name g) path))
+      → stays g.ways g.lists (unit_name g) paths (place g.ways (unit_name g) path) ≡ false → IsClear (w (place g.ways (unit_name g) path))

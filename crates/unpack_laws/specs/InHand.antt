@@ -3,7 +3,7 @@ use Rattle.std.specs.Prelude.{◌≡◌, ◌⊎◌, not, ℕ, false, List, ◌++
 use Rattle.host_core.specs.Paths.{Path}
 use Rattle.host_core.specs.World.{is_directory}
 use Rattle.administration.specs.Places.{home_path, is_within}
-use Rattle.diversions.specs.Places.{place}
+use Rattle.diversions.specs.Ways.{place}
 use Rattle.file_check.specs.Ships.{shipped_works}
 use Rattle.file_lists.specs.Owners.{paths_of}
 use Rattle.file_removal.specs.Clearing.{is_among}
@@ -38,7 +38,7 @@ module _ (g : Given) where
 
   -- what it ships, each path at its place, a conffile beside it (Policy 6.6, 10.7.3)
   abbrev pub unit_works : List Work
-  unit_works = shipped_works g.entries unit_name g.«package».conffiles (pairs_of g.«package».files)
+  unit_works = shipped_works g.ways unit_name g.«package».conffiles (pairs_of g.«package».files)
 
   -- the places of the files and links among that
   abbrev pub unit_file_places : List Path
@@ -51,23 +51,23 @@ module _ (g : Given) where
   -- a package that keeps its places: it doesn't yield, or none of its paths has its place where a file or a link is shipped
   -- (Policy 7.6.1)
   abbrev pub KeepsPlaces : List ℕ → Type 0
-  KeepsPlaces q = (Contains unit_yields q → ⊥) ⊎ ((path : Path) → Contains (paths_of g.lists q) path → Contains unit_file_places (place g.entries q path) → ⊥)
+  KeepsPlaces q = (Contains unit_yields q → ⊥) ⊎ ((path : Path) → Contains (paths_of g.lists q) path → Contains unit_file_places (place g.ways q path) → ⊥)
 
   -- a package that loses its paths at these places: they are of shipped files and links, it yields, and it lists a path at one of
   -- them (Policy 7.6)
   pub record LosesPlaces (q : List ℕ) (taken : List Path) : Type 0 where
     pub shipped : (at : Path) → Contains taken at → Contains unit_file_places at
-    pub loses : Contains (losers g.entries taken g.lists unit_yields) q
+    pub loses : Contains (losers g.ways taken g.lists unit_yields) q
 
   -- it is no place of an old path that goes, whichever the new list is (Policy 6.6, step 6)
   abbrev pub IsNoLeaving : Path → Type 0
   IsNoLeaving q = (fresh : Record) (paths : List Path) → IsFresh g.«package» unit_found fresh → IsAfter g.«package».files fresh paths
-      → is_leaving_place (old_leaving g.entries g.lists unit_name unit_found paths unit_listed) q ≡ false
+      → is_leaving_place (old_leaving g.ways g.lists unit_name unit_found paths unit_listed) q ≡ false
 
   -- nor, behind a unit that was cut, the name beside such a place at which a conffile waited that the cut unit shipped
   abbrev pub IsNoCut : Path → Type 0
   IsNoCut q = (fresh : Record) (paths : List Path) → IsFresh g.«package» unit_found fresh → IsAfter g.«package».files fresh paths
-      → is_among (cut_names unit_found (old_leaving g.entries g.lists unit_name unit_found paths unit_listed)) q ≡ false
+      → is_among (cut_names unit_found (old_leaving g.ways g.lists unit_name unit_found paths unit_listed)) q ≡ false
 
   -- a path outside the administration's directory at which the unit does nothing: nothing is shipped there, and neither does an
   -- old path go nor the waiting file of an old conffile, or of one of a unit that was cut (Policy 6.6, steps 6 and 11)
@@ -75,5 +75,5 @@ module _ (g : Given) where
     pub outside : is_within home_path q ≡ false
     pub unshipped : Each (λ x. Misses x q) unit_works
     pub stays : IsNoLeaving q
-    pub uncleared : is_among (left_names g.entries unit_name g.«package».conffiles (known_conffiles unit_found)) q ≡ false
+    pub uncleared : is_among (left_names g.ways unit_name g.«package».conffiles (known_conffiles unit_found)) q ≡ false
     pub uncut : IsNoCut q

@@ -15,7 +15,7 @@ module _ (g : Given) where
   -- the list of another package: the one of before, or that without the places that it loses
   pub data IsOtherList (q : List ℕ) (before now : Option Node) : Type 0 where
     stood : now ≡ before → IsOtherList q before now
-    left : (taken : List Path) → LosesPlaces g q taken → now ≡ Some (list_file (left_paths g.entries taken q (paths_of g.lists q))) → IsOtherList q before now
+    left : (taken : List Path) → LosesPlaces g q taken → now ≡ Some (list_file (left_paths g.ways taken q (paths_of g.lists q))) → IsOtherList q before now
 
   -- a stored control file of the package: the one of before, none, or that of the tree
   pub data IsOwnMember (name : Path) (before now : Option Node) : Type 0 where

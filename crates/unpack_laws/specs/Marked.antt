@@ -9,7 +9,7 @@ use Rattle.host_core.specs.declared.node.Access.{Access}
 use Rattle.host_core.specs.declared.node.Node.{Node}
 use Rattle.host_core.specs.declared.node.Node.TheVariants.{Dir}
 use Rattle.administration.specs.Places.{home_path, is_within, list_path}
-use Rattle.diversions.specs.Places.{place}
+use Rattle.diversions.specs.Ways.{place}
 use Rattle.file_lists.specs.Writing.{list_file}
 use Rattle.file_removal.specs.Clearing.{is_among}
 use Rattle.file_removal.specs.Removal.{IsGoing}
@@ -30,7 +30,7 @@ use Rattle.unpack_laws.specs.Whole.{IsWorkBack}
 module _ (g : Given) where
   -- a list of the package has a path whose place this is, or one of the names beside that place that only the installer writes
   abbrev pub IsNamedIn : List Path → Path → Type 0
-  IsNamedIn paths q = (path : Path) × Contains paths path × (is_named_by q (place g.entries (unit_name g) path) ≡ true)
+  IsNamedIn paths q = (path : Path) × Contains paths path × (is_named_by q (place g.ways (unit_name g) path) ≡ true)
 
   module _ (old now : World) (change : Change) where
     -- an old path goes: nothing is there any more, or the file that scripts made of it, which lends no rights
@@ -42,9 +42,9 @@ module _ (g : Given) where
     pub data IsAccounted (paths : List Path) (q : Path) : Type 0 where
       scripted : now q ≡ changed change old q → IsAccounted paths q
       named : IsNamedIn paths q → IsAccounted paths q
-      went : (path : Path) → Contains (unit_listed g) path → place g.entries (unit_name g) path ≡ q → IsWent q → IsAccounted paths q
-      cleared : is_among (left_names g.entries (unit_name g) g.«package».conffiles (known_conffiles (unit_found g))) q ≡ true → IsWent q → IsAccounted paths q
-      cut : was_cut (unit_found g) ≡ true → (path : Path) → Contains (unit_listed g) path → place g.entries (unit_name g) path ++ suffix_text New ≡ q → IsWent q → IsAccounted paths q
+      went : (path : Path) → Contains (unit_listed g) path → place g.ways (unit_name g) path ≡ q → IsWent q → IsAccounted paths q
+      cleared : is_among (left_names g.ways (unit_name g) g.«package».conffiles (known_conffiles (unit_found g))) q ≡ true → IsWent q → IsAccounted paths q
+      cut : was_cut (unit_found g) ≡ true → (path : Path) → Contains (unit_listed g) path → place g.ways (unit_name g) path ++ suffix_text New ≡ q → IsWent q → IsAccounted paths q
 
     -- the package's list has these paths, and what is changed is accounted for by them
     pub record IsListedSo (paths : List Path) : Type 0 where

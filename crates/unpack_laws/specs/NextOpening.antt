@@ -31,7 +31,7 @@ module _ (g : Given) where
   -- that of any other package, also of one that loses places: as above, or without the conffiles at the places that it loses
   pub data MayLoseConffiles (q : List ℕ) (now : Option Record) : Type 0 where
     kept : IsOtherRecord q now → MayLoseConffiles q now
-    lost : (r : Record) (taken : List Path) → IsOtherRecord q (Some r) → LosesPlaces g q taken → now ≡ Some (without_conffiles g.entries taken r) → MayLoseConffiles q now
+    lost : (r : Record) (taken : List Path) → IsOtherRecord q (Some r) → LosesPlaces g q taken → now ≡ Some (without_conffiles g.ways taken r) → MayLoseConffiles q now
 
   -- a package that has no row in the unit and keeps its places
   pub record IsBesideRows (q : List ℕ) : Type 0 where

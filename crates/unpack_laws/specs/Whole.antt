@@ -48,7 +48,7 @@ module _ (g : Given) where
   -- any more, or that a unit shipped which was cut (Policy 6.6, steps 6 and 11)
   pub record IsLasting (target : Path) : Type 0 where
     pub stays : IsNoLeaving g target
-    pub uncleared : is_among (left_names g.entries (unit_name g) g.«package».conffiles (known_conffiles (unit_found g))) target ≡ false
+    pub uncleared : is_among (left_names g.ways (unit_name g) g.«package».conffiles (known_conffiles (unit_found g))) target ≡ false
     pub uncut : IsNoCut g target
 
   -- the list of the package: the one of before, or none where it had no record; the old paths, as they are written again; those

@@ -33,18 +33,18 @@ module _ (j : Job) (p : Planned) (found : Option Record) (same : p.found ≡ fou
     others_are = others;
   }
 
-  pub lists_planned : p.listed ≡ paths_of j.lists (name_of j) → AreListPaths p.listed → IsUnion p.listed (shipped_paths j.«package».files) p.union → IsAfter j.«package».files p.fresh p.new_list → p.leaving ≡ old_leaving j.entries j.lists (name_of j) found p.new_list p.listed → SparesAdministration p.leaving → ArePlannedLists j p
+  pub lists_planned : p.listed ≡ paths_of j.lists (name_of j) → AreListPaths p.listed → IsUnion p.listed (shipped_paths j.«package».files) p.union → IsAfter j.«package».files p.fresh p.new_list → p.leaving ≡ old_leaving j.ways j.lists (name_of j) found p.new_list p.listed → SparesAdministration p.leaving → ArePlannedLists j p
   lists_planned listed paths union after leaving spares = record {
     listed_is = listed;
     listed_paths = paths;
     union_is = union;
     new_is = after;
-    leaving_is = leaving ∙ ap (λ (f : Option Record). old_leaving j.entries j.lists (name_of j) f p.new_list p.listed) (sym same);
+    leaving_is = leaving ∙ ap (λ (f : Option Record). old_leaving j.ways j.lists (name_of j) f p.new_list p.listed) (sym same);
     spares = spares;
   }
 
-  pub names_planned : p.names ≡ cleared_names j.entries (name_of j) found j.«package».conffiles p.works p.leaving → AreElsewhere p.names → ArePlannedNames j p
+  pub names_planned : p.names ≡ cleared_names j.ways (name_of j) found j.«package».conffiles p.works p.leaving → AreElsewhere p.names → ArePlannedNames j p
   names_planned names elsewhere = record {
-    names_are = names ∙ ap (λ (f : Option Record). cleared_names j.entries (name_of j) f j.«package».conffiles p.works p.leaving) (sym same);
+    names_are = names ∙ ap (λ (f : Option Record). cleared_names j.ways (name_of j) f j.«package».conffiles p.works p.leaving) (sym same);
     elsewhere = elsewhere;
   }

@@ -4,8 +4,7 @@ use Rattle.std.specs.List.{flat_map}
 use Rattle.host_core.specs.Paths.{Path}
 use Rattle.host_core.specs.Suffixes.{suffix_text}
 use Rattle.host_core.specs.declared.suffix.Suffix.TheVariants.{New}
-use Rattle.diversions.specs.Places.{place}
-use Rattle.diversions.specs.declared.entry.Diversion.{Diversion}
+use Rattle.diversions.specs.Ways.{place, Ways}
 use Rattle.file_check.specs.Ships.{is_conffile}
 use Rattle.file_removal.specs.declared.leaving.Leaving.{Leaving}
 use Rattle.package_files.specs.declared.work.Work.{Work}
@@ -21,12 +20,12 @@ abbrev pub known_conffiles : Option Record → List Path
 known_conffiles found = entry_paths (entries_of found) ++ map (λ d. d.path) (pending_of found)
 
 -- where the package's own conffile waited to be settled (Policy 10.7)
-abbrev pub waiting_name : List Diversion → List ℕ → Path → Path
-waiting_name entries name path = place entries name path ++ suffix_text New
+abbrev pub waiting_name : Ways → List ℕ → Path → Path
+waiting_name ways name path = place ways name path ++ suffix_text New
 
 -- the same of each of these paths that isn't shipped as a conffile any more
-abbrev pub left_names : List Diversion → List ℕ → (conffiles paths : List Path) → List Path
-left_names entries name conffiles paths = map (waiting_name entries name) (filter (λ q. not (is_conffile conffiles q)) paths)
+abbrev pub left_names : Ways → List ℕ → (conffiles paths : List Path) → List Path
+left_names ways name conffiles paths = map (waiting_name ways name) (filter (λ q. not (is_conffile conffiles q)) paths)
 
 -- where what stood at the places of works is kept meanwhile
 abbrev pub backups : List Work → List Path
@@ -56,6 +55,6 @@ gone_names leaving = flat_map gone_name leaving
 abbrev pub cut_names : Option Record → List Leaving → List Path
 cut_names found leaving = cond (was_cut found) (gone_names leaving) []
 
-abbrev pub cleared_names : List Diversion → List ℕ → Option Record → (conffiles : List Path) → List Work → List Leaving → List Path
-cleared_names entries name found conffiles works leaving =
-    (backups works ++ left_names entries name conffiles (known_conffiles found)) ++ cut_names found leaving
+abbrev pub cleared_names : Ways → List ℕ → Option Record → (conffiles : List Path) → List Work → List Leaving → List Path
+cleared_names ways name found conffiles works leaving =
+    (backups works ++ left_names ways name conffiles (known_conffiles found)) ++ cut_names found leaving

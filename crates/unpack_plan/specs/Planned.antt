@@ -5,7 +5,7 @@ use Rattle.host_core.specs.declared.node.Node.{Node}
 use Rattle.texts.specs.PackageNames.{is_package_name}
 use Rattle.undo_rows.specs.declared.rows.Row.{Row}
 use Rattle.control_members.specs.declared.member.Member.{Member}
-use Rattle.diversions.specs.declared.entry.Diversion.{Diversion}
+use Rattle.diversions.specs.Ways.{Ways}
 use Rattle.file_check.specs.Ready.{IsFitting}
 use Rattle.file_check.specs.Ships.{shipped_works}
 use Rattle.file_lists.specs.Owners.{AreListPaths, paths_of}
@@ -39,7 +39,7 @@ pub record Job : Type 0 where
   pub «package» : Package
   pub records : List Record
   pub lists : List PackageList
-  pub entries : List Diversion
+  pub ways : Ways
   pub stored : Present
   pub others : List OtherPackage
 
@@ -109,7 +109,7 @@ pub record ArePlannedRows (j : Job) (p : Planned) : Type 0 where
 
 -- what is shipped, each path at its place; a conffile beside it (Policy 10.7)
 pub record ArePlannedWorks (j : Job) (p : Planned) : Type 0 where
-  pub works_are : p.works ≡ shipped_works j.entries (name_of j) j.«package».conffiles (pairs_of j.«package».files)
+  pub works_are : p.works ≡ shipped_works j.ways (name_of j) j.«package».conffiles (pairs_of j.«package».files)
   pub named : Each IsNamed p.works
   pub fitting : Each IsFitting p.works
 
@@ -119,12 +119,12 @@ pub record ArePlannedLists (j : Job) (p : Planned) : Type 0 where
   pub listed_paths : AreListPaths p.listed
   pub union_is : IsUnion p.listed (shipped_paths j.«package».files) p.union
   pub new_is : IsAfter j.«package».files p.fresh p.new_list
-  pub leaving_is : p.leaving ≡ old_leaving j.entries j.lists (name_of j) p.found p.new_list p.listed
+  pub leaving_is : p.leaving ≡ old_leaving j.ways j.lists (name_of j) p.found p.new_list p.listed
   pub spares : SparesAdministration p.leaving
 
 -- what is left at names that only the installer writes goes (Policy 6.6, 10.7)
 pub record ArePlannedNames (j : Job) (p : Planned) : Type 0 where
-  pub names_are : p.names ≡ cleared_names j.entries (name_of j) p.found j.«package».conffiles p.works p.leaving
+  pub names_are : p.names ≡ cleared_names j.ways (name_of j) p.found j.«package».conffiles p.works p.leaving
   pub elsewhere : AreElsewhere p.names
 
 pub record IsPlanned (j : Job) (p : Planned) : Type 0 where

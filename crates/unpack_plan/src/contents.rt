@@ -39,11 +39,11 @@ pub(crate) fn contents_of(
     leaving: &[Leaving],
 ) -> Result<Contents, AllocError>
     ensures works { IfOk result (λ c. c.works.items
-        ≡ shipped_works diversions.now.entries tree.name tree.conffiles (pairs_of tree.files)) }
+        ≡ shipped_works diversions.now.ways tree.name tree.conffiles (pairs_of tree.files)) }
     ensures named { IfOk result (λ c. Each IsNamed c.works.items) }
     ensures fitting { IfOk result (λ c. Each IsFitting c.works.items) }
     ensures names { IfOk result (λ c. c.names.items
-        ≡ names_cleared diversions.now.entries tree.name (option_copied found.entry) tree.conffiles
+        ≡ names_cleared diversions.now.ways tree.name (option_copied found.entry) tree.conffiles
         c.works.items leaving.now) }
     ensures elsewhere { IfOk result (λ c. AreElsewhere c.names.items) }
     ensures members { IfOk result (λ c. AreMembersOf tree.scripts tree.others c.members) }

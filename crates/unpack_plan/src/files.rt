@@ -45,15 +45,15 @@ pub(crate) fn own_files(
         f.changes.union) }
     ensures new_list { IfOk result (λ f. IsAfter tree.files fresh.now f.changes.new_list) }
     ensures leaving { IfOk result (λ f. f.changes.leaving.items
-        ≡ old_leaving diversions.now.entries lists.now.lists tree.name (option_copied found.entry)
+        ≡ old_leaving diversions.now.ways lists.now.lists tree.name (option_copied found.entry)
         f.changes.new_list f.changes.listed) }
     ensures spares { IfOk result (λ f. SparesAdministration f.changes.leaving.items) }
     ensures works { IfOk result (λ f. f.contents.works.items
-        ≡ shipped_works diversions.now.entries tree.name tree.conffiles (pairs_of tree.files)) }
+        ≡ shipped_works diversions.now.ways tree.name tree.conffiles (pairs_of tree.files)) }
     ensures named { IfOk result (λ f. Each IsNamed f.contents.works.items) }
     ensures fitting { IfOk result (λ f. Each IsFitting f.contents.works.items) }
     ensures names { IfOk result (λ f. f.contents.names.items
-        ≡ cleared_names diversions.now.entries tree.name (option_copied found.entry)
+        ≡ cleared_names diversions.now.ways tree.name (option_copied found.entry)
         tree.conffiles f.contents.works.items f.changes.leaving.items) }
     ensures elsewhere { IfOk result (λ f. AreElsewhere f.contents.names.items) }
     ensures members { IfOk result (λ f. AreMembersOf tree.scripts tree.others

@@ -96,7 +96,7 @@ fn old_leaving(
     listed: &[RootPath],
 ) -> Result<Vec<Leaving>, AllocError>
     ensures leaving { IfOk result (λ leaving. leaving.items
-        ≡ old_leaving diversions.now.entries lists.now.lists name.now (option_copied found.entry)
+        ≡ old_leaving diversions.now.ways lists.now.lists name.now (option_copied found.entry)
         new_list.now listed.now) }
     ensures spares { IfOk result (λ leaving. SparesAdministration leaving.items) }
 {
@@ -137,7 +137,7 @@ fn changes_of(
     ensures union { IfOk result (λ c. IsUnion c.listed (paths_of files.now) c.union) }
     ensures new_list { IfOk result (λ c. IsAfter files.now fresh.now c.new_list) }
     ensures leaving { IfOk result (λ c. c.leaving.items
-        ≡ old_leaving diversions.now.entries lists.now.lists name.now (option_copied found.entry)
+        ≡ old_leaving diversions.now.ways lists.now.lists name.now (option_copied found.entry)
         c.new_list c.listed) }
     ensures spares { IfOk result (λ c. SparesAdministration c.leaving.items) }
 {
@@ -176,7 +176,7 @@ pub(crate) fn own_changes(
     ensures union { IfOk result (λ c. IsUnion c.listed (paths_of tree.now.files) c.union) }
     ensures new_list { IfOk result (λ c. IsAfter tree.now.files fresh.now c.new_list) }
     ensures leaving { IfOk result (λ c. c.leaving.items
-        ≡ old_leaving diversions.now.entries lists.now.lists tree.now.name
+        ≡ old_leaving diversions.now.ways lists.now.lists tree.now.name
         (option_copied found.entry) c.new_list c.listed) }
     ensures spares { IfOk result (λ c. SparesAdministration c.leaving.items) }
 {

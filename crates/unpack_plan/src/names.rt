@@ -39,10 +39,10 @@ fn waiting_name(
     path: &ShipPath,
 ) -> Result<RootPath, AllocError>
     ensures name { IfOk result (λ q. q
-        ≡ Rattle.unpack_plan.specs.Names.waiting_name diversions.now.entries name.now path.now) }
+        ≡ Rattle.unpack_plan.specs.Names.waiting_name diversions.now.ways name.now path.now) }
     ensures elsewhere { IfOk result (λ q. AreElsewhere (q ∷ [])) }
 {
-    let place = diversions.ship_place(name, path);
+    let place = diversions.ship_place(name, path)?;
     place.law();
     let beside = place.beside(Suffix::New)?;
     Ok(beside)
@@ -61,7 +61,7 @@ fn add_left(
         ((of : List Path)
         → ((q : Path) → contains_text conffiles.now q ≡ is_conffile of q)
         → names.new.items
-        ≡ names.old.items ++ left_names diversions.now.entries name.now of paths.now) }
+        ≡ names.old.items ++ left_names diversions.now.ways name.now of paths.now) }
     ensures elsewhere { OnOk result (AreElsewhere names.new.items) }
 {
     for path in paths {
@@ -135,7 +135,7 @@ pub(crate) fn cleared_names(
 ) -> Result<Vec<RootPath>, AllocError>
     requires { Each IsNamed works.now }
     ensures names { IfOk result (λ names. names.items
-        ≡ cleared_names diversions.now.entries name.now (option_copied found.entry) conffiles.now
+        ≡ cleared_names diversions.now.ways name.now (option_copied found.entry) conffiles.now
         works.now leaving.now) }
     ensures elsewhere { IfOk result (λ names. AreElsewhere names.items) }
 {

@@ -111,7 +111,7 @@ pub fn plan_of(
           «package» = incoming;
           records = database.now.records;
           lists = lists.now.lists;
-          entries = diversions.now.entries;
+          ways = diversions.now.ways;
           stored = stored;
           others = others.packages.items;
         })

@@ -37,7 +37,7 @@ pub(crate) fn own_works(
 ) -> Result<Vec<Work>, AllocError>
     requires { (flagged : List Path) × ∥ AreFitting files conffiles.now flagged ∥₁ }
     ensures works { IfOk result (λ works. works.items
-        ≡ shipped_works diversions.now.entries name.now conffiles.now (pairs_of files)) }
+        ≡ shipped_works diversions.now.ways name.now conffiles.now (pairs_of files)) }
     ensures named { IfOk result (λ works. Each IsNamed works.items) }
     ensures fitting { IfOk result (λ works. Each IsFitting works.items) }
 {

@@ -104,7 +104,7 @@ judged_by o w xs ys (Ok (Some f)) same sound fault = fault
 judged_by o w xs ys (Err e) same sound fault = tt
 
 module _ (t : Task) (d : Recorded) (lists : Filed) (places : List Path) (works : List Work) (s : State) (i : ℕ) (row : IsFileRow (kinds t) i) (at : At t (holding d lists places works) s (Forward i)) (u : State) (silent : Silent s u) where
-  pub row_judged : (result : Result (Option StepFault) HostFault) → Tells result (λ found w. MatchOption found (AllSound (owning t.entries lists.lists t.yields (name t)) works w) (IsStepFault (owning t.entries lists.lists t.yields (name t)) works w)) s u
+  pub row_judged : (result : Result (Option StepFault) HostFault) → Tells result (λ found w. MatchOption found (AllSound (owning t.ways lists.lists t.yields (name t)) works w) (IsStepFault (owning t.ways lists.lists t.yields (name t)) works w)) s u
       → IfOk result (IfHonest u (IsFileFault t) (calls s))
   row_judged (Ok found) judged = λ h. file_fault t d lists places works s i row at found (silent.honest h) (judged h)
   row_judged (Err e) judged = tt

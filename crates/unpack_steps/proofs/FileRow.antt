@@ -164,14 +164,14 @@ module _ (t : Task) (d : Recorded) (lists : Filed) (places : List Path) (works :
 
   -- the step fault
   fault_by : (w : World) (fault : Option StepFault)
-      → MatchOption fault (AllSound (owning t.entries lists.lists t.yields (name t)) works w) (IsStepFault (owning t.entries lists.lists t.yields (name t)) works w) → HasFault t w fault
+      → MatchOption fault (AllSound (owning t.ways lists.lists t.yields (name t)) works w) (IsStepFault (owning t.ways lists.lists t.yields (name t)) works w) → HasFault t w fault
   fault_by w None judged =
-      subst (λ (l : List Work). AllSound (owning t.entries t.lists t.yields (name t)) l w) works_before (subst (λ ls. AllSound (owning t.entries ls t.yields (name t)) works w) lists_before judged)
+      subst (λ (l : List Work). AllSound (owning t.ways t.lists t.yields (name t)) l w) works_before (subst (λ ls. AllSound (owning t.ways ls t.yields (name t)) works w) lists_before judged)
   fault_by w (Some fault) judged =
-      subst (λ (l : List Work). IsStepFault (owning t.entries t.lists t.yields (name t)) l w fault) works_before (subst (λ ls. IsStepFault (owning t.entries ls t.yields (name t)) works w fault) lists_before judged)
+      subst (λ (l : List Work). IsStepFault (owning t.ways t.lists t.yields (name t)) l w fault) works_before (subst (λ ls. IsStepFault (owning t.ways ls t.yields (name t)) works w fault) lists_before judged)
 
   pub file_fault : (fault : Option StepFault) → IsTrue s.honest
-      → MatchOption fault (AllSound (owning t.entries lists.lists t.yields (name t)) works s.world) (IsStepFault (owning t.entries lists.lists t.yields (name t)) works s.world) → IsFileFault t (calls s) fault
+      → MatchOption fault (AllSound (owning t.ways lists.lists t.yields (name t)) works s.world) (IsStepFault (owning t.ways lists.lists t.yields (name t)) works s.world) → IsFileFault t (calls s) fault
   file_fault fault h judged = record {
     ran = at.ran;
     calls_are = ap calls_of at.events ∙ calls_of-append t.start.events at.since

@@ -110,8 +110,8 @@ IsStepFault o works w (DiversionTarget path diverter) = IsFirstFault o works w (
 IsStepFault o works w (Declined path) = AllSound o works w × IsPathOf works path
 
 abbrev pub HasFault : Task → World → Option StepFault → Type 0
-HasFault t w None = AllSound (owning t.entries t.lists t.yields (name t)) t.works w
-HasFault t w (Some fault) = IsStepFault (owning t.entries t.lists t.yields (name t)) t.works w fault
+HasFault t w None = AllSound (owning t.ways t.lists t.yields (name t)) t.works w
+HasFault t w (Some fault) = IsStepFault (owning t.ways t.lists t.yields (name t)) t.works w fault
 
 -- The step fault of the file row after all these calls of the host: that in a world to which those since the rows began, and
 -- notes, have led, and in which nothing is left of what stood under a name without a record.

@@ -4,7 +4,7 @@ use Rattle.host_core.specs.Paths.{Path}
 use Rattle.host_core.specs.World.{World}
 use Rattle.host_core.specs.Host.{State}
 use Rattle.texts.specs.PackageNames.{is_package_name}
-use Rattle.diversions.specs.declared.entry.Diversion.{Diversion}
+use Rattle.diversions.specs.Ways.{Ways}
 use Rattle.file_lists.specs.Filed.{Filed}
 use Rattle.file_lists.specs.Owners.{AreListPaths}
 use Rattle.file_lists.specs.Writing.{with_list}
@@ -32,7 +32,7 @@ pub record Task : Type 0 where
   -- the records, the lists and the diversions there, and the places that scripts leave alone
   pub records : List Record
   pub lists : List PackageList
-  pub entries : List Diversion
+  pub ways : Ways
   pub places : List Path
   -- the package's record, if it has one, and the one that is noted where it has none
   pub found : Option Record
@@ -48,12 +48,12 @@ pub record Task : Type 0 where
   pub union : List Path
 
 -- the rows of this plan, begun in this state of the host with these values
-abbrev pub task_of : State → Recorded → Filed → List Diversion → List Path → List Work → Rows → Task
-task_of start database lists entries places works plan = record {
+abbrev pub task_of : State → Recorded → Filed → Ways → List Path → List Work → Rows → Task
+task_of start database lists ways places works plan = record {
   start = start;
   records = database.records;
   lists = lists.lists;
-  entries = entries;
+  ways = ways;
   places = places;
   found = plan.found;
   incoming = plan.incoming;
@@ -65,8 +65,8 @@ task_of start database lists entries places works plan = record {
 }
 
 -- the same with what is held of an administration
-abbrev pub task_by : State → Administration → List Diversion → List Work → Rows → Task
-task_by start a entries works plan = task_of start a.database a.lists entries a.places works plan
+abbrev pub task_by : State → Administration → Ways → List Work → Rows → Task
+task_by start a ways works plan = task_of start a.database a.lists ways a.places works plan
 
 -- a host in which this stands
 abbrev pub state_on : State → World → State

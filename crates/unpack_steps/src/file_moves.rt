@@ -76,9 +76,9 @@ fn check_works<H: Host>(
         (λ found. IfNone found (IsDistinct is_one_place works.new.items)) }
     ensures undeclined { IfOk result (λ found. is_declined found ≡ false) }
     ensures looks { Looks result (λ found w. MatchOption found
-        (AllSound (owning diversions.now.entries lists.now.lists rows.now.yields
+        (AllSound (owning diversions.now.ways lists.now.lists rows.now.yields
         (own_name rows.now.found rows.now.incoming)) works.old.items w)
-        (IsFirstFault (owning diversions.now.entries lists.now.lists rows.now.yields
+        (IsFirstFault (owning diversions.now.ways lists.now.lists rows.now.yields
         (own_name rows.now.found rows.now.incoming)) works.old.items w)) (H.state host.old)
         (H.state host.new) }
 {
@@ -228,9 +228,9 @@ pub(crate) fn check_and_write<H: Host>(
     requires named { Each IsNamed works.old.items }
     requires fitting { Each IsFitting works.old.items }
     ensures judged { Tells result (λ found w. MatchOption found
-        (AllSound (owning diversions.now.entries lists.old.lists rows.now.yields
+        (AllSound (owning diversions.now.ways lists.old.lists rows.now.yields
         (own_name rows.now.found rows.now.incoming)) works.old.items w)
-        (IsStepFault (owning diversions.now.entries lists.old.lists rows.now.yields
+        (IsStepFault (owning diversions.now.ways lists.old.lists rows.now.yields
         (own_name rows.now.found rows.now.incoming)) works.old.items w)) (H.state host.old)
         (H.state host.new) }
     ensures written { Gives result (λ found old new. ByAnswer found

@@ -71,24 +71,24 @@ pub fn run_unpack_rows<'a, H: Host>(
     calls: Vec<Row>,
     told: &mut Vec<Called>,
 ) -> Result<Option<Unwinding>, HostFault>
-    requires sound { IsSound (task_by (H.state host.old) administration.old diversions.now.entries
+    requires sound { IsSound (task_by (H.state host.old) administration.old diversions.now.ways
         works.old.items rows.now) }
     requires open { CanWrite administration.old }
     requires kinds { rows.now.kinds.items ≡ kinds (task_by (H.state host.old) administration.old
-        diversions.now.entries works.old.items rows.now) }
+        diversions.now.ways works.old.items rows.now) }
     requires rows { Fit (Fits (name (task_by (H.state host.old) administration.old
-        diversions.now.entries works.old.items rows.now))
-        (kinds (task_by (H.state host.old) administration.old diversions.now.entries
+        diversions.now.ways works.old.items rows.now))
+        (kinds (task_by (H.state host.old) administration.old diversions.now.ways
         works.old.items rows.now))) calls.items }
     requires length { length calls.items
-        ≡ length (kinds (task_by (H.state host.old) administration.old diversions.now.entries
+        ≡ length (kinds (task_by (H.state host.old) administration.old diversions.now.ways
         works.old.items rows.now)) }
     requires begun { Needs (H.state host.old)
-        (IsBegun (task_by (H.state host.old) administration.old diversions.now.entries
+        (IsBegun (task_by (H.state host.old) administration.old diversions.now.ways
         works.old.items rows.now) administration.old.database) }
     ensures calls { IfOk result
         (λ u. HasRun (IsFileFault (task_by (H.state host.old) administration.old
-        diversions.now.entries works.old.items rows.now)) (ended_as u) calls.items
+        diversions.now.ways works.old.items rows.now)) (ended_as u) calls.items
         (H.state host.old) (H.state host.new) told.old.items told.new.items) }
     ensures cause { IfOk result (IsCauseOf calls.items) }
     ensures denied { IfOk result
@@ -97,11 +97,11 @@ pub fn run_unpack_rows<'a, H: Host>(
     ensures told { Begun (MayRun calls.items) (H.state host.old) (H.state host.new) told.old.items
         told.new.items }
     ensures there { IfOk result (λ u. At (task_by (H.state host.old) administration.old
-        diversions.now.entries works.old.items rows.now)
+        diversions.now.ways works.old.items rows.now)
         (holding_by administration.new works.new.items) (H.state host.new)
         (end_place (length calls.items) u)) }
     ensures any_moment { AtEachStop (Stops (task_by (H.state host.old) administration.old
-        diversions.now.entries works.old.items rows.now)) (H.state host.old) (H.state host.new) }
+        diversions.now.ways works.old.items rows.now)) (H.state host.old) (H.state host.new) }
     ensures apart { WorksApart result is_record_place (H.state host.old) (H.state host.new) }
     ensures counts { Counts (H.state host.old) (H.state host.new) result }
 {

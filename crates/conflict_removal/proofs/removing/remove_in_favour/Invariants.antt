@@ -14,12 +14,12 @@ invariant-loop-name g l =
     let now = g.H.Host.state l.host in
     let before = holding_of l.fn.administration in
     let mid = holding_of l.administration in
-    let entries = l.diversions.entries in
+    let ways = l.diversions.ways in
     record {
-      removed : HaveBeenRemoved entries (take l.name-index l.names) l.failed before mid old now l.fn.told.items l.told.items;
+      removed : HaveBeenRemoved ways (take l.name-index l.names) l.failed before mid old now l.fn.told.items l.told.items;
       others : (q : List ℕ) → (Contains (take l.name-index l.names) q → ⊥) → record_in l.administration.database.records q ≡ record_in l.fn.administration.database.records q;
       order : Needs now (IsInOrder l.administration.database l.administration.lists.lists);
-      is_open : IsOpen entries l.administration;
-      moments : Since (IsAmidRemovals entries l.names before old) old now;
+      is_open : IsOpen ways l.administration;
+      moments : Since (IsAmidRemovals ways l.names before old) old now;
       counts : NoFault old now;
     }

@@ -10,7 +10,7 @@ loop-path-preserved g c =
     let w = (g.H.Host.state c.args.host.now).world in
     let v = (g.H.Host.state c.loop-path.host).world in
     record {
-      found = λ h. directories_more c.args.diversions.now.entries c.args.name.now w c.args.paths.now c.loop-path.path-index c.path-item.result c.loop-path-test.true c.path-item.is v before.reads.world c.in_ok-stands.stands (c.in_ok-stands.ensures.looks.found h)
+      found = λ h. directories_more c.args.diversions.now.ways c.args.name.now w c.args.paths.now c.loop-path.path-index c.path-item.result c.loop-path-test.true c.path-item.is v before.reads.world c.in_ok-stands.stands (c.in_ok-stands.ensures.looks.found h)
           c.if-not-stands.false (before.found (c.is_directory_at.ensures.looks.silent.honest h));
       reads = reads_then _ _ _ before.reads c.is_directory_at.ensures.looks.reads;
       silent = silent_then _ _ _ before.silent c.is_directory_at.ensures.looks.silent;
@@ -24,7 +24,7 @@ returns-then-not-stands g c = record {
         let before = c.loop-path.invariant in
         let w = (g.H.Host.state c.args.host.now).world in
         let v = (g.H.Host.state c.loop-path.host).world in
-        sym (directories_stop c.args.diversions.now.entries c.args.name.now w c.args.paths.now c.loop-path.path-index c.path-item.result c.loop-path-test.true c.path-item.is v before.reads.world c.in_ok-stands.stands (c.in_ok-stands.ensures.looks.found h)
+        sym (directories_stop c.args.diversions.now.ways c.args.name.now w c.args.paths.now c.loop-path.path-index c.path-item.result c.loop-path-test.true c.path-item.is v before.reads.world c.in_ok-stands.stands (c.in_ok-stands.ensures.looks.found h)
         c.if-not-stands.true);
     reads = search (rules, reads_then);
     silent = search rules;
@@ -37,7 +37,7 @@ returns g c = record {
   looks = record {
     found = λ h.
         let w = (g.H.Host.state c.args.host.now).world in
-        sym (directories_all c.args.diversions.now.entries c.args.name.now w c.args.paths.now c.loop-path.path-index (omega (arith, c.loop-path-test.false)) (c.loop-path.invariant.found h));
+        sym (directories_all c.args.diversions.now.ways c.args.name.now w c.args.paths.now c.loop-path.path-index (omega (arith, c.loop-path-test.false)) (c.loop-path.invariant.found h));
     reads = search (rules, reads_then);
     silent = search rules;
     counts = search rules;

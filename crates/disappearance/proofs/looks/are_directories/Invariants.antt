@@ -8,7 +8,7 @@ invariant-loop-path g l =
     let old = g.H.Host.state l.fn.host in
     let now = g.H.Host.state l.host in
     record {
-      found : IsTrue now.honest → are_directories l.diversions.entries l.name old.world (take l.path-index l.paths) ≡ true;
+      found : IsTrue now.honest → are_directories l.diversions.ways l.name old.world (take l.path-index l.paths) ≡ true;
       reads : Reads old now;
       silent : Silent old now;
       counts : NoFault old now;

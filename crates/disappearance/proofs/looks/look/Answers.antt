@@ -27,11 +27,11 @@ pub returns-then-not-empty-clause-verdict : goal.returns-then-not-empty-clause-v
 returns-then-not-empty-clause-verdict g c =
     let there : IsThere c.args.administration.now.database.records c.args.losing.now.name = record { entry = c.in-Some.entry.now; found = sym c.get.ensures ∙ ap option_copied c.in-Some.is; there = sym c.is_there.ensures ∙ c.if-not-is_there.false } in
     Stays.blocked there (c.has_lost.ensures.0 c.if-not-has_lost.false)
-    (λ h. ap (are_directories c.args.diversions.now.entries c.args.losing.now.name (g.H.Host.state c.args.host.now).world) (sym c.list_of-listed.ensures) ∙ sym (c.in_ok-empty.ensures.looks.found h) ∙ c.if-not-empty.true)
+    (λ h. ap (are_directories c.args.diversions.now.ways c.args.losing.now.name (g.H.Host.state c.args.host.now).world) (sym c.list_of-listed.ensures) ∙ sym (c.in_ok-empty.ensures.looks.found h) ∙ c.if-not-empty.true)
 
 pub returns-clause-verdict : goal.returns-clause-verdict
 returns-clause-verdict g c =
     let there : IsThere c.args.administration.now.database.records c.args.losing.now.name = record { entry = c.in-Some.entry.now; found = sym c.get.ensures ∙ ap option_copied c.in-Some.is; there = sym c.is_there.ensures ∙ c.if-not-is_there.false } in
-    verdict_of c.args.incoming.now c.args.diversions.now.entries c.args.losing.now (holding_of c.args.administration.now) _ _ c.in_ok-needed.needed there (c.has_lost.ensures.0 c.if-not-has_lost.false)
-    (λ h. ap (are_directories c.args.diversions.now.entries c.args.losing.now.name (g.H.Host.state c.args.host.now).world) (sym c.list_of-listed.ensures) ∙ sym (c.in_ok-empty.ensures.looks.found h) ∙ c.if-not-empty.false)
+    verdict_of c.args.incoming.now c.args.diversions.now.ways c.args.losing.now (holding_of c.args.administration.now) _ _ c.in_ok-needed.needed there (c.has_lost.ensures.0 c.if-not-has_lost.false)
+    (λ h. ap (are_directories c.args.diversions.now.ways c.args.losing.now.name (g.H.Host.state c.args.host.now).world) (sym c.list_of-listed.ensures) ∙ sym (c.in_ok-empty.ensures.looks.found h) ∙ c.if-not-empty.false)
     (c.in_ok-needed.ensures c.args.administration.now.database.records c.requires.indexed)

@@ -12,12 +12,12 @@ invariant-loop-one g l =
     let old = g.H.Host.state l.fn.host in
     let now = g.H.Host.state l.host in
     let before = holding_of l.fn.administration in
-    let entries = l.diversions.entries in
+    let ways = l.diversions.ways in
     record {
-      disappeared : HaveDisappeared l.incoming l.version entries (take l.one-index l.losing) l.names l.failed before (holding_of l.administration) old now l.fn.told.items l.told.items;
+      disappeared : HaveDisappeared l.incoming l.version ways (take l.one-index l.losing) l.names l.failed before (holding_of l.administration) old now l.fn.told.items l.told.items;
       order : Needs now (IsInOrder l.administration.database l.administration.lists.lists);
-      is_open : IsOpen entries l.administration;
+      is_open : IsOpen ways l.administration;
       indexed : ArePackagesOf l.administration.database.records l.packages;
-      moments : Since (IsAmidDisappearances l.incoming l.version entries l.losing before old) old now;
+      moments : Since (IsAmidDisappearances l.incoming l.version ways l.losing before old) old now;
       counts : NoFault old now;
     }

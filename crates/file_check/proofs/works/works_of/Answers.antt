@@ -6,5 +6,5 @@ use Rattle.file_check.proofs.works.works_of.Goals as goal
 
 pub returns-clause-fitting : goal.returns-clause-fitting
 returns-clause-fitting c =
-    let all = fits c.args.diversions.now.entries c.args.name.now c.args.conffiles.now c.args.files.items c.requires.conffiles in
+    let all = fits c.args.diversions.now.ways c.args.name.now c.args.conffiles.now c.args.files.items c.requires.conffiles in
     if_so _ _ (λ works is. subst (Each IsFitting) (sym is) all) c.shipped_works.result c.shipped_works.ensures.works

@@ -1,7 +1,8 @@
-use Rattle.std.proofs.Common.{Contains, take}
+use Rattle.std.proofs.Common.{◌≡◌, false, Contains, take}
+use Rattle.std.specs.Str.{bytes_eq}
 use Rattle.host_core.specs.Paths.{Path}
-use Rattle.file_lists.specs.Others.{HasAt}
+use Rattle.diversions.specs.Ways.{place}
 use Rattle.file_lists.proofs.other_owners.is_other.Given as goal
 
-abbrev pub invariant-loop-source : goal.invariant-loop-source
-invariant-loop-source l = (path : Path) → Contains (take l.source-index l.sources) path → HasAt l.diversions.entries l.at l.list path → ⊥
+abbrev pub invariant-loop-path : goal.invariant-loop-path
+invariant-loop-path l = (path : Path) → Contains (take l.path-index l.path-items) path → bytes_eq (place l.diversions.ways l.list.name path) l.at ≡ false

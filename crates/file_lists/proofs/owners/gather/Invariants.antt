@@ -2,8 +2,8 @@ use Rattle.std.proofs.Common.{length}
 use Rattle.file_lists.specs.Index.{IsGathering}
 use Rattle.file_lists.proofs.owners.gather.Given as goal
 
-abbrev pub invariant-loop-slot : goal.invariant-loop-slot
-invariant-loop-slot l = IsGathering l.diversions.entries l.at l.lists l.slots.keys l.owners
+abbrev pub invariant-loop-spot : goal.invariant-loop-spot
+invariant-loop-spot l = IsGathering l.diversions.ways l.at l.lists l.spots.keys l.owners
 
-abbrev pub decreases-loop-slot : goal.decreases-loop-slot
-decreases-loop-slot l = length l.slots.keys
+abbrev pub decreases-loop-spot : goal.decreases-loop-spot
+decreases-loop-spot l = length l.spots.keys

@@ -19,7 +19,7 @@ loop-name-init g c =
     record {
       silent = search rules;
       counts = search rules;
-      since = since_start_if (IsTaking c.args.diversions.now.entries c.args.places.now c.args.from.now c.args.table.now s.world) s (λ h. taking_start c.args.diversions.now.entries c.args.places.now c.args.from.now c.args.table.now s.world (c.requires.ready h));
+      since = since_start_if (IsTaking c.args.diversions.now.ways c.args.places.now c.args.from.now c.args.table.now s.world) s (λ h. taking_start c.args.diversions.now.ways c.args.places.now c.args.from.now c.args.table.now s.world (c.requires.ready h));
       taken = λ h name has. absurd (omega (arith, has.1));
       table = refl;
       indexed = c.requires.indexed;
@@ -32,18 +32,18 @@ take_paths-requires-clause-ready g c = λ h.
     let a = g.H.Host.state c.args.host.now in
     let b = g.H.Host.state c.loop-name.host in
     let has : Contains c.args.from.now c.name-item.result = (c.loop-name.name-index, c.loop-name-test.true, sym c.name-item.is) in
-    ready_now c.args.diversions.now.entries c.args.places.now c.args.from.now c.args.table.now a.world b.world c.name-item.result has (c.requires.ready (inv.silent.honest h) c.name-item.result has) (since_now _ a b inv.since h)
+    ready_now c.args.diversions.now.ways c.args.places.now c.args.from.now c.args.table.now a.world b.world c.name-item.result has (c.requires.ready (inv.silent.honest h) c.name-item.result has) (since_now _ a b inv.since h)
 
 pub returns-in_err-take_paths-clause-any_moment : goal.returns-in_err-take_paths-clause-any_moment
 returns-in_err-take_paths-clause-any_moment g c =
     let inv = c.loop-name.invariant in
     let has : Contains c.args.from.now c.name-item.result = (c.loop-name.name-index, c.loop-name-test.true, sym c.name-item.is) in
-    since_more c.args.diversions.now.entries c.args.places.now c.args.from.now c.args.table.now c.loop-name.table (g.H.Host.state c.args.host.now) (g.H.Host.state c.loop-name.host) (g.H.Host.state c.take_paths.new.host) c.name-item.result has (inv.lefts c.name-item.result) inv.since c.take_paths.ensures.any_moment
+    since_more c.args.diversions.now.ways c.args.places.now c.args.from.now c.args.table.now c.loop-name.table (g.H.Host.state c.args.host.now) (g.H.Host.state c.loop-name.host) (g.H.Host.state c.take_paths.new.host) c.name-item.result has (inv.lefts c.name-item.result) inv.since c.take_paths.ensures.any_moment
 
 pub loop-name-preserved : goal.loop-name-preserved
 loop-name-preserved g c =
     let inv = c.loop-name.invariant in
-    let entries = c.args.diversions.now.entries in
+    let entries = c.args.diversions.now.ways in
     let places = c.args.places.now in
     let had = c.args.table.now in
     let from = c.args.from.now in

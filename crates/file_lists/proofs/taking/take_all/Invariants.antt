@@ -11,9 +11,9 @@ abbrev pub invariant-loop-name : goal.invariant-loop-name
 invariant-loop-name g l = record {
   silent : Silent (g.H.Host.state l.fn.host) (g.H.Host.state l.host);
   counts : NoFault (g.H.Host.state l.fn.host) (g.H.Host.state l.host);
-  since : Since (λ so_far. IsTaking l.diversions.entries l.places l.from l.fn.table (g.H.Host.state l.fn.host).world) (g.H.Host.state l.fn.host) (g.H.Host.state l.host);
-  taken : IsTrue (g.H.Host.state l.host).honest → (name : List ℕ) → Contains (take l.name-index l.from) name → (g.H.Host.state l.host).world (list_path name) ≡ Some (left_file l.diversions.entries l.places l.fn.table name);
-  table : l.table ≡ without_all l.diversions.entries l.places (take l.name-index l.from) l.fn.table;
+  since : Since (λ so_far. IsTaking l.diversions.ways l.places l.from l.fn.table (g.H.Host.state l.fn.host).world) (g.H.Host.state l.fn.host) (g.H.Host.state l.host);
+  taken : IsTrue (g.H.Host.state l.host).honest → (name : List ℕ) → Contains (take l.name-index l.from) name → (g.H.Host.state l.host).world (list_path name) ≡ Some (left_file l.diversions.ways l.places l.fn.table name);
+  table : l.table ≡ without_all l.diversions.ways l.places (take l.name-index l.from) l.fn.table;
   indexed : IsIndexed l.index l.table;
-  lefts : (name : List ℕ) → left_paths l.diversions.entries l.places name (paths_of l.table name) ≡ left_paths l.diversions.entries l.places name (paths_of l.fn.table name);
+  lefts : (name : List ℕ) → left_paths l.diversions.ways l.places name (paths_of l.table name) ≡ left_paths l.diversions.ways l.places name (paths_of l.fn.table name);
 }

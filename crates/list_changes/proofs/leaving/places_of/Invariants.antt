@@ -5,4 +5,4 @@ use Rattle.list_changes.specs.Leaving.{is_place_of}
 use Rattle.list_changes.proofs.leaving.places_of.Given as goal
 
 abbrev pub invariant-loop-path : goal.invariant-loop-path
-invariant-loop-path l = (at : Path) → contains_text l.places at ≡ is_place_of l.diversions.entries l.name (take l.path-index l.paths) at
+invariant-loop-path l = (at : Path) → contains_text l.places at ≡ is_place_of l.diversions.ways l.name (take l.path-index l.paths) at

@@ -9,7 +9,7 @@ use Rattle.listed_files.proofs.closing.release.Goals as goal
 
 pub returns-in_err-take_places-clause-any_moment : goal.returns-in_err-take_places-clause-any_moment
 returns-in_err-take_places-clause-any_moment g c =
-    let entries = c.args.diversions.now.entries in
+    let entries = c.args.diversions.now.ways in
     let places = c.args.places.now in
     let from = c.args.from.now in
     let had = c.args.lists.now.lists in
@@ -22,13 +22,13 @@ returns-clause-released g c = λ h.
     (λ is. record {
       mid = _;
       taken = c.in_ok-take_places.ensures.taken h0;
-      spares = spares_loose c.args.diversions.now.entries c.args.places.now c.args.from.now c.args.lists.now.lists _ _ c.take_places.ensures.any_moment h0;
+      spares = spares_loose c.args.diversions.now.ways c.args.places.now c.args.from.now c.args.lists.now.lists _ _ c.take_places.ensures.any_moment h0;
       cleared = is;
     }) (c.retire_names.ensures.cleared h)
 
 pub returns-clause-any_moment : goal.returns-clause-any_moment
 returns-clause-any_moment g c =
-    let entries = c.args.diversions.now.entries in
+    let entries = c.args.diversions.now.ways in
     let places = c.args.places.now in
     let from = c.args.from.now in
     let had = c.args.lists.now.lists in

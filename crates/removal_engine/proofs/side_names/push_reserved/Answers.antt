@@ -10,8 +10,8 @@ use Rattle.removal_engine.proofs.side_names.push_reserved.Goals as goal
 pub returns : goal.returns
 returns c =
     let base = c.args.names.now.items in
-    let free = ownerless c.args.diversions.now.entries c.args.lists.now.lists c.args.name.now in
-    let law = ownerless_law c.args.diversions.now.entries c.args.lists.now.lists c.args.name.now in
+    let free = ownerless c.args.diversions.now.ways c.args.lists.now.lists c.args.name.now in
+    let law = ownerless_law c.args.diversions.now.ways c.args.lists.now.lists c.args.name.now in
     let beside = λ (s : Suffix). c.args.at.now ++ suffix_text s in
     let first = gathered free law [] (beside New) _ base base _ (sym (append-nil base)) c.in_ok-push_suffixed.ensures refl in
     let second = gathered free law (beside New ∷ []) (beside Old) _ base _ _ first c.in_ok-push_suffixed-2.ensures refl in

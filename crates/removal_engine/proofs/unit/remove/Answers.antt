@@ -36,13 +36,13 @@ run_stages-requires-clause-fit g c =
     let found = sym c.get.ensures ∙ ap option_copied c.unwrap-entry.ensures in
     stages_fit name c.in-Ok.stages.items rs ls
     (subst (λ (ps : List Planned). ArePlannedFit name ps rs ls) (sym plan.are)
-    (removal_fit c.args.diversions.now.entries ls name plan.stored r (is_named rs name r found) plan.to_come plan.comes c.args.extent rs ls found))
+    (removal_fit c.args.diversions.now.ways ls name plan.stored r (is_named rs name r found) plan.to_come plan.comes c.args.extent rs ls found))
 
 pub run_stages-requires-clause-settleable : goal.run_stages-requires-clause-settleable
 run_stages-requires-clause-settleable g c = λ h.
     let plan = c.in-Ok.ensures.planned in
     stages_settleable c.in-Ok.stages.items (g.H.Host.state c.plan.new.host).world
-    (subst (AllByRecursion IsStillStage) (sym plan.are) (removal_still c.args.diversions.now.entries c.index.new.self.lists c.args.name.now plan.stored c.unwrap-entry.result.now plan.to_come c.args.extent))
+    (subst (AllByRecursion IsStillStage) (sym plan.are) (removal_still c.args.diversions.now.ways c.index.new.self.lists c.args.name.now plan.stored c.unwrap-entry.result.now plan.to_come c.args.extent))
 
 pub returns-in-Ok-clause-unit : goal.returns-in-Ok-clause-unit
 returns-in-Ok-clause-unit g c =
@@ -51,7 +51,7 @@ returns-in-Ok-clause-unit g c =
     let new = g.H.Host.state c.run_stages.new.host in
     let told = c.args.told.now.items in
     let now = c.run_stages.new.told.items in
-    let at = λ (f : Filed). given c.args.extent c.args.name.now c.args.diversions.now.entries (holding c.args.administration.now.database f) in
+    let at = λ (f : Filed). given c.args.extent c.args.name.now c.args.diversions.now.ways (holding c.args.administration.now.database f) in
     let found = sym c.get.ensures ∙ ap option_copied c.unwrap-entry.ensures in
     let plan : IsPlanOf (at c.index.new.self) old.world mid.honest c.in-Ok.stages.items = record { entry = c.unwrap-entry.result.now; found = found; plan = c.in-Ok.ensures.planned } in
     let after = holding_of c.run_stages.new.administration in
@@ -62,7 +62,7 @@ returns-in-Ok-clause-unit g c =
     let planned = c.in-Ok.ensures.planned in
     let fit = stages_fit name c.in-Ok.stages.items rs ls
     (subst (λ (ps : List Planned). ArePlannedFit name ps rs ls) (sym planned.are)
-    (removal_fit c.args.diversions.now.entries ls name planned.stored r (is_named rs name r found) planned.to_come planned.comes c.args.extent rs ls found)) in
+    (removal_fit c.args.diversions.now.ways ls name planned.stored r (is_named rs name r found) planned.to_come planned.comes c.args.extent rs ls found)) in
     let own = ap is_package_name (sym (is_named rs name r found)) ∙ named r in
     if_ok_one c.run_stages.result _ _ (λ failed run.
     subst (λ (f : Filed). HasRemoved (at f) failed after old new told now) c.index.ensures
@@ -78,7 +78,7 @@ returns-in-Ok-clause-end g c =
     let found = sym c.get.ensures ∙ ap option_copied c.unwrap-entry.ensures in
     let same = one_record r c.requires.removable.entry (sym found ∙ c.requires.removable.found) in
     if_ok_one c.run_stages.result _ _ (λ failed run.
-    has_ended c.args.diversions.now.entries c.index.new.self.lists plan.stored r plan.to_come name (is_named rs name r found) c.args.extent c.in-Ok.stages.items plan.are
+    has_ended c.args.diversions.now.ways c.index.new.self.lists plan.stored r plan.to_come name (is_named rs name r found) c.args.extent c.in-Ok.stages.items plan.are
     (subst (λ (x : Record). BeginsFrom c.args.extent x.state) (sym same) c.requires.removable.begins) failed (holding c.args.administration.now.database c.index.new.self) (holding_of c.run_stages.new.administration)
     (g.H.Host.state c.plan.new.host) (g.H.Host.state c.run_stages.new.host) c.args.told.now.items c.run_stages.new.told.items found run)
     c.run_stages.ensures.ran
@@ -90,7 +90,7 @@ returns-in-Ok-clause-told g c =
     let new = g.H.Host.state c.run_stages.new.host in
     let told = c.args.told.now.items in
     let now = c.run_stages.new.told.items in
-    let at = λ (f : Filed). given c.args.extent c.args.name.now c.args.diversions.now.entries (holding c.args.administration.now.database f) in
+    let at = λ (f : Filed). given c.args.extent c.args.name.now c.args.diversions.now.ways (holding c.args.administration.now.database f) in
     let found = sym c.get.ensures ∙ ap option_copied c.unwrap-entry.ensures in
     let plan : IsPlanOf (at c.index.new.self) old.world mid.honest c.in-Ok.stages.items = record { entry = c.unwrap-entry.result.now; found = found; plan = c.in-Ok.ensures.planned } in
     subst (λ (f : Filed). HasCalled (at f) old new told now) c.index.ensures
@@ -101,7 +101,7 @@ returns-in-Ok-clause-any_moment g c =
     let old = g.H.Host.state c.args.host.now in
     let mid = g.H.Host.state c.plan.new.host in
     let new = g.H.Host.state c.run_stages.new.host in
-    let at = λ (f : Filed). given c.args.extent c.args.name.now c.args.diversions.now.entries (holding c.args.administration.now.database f) in
+    let at = λ (f : Filed). given c.args.extent c.args.name.now c.args.diversions.now.ways (holding c.args.administration.now.database f) in
     let found = sym c.get.ensures ∙ ap option_copied c.unwrap-entry.ensures in
     let plan : IsPlanOf (at c.index.new.self) old.world mid.honest c.in-Ok.stages.items = record { entry = c.unwrap-entry.result.now; found = found; plan = c.in-Ok.ensures.planned } in
     subst (λ (f : Filed). AtEachMomentOf (IsAmidUnit (at f)) old new) c.index.ensures
@@ -109,7 +109,7 @@ returns-in-Ok-clause-any_moment g c =
 
 pub returns-in-Err-clause-any_moment : goal.returns-in-Err-clause-any_moment
 returns-in-Err-clause-any_moment g c =
-    only_looked (g.H.Host.state c.args.host.now) (g.H.Host.state c.plan.new.host) c.plan.ensures.reads c.plan.ensures.silent (given c.args.extent c.args.name.now c.args.diversions.now.entries (holding_of c.args.administration.now))
+    only_looked (g.H.Host.state c.args.host.now) (g.H.Host.state c.plan.new.host) c.plan.ensures.reads c.plan.ensures.silent (given c.args.extent c.args.name.now c.args.diversions.now.ways (holding_of c.args.administration.now))
 
 pub returns-in_err-index-clause-apart : goal.returns-in_err-index-clause-apart
 returns-in_err-index-clause-apart g c = λ h. ((goes_here (g.H.Host.state c.args.host.now) h).0, passed_on _ _ c.from_residual.result c.from_residual.ensures.1)

@@ -23,14 +23,14 @@ pub returns-in-Ok-true-clause-any_moment : goal.returns-in-Ok-true-clause-any_mo
 returns-in-Ok-true-clause-any_moment g c =
     let a = g.H.Host.state c.args.host.now in
     let b = g.H.Host.state c.try_call.new.host in
-    since_called c.args.name.now c.args.diversions.now.entries c.args.administration.now.database c.args.administration.now.lists c.args.restore.items a b c.requires.order
+    since_called c.args.name.now c.args.diversions.now.ways c.args.administration.now.database c.args.administration.now.lists c.args.restore.items a b c.requires.order
     (subst (λ l. Since (OnlyScripts (is_kept l) a.world) a b) c.requires.open.kept c.try_call.ensures.any_moment)
 
 pub returns-in-Ok-clause-called : goal.returns-in-Ok-clause-called
 returns-in-Ok-clause-called g c =
     let a = g.H.Host.state c.args.host.now in
     let b = g.H.Host.state c.try_call.new.host in
-    fell_by c.args.name.now c.args.diversions.now.entries c.args.row c.args.restore.items (holding_of c.args.administration.now) (holding_of c.undo_stage.new.administration) a b (g.H.Host.state c.undo_stage.new.host) c.args.told.now.items c.try_call.new.told.items c.undo_stage.new.told.items
+    fell_by c.args.name.now c.args.diversions.now.ways c.args.row c.args.restore.items (holding_of c.args.administration.now) (holding_of c.undo_stage.new.administration) a b (g.H.Host.state c.undo_stage.new.host) c.args.told.now.items c.try_call.new.told.items c.undo_stage.new.told.items
     (subst (λ l. Makes (is_kept l) (λ ts. Tries c.args.row ts false) a b c.args.told.now.items c.try_call.new.told.items) c.requires.open.kept (failed_calls (is_kept c.args.administration.now.places) c.args.row c.in-Ok-false.field-0 a b c.args.told.now.items c.try_call.new.told.items c.in-Ok-false.field-0-test c.in-Ok-false.ensures.calls)) c.in-Ok.ensures.undone
 
 pub returns-in-Ok-clause-told : goal.returns-in-Ok-clause-told
@@ -40,7 +40,7 @@ pub returns-in-Ok-clause-any_moment : goal.returns-in-Ok-clause-any_moment
 returns-in-Ok-clause-any_moment g c =
     let a = g.H.Host.state c.args.host.now in
     let b = g.H.Host.state c.try_call.new.host in
-    since_undone c.args.name.now c.args.diversions.now.entries c.args.administration.now.database c.args.administration.now.lists c.args.restore.items a b (g.H.Host.state c.undo_stage.new.host) c.requires.order
+    since_undone c.args.name.now c.args.diversions.now.ways c.args.administration.now.database c.args.administration.now.lists c.args.restore.items a b (g.H.Host.state c.undo_stage.new.host) c.requires.order
     (subst (λ l. Since (OnlyScripts (is_kept l) a.world) a b) c.requires.open.kept c.try_call.ensures.any_moment) c.undo_stage.ensures.any_moment
 
 pub returns-in-Err-undo_stage-clause-told : goal.returns-in-Err-undo_stage-clause-told
@@ -50,7 +50,7 @@ pub returns-in-Err-undo_stage-clause-any_moment : goal.returns-in-Err-undo_stage
 returns-in-Err-undo_stage-clause-any_moment g c =
     let a = g.H.Host.state c.args.host.now in
     let b = g.H.Host.state c.try_call.new.host in
-    since_undone c.args.name.now c.args.diversions.now.entries c.args.administration.now.database c.args.administration.now.lists c.args.restore.items a b (g.H.Host.state c.undo_stage.new.host) c.requires.order
+    since_undone c.args.name.now c.args.diversions.now.ways c.args.administration.now.database c.args.administration.now.lists c.args.restore.items a b (g.H.Host.state c.undo_stage.new.host) c.requires.order
     (subst (λ l. Since (OnlyScripts (is_kept l) a.world) a b) c.requires.open.kept c.try_call.ensures.any_moment) c.undo_stage.ensures.any_moment
 
 pub returns-in-Err-clause-told : goal.returns-in-Err-clause-told
@@ -60,7 +60,7 @@ pub returns-in-Err-clause-any_moment : goal.returns-in-Err-clause-any_moment
 returns-in-Err-clause-any_moment g c =
     let a = g.H.Host.state c.args.host.now in
     let b = g.H.Host.state c.try_call.new.host in
-    since_called c.args.name.now c.args.diversions.now.entries c.args.administration.now.database c.args.administration.now.lists c.args.restore.items a b c.requires.order
+    since_called c.args.name.now c.args.diversions.now.ways c.args.administration.now.database c.args.administration.now.lists c.args.restore.items a b c.requires.order
     (subst (λ l. Since (OnlyScripts (is_kept l) a.world) a b) c.requires.open.kept c.try_call.ensures.any_moment)
 
 pub returns-in-Ok-true-clause-apart : goal.returns-in-Ok-true-clause-apart

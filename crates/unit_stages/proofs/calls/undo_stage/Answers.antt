@@ -24,7 +24,7 @@ pub returns-in-Ok-true-clause-any_moment : goal.returns-in-Ok-true-clause-any_mo
 returns-in-Ok-true-clause-any_moment g c =
     let a = g.H.Host.state c.args.host.now in
     let b = g.H.Host.state c.undo_call.new.host in
-    since_called c.args.name.now c.args.diversions.now.entries c.args.administration.now.database c.args.administration.now.lists c.args.restore.items a b c.requires.order
+    since_called c.args.name.now c.args.diversions.now.ways c.args.administration.now.database c.args.administration.now.lists c.args.restore.items a b c.requires.order
     (subst (λ l. Since (OnlyScripts (is_kept l) a.world) a b) c.requires.open.kept c.undo_call.ensures.any_moment)
 
 pub returns-in-Ok-false-clause-told : goal.returns-in-Ok-false-clause-told
@@ -34,7 +34,7 @@ pub returns-in-Ok-false-clause-any_moment : goal.returns-in-Ok-false-clause-any_
 returns-in-Ok-false-clause-any_moment g c =
     let a = g.H.Host.state c.args.host.now in
     let b = g.H.Host.state c.undo_call.new.host in
-    since_restored c.args.name.now c.args.diversions.now.entries c.args.administration.now.database c.args.administration.now.lists c.args.restore.items a b (g.H.Host.state c.do_and_keep.new.host) c.requires.order
+    since_restored c.args.name.now c.args.diversions.now.ways c.args.administration.now.database c.args.administration.now.lists c.args.restore.items a b (g.H.Host.state c.do_and_keep.new.host) c.requires.order
     (subst (λ l. Since (OnlyScripts (is_kept l) a.world) a b) c.requires.open.kept c.undo_call.ensures.any_moment) c.do_and_keep.ensures.silent c.do_and_keep.ensures.any_moment
 
 pub returns-in-Err-clause-told : goal.returns-in-Err-clause-told
@@ -44,7 +44,7 @@ pub returns-in-Err-clause-any_moment : goal.returns-in-Err-clause-any_moment
 returns-in-Err-clause-any_moment g c =
     let a = g.H.Host.state c.args.host.now in
     let b = g.H.Host.state c.undo_call.new.host in
-    since_called c.args.name.now c.args.diversions.now.entries c.args.administration.now.database c.args.administration.now.lists c.args.restore.items a b c.requires.order
+    since_called c.args.name.now c.args.diversions.now.ways c.args.administration.now.database c.args.administration.now.lists c.args.restore.items a b c.requires.order
     (subst (λ l. Since (OnlyScripts (is_kept l) a.world) a b) c.requires.open.kept c.undo_call.ensures.any_moment)
 
 pub returns-in-Ok-true-clause-apart : goal.returns-in-Ok-true-clause-apart

@@ -10,7 +10,7 @@ pub returns-clause-made : goal.returns-clause-made
 returns-clause-made c = run_made
 
 pub returns-clause-calls : goal.returns-clause-calls
-returns-clause-calls c = λ name entries stages failed before after s t told now run. made_calls (AreCallsOf stages failed) s t told now (run_made name entries stages failed before after s t told now run)
+returns-clause-calls c = λ name ways stages failed before after s t told now run. made_calls (AreCallsOf stages failed) s t told now (run_made name ways stages failed before after s t told now run)
 
 pub returns-clause-later : goal.returns-clause-later
 returns-clause-later c = run_later

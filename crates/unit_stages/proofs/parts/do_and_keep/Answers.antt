@@ -25,8 +25,8 @@ keep_places-requires-clause-unwritten g c = λ written.
     let items = c.as_slice-items.result.now in
     let none : list_any is_listing items ≡ false = sym c.have_listing-written.ensures ∙ written in
     c.requires.open.kept
-    ∙ ap (places_in c.args.diversions.now.entries) (sym (unlisted c.args.name.now items c.args.administration.now.lists.lists none))
-    ∙ ap (places_in c.args.diversions.now.entries) (sym c.in_ok-do_parts.ensures.lists)
+    ∙ ap (places_in c.args.diversions.now.ways) (sym (unlisted c.args.name.now items c.args.administration.now.lists.lists none))
+    ∙ ap (places_in c.args.diversions.now.ways) (sym c.in_ok-do_parts.ensures.lists)
 
 pub returns-clause-done : goal.returns-clause-done
 returns-clause-done g c = record {

@@ -13,13 +13,13 @@ invariant-loop-stage g l =
     let old = g.H.Host.state l.fn.host in
     let now = g.H.Host.state l.host in
     let name = l.fn.name in
-    let entries = l.fn.diversions.entries in
+    let ways = l.fn.diversions.ways in
     record {
       left : l.fn.stages.items ≡ l.yielded ++ l.stage-iterator.rest.items;
-      ran : HaveRun name entries l.yielded None (holding_of l.fn.administration) (holding_of l.administration) old now l.fn.told.items l.told.items;
+      ran : HaveRun name ways l.yielded None (holding_of l.fn.administration) (holding_of l.administration) old now l.fn.told.items l.told.items;
       order : Needs now (IsInOrder l.administration.database l.administration.lists.lists);
-      is_open : IsOpen entries l.administration;
-      any_moment : AtEachMomentOf (AreRunning name entries l.fn.stages.items (holding_of l.fn.administration)) old now;
+      is_open : IsOpen ways l.administration;
+      any_moment : AtEachMomentOf (AreRunning name ways l.fn.stages.items (holding_of l.fn.administration)) old now;
       counts : NoFault old now;
       apart : GoesApart old now;
     }

@@ -11,14 +11,14 @@ pub loop-entry-preserved : goal.loop-entry-preserved
 loop-entry-preserved c =
     let i = c.loop-entry.entry-index in
     let e = c.entry-item.result in
-    let entries = c.args.diversions.now.entries in
+    let entries = c.args.diversions.now.ways in
     let places = c.args.taken.now in
     let names = c.args.losers.now in
     elim c.if-loses.branch [
       | then-loses+in_ok-without_conffiles+in_ok-push w ↦
-          told_more (λ (r : Record). list_any (bytes_eq r.name) names && loses_conffile entries places r) c.args.records.now i e c.loop-entry-test.true c.entry-item.is (without_conffiles entries places) (sym c.loses.ensures ∙ w.if-loses.true)
+          told_more (λ (r : Record). list_any (bytes_eq r.name) names && loses_conffile entries places r) c.args.records.now i e c.loop-entry-test.true c.entry-item.is (without_conffiles entries places) (sym c.in_ok-loses.ensures ∙ w.if-loses.true)
           c.loop-entry.losing.items c.if-loses.losing.items w.in_ok-without_conffiles.field-0 c.loop-entry.invariant w.in_ok-without_conffiles.ensures (ap (λ v. v.items) w.losing-is ∙ w.in_ok-push.ensures.items)
       | else-loses w ↦
-          untold (λ (r : Record). list_any (bytes_eq r.name) names && loses_conffile entries places r) c.args.records.now i e c.loop-entry-test.true c.entry-item.is (without_conffiles entries places) (sym c.loses.ensures ∙ w.if-loses.false)
+          untold (λ (r : Record). list_any (bytes_eq r.name) names && loses_conffile entries places r) c.args.records.now i e c.loop-entry-test.true c.entry-item.is (without_conffiles entries places) (sym c.in_ok-loses.ensures ∙ w.if-loses.false)
           c.loop-entry.losing.items c.if-loses.losing.items c.loop-entry.invariant (ap (λ v. v.items) w.losing-is)
     ]

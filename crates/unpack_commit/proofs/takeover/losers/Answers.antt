@@ -10,7 +10,7 @@ pub loop-name-preserved : goal.loop-name-preserved
 loop-name-preserved c =
     let i = c.loop-name.name-index in
     let name = c.name-item.result in
-    let entries = c.args.diversions.now.entries in
+    let entries = c.args.diversions.now.ways in
     let places = c.args.taken.now in
     let lists = c.args.lists.now.lists in
     let told = c.in_ok-has_one.ensures ∙ ap (list_any (is_at entries places name)) c.list_of.ensures in

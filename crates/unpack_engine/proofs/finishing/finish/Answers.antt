@@ -20,65 +20,65 @@ moved P n own y ys u same_name same_yields none has = subst (P own ys) (sym none
 
 pub returns-in-Ok-clause-told : goal.returns-in-Ok-clause-told
 returns-in-Ok-clause-told g c =
-    moved (λ n y u. AreTold n (ended_records (ended_as u) (records_from n y c.args.diversions.now.entries c.args.lists.now.lists c.args.works.now c.args.commit c.args.database.now.records) ++ deconfigured c.finish_committed.new.database.records c.args.rows.now.others.items) c.in-Ok.touched)
+    moved (λ n y u. AreTold n (ended_records (ended_as u) (records_from n y c.args.diversions.now.ways c.args.lists.now.lists c.args.works.now c.args.commit c.args.database.now.records) ++ deconfigured c.finish_committed.new.database.records c.args.rows.now.others.items) c.in-Ok.touched)
     c.name-name.result.now _ c.as_slice-yields.result.now _ c.args.unwinding c.name-name.ensures c.as_slice-yields.ensures c.in-None.is
-    (subst (λ os. AreTold c.name-name.result.now (records_from c.name-name.result.now c.as_slice-yields.result.now c.args.diversions.now.entries c.args.lists.now.lists c.args.works.now c.args.commit c.args.database.now.records ++ deconfigured c.finish_committed.new.database.records os) c.in-Ok.touched)
+    (subst (λ os. AreTold c.name-name.result.now (records_from c.name-name.result.now c.as_slice-yields.result.now c.args.diversions.now.ways c.args.lists.now.lists c.args.works.now c.args.commit c.args.database.now.records ++ deconfigured c.finish_committed.new.database.records os) c.in-Ok.touched)
     c.as_slice-others.ensures.value c.in-Ok.ensures.told)
 
 pub returns-in-Ok-clause-lists : goal.returns-in-Ok-clause-lists
 returns-in-Ok-clause-lists g c =
-    moved (λ n y u. c.finish_committed.new.lists ≡ record c.args.lists.now { lists = ended_lists (ended_as u) (changes_from n y c.args.diversions.now.entries c.args.lists.now.lists c.args.works.now c.args.commit) c.args.diversions.now.entries c.args.lists.now.lists })
+    moved (λ n y u. c.finish_committed.new.lists ≡ record c.args.lists.now { lists = ended_lists (ended_as u) (changes_from n y c.args.diversions.now.ways c.args.lists.now.lists c.args.works.now c.args.commit) c.args.diversions.now.ways c.args.lists.now.lists })
     c.name-name.result.now _ c.as_slice-yields.result.now _ c.args.unwinding c.name-name.ensures c.as_slice-yields.ensures c.in-None.is c.in-Ok.ensures.lists
 
 pub returns-in-Ok-clause-records : goal.returns-in-Ok-clause-records
 returns-in-Ok-clause-records g c =
-    moved (λ n y u. c.finish_committed.new.database.records ≡ ended_table (ended_as u) (records_from n y c.args.diversions.now.entries c.args.lists.now.lists c.args.works.now c.args.commit c.args.database.now.records) c.args.database.now.records)
+    moved (λ n y u. c.finish_committed.new.database.records ≡ ended_table (ended_as u) (records_from n y c.args.diversions.now.ways c.args.lists.now.lists c.args.works.now c.args.commit c.args.database.now.records) c.args.database.now.records)
     c.name-name.result.now _ c.as_slice-yields.result.now _ c.args.unwinding c.name-name.ensures c.as_slice-yields.ensures c.in-None.is c.in-Ok.ensures.records
 
 pub returns-in-Ok-clause-left : goal.returns-in-Ok-clause-left
 returns-in-Ok-clause-left g c = λ h.
-    let entries = c.args.diversions.now.entries in
+    let ways = c.args.diversions.now.ways in
     let lists = c.args.lists.now.lists in
     let before = c.args.database.now.records in
-    moved (λ n y u. HasLeft (changes_from n y entries lists c.args.works.now c.args.commit) (records_from n y entries lists c.args.works.now c.args.commit before) entries lists before (length c.args.rows.now.others.items) (ended_as u)
+    moved (λ n y u. HasLeft (changes_from n y ways lists c.args.works.now c.args.commit) (records_from n y ways lists c.args.works.now c.args.commit before) ways lists before (length c.args.rows.now.others.items) (ended_as u)
     (g.H.Host.state c.args.host.now).world (g.H.Host.state c.finish_committed.new.host).world)
     c.name-name.result.now _ c.as_slice-yields.result.now _ c.args.unwinding c.name-name.ensures c.as_slice-yields.ensures c.in-None.is
-    (subst (λ os. HasLeft (changes_from c.name-name.result.now c.as_slice-yields.result.now entries lists c.args.works.now c.args.commit) (records_from c.name-name.result.now c.as_slice-yields.result.now entries lists c.args.works.now c.args.commit before) entries lists before (length os) Committed
+    (subst (λ os. HasLeft (changes_from c.name-name.result.now c.as_slice-yields.result.now ways lists c.args.works.now c.args.commit) (records_from c.name-name.result.now c.as_slice-yields.result.now ways lists c.args.works.now c.args.commit before) ways lists before (length os) Committed
     (g.H.Host.state c.args.host.now).world (g.H.Host.state c.finish_committed.new.host).world) c.as_slice-others.ensures.value (c.in-Ok.ensures.left h))
 
 pub returns-in-Ok-clause-stays : goal.returns-in-Ok-clause-stays
 returns-in-Ok-clause-stays g c = λ h.
-    let entries = c.args.diversions.now.entries in
+    let ways = c.args.diversions.now.ways in
     let lists = c.args.lists.now.lists in
     let before = c.args.database.now.records in
     let start = g.H.Host.state c.args.host.now in
     let end = g.H.Host.state c.finish_committed.new.host in
-    moved (λ n y u. HasLeftUnless (changes_from n y entries lists c.args.works.now c.args.commit) (records_from n y entries lists c.args.works.now c.args.commit before) entries lists before (length c.args.rows.now.others.items) (WasDenied start end) (ended_as u)
+    moved (λ n y u. HasLeftUnless (changes_from n y ways lists c.args.works.now c.args.commit) (records_from n y ways lists c.args.works.now c.args.commit before) ways lists before (length c.args.rows.now.others.items) (WasDenied start end) (ended_as u)
     start.world end.world)
     c.name-name.result.now _ c.as_slice-yields.result.now _ c.args.unwinding c.name-name.ensures c.as_slice-yields.ensures c.in-None.is
-    (subst (λ os. HasLeftUnless (changes_from c.name-name.result.now c.as_slice-yields.result.now entries lists c.args.works.now c.args.commit) (records_from c.name-name.result.now c.as_slice-yields.result.now entries lists c.args.works.now c.args.commit before) entries lists before (length os) (WasDenied start end) Committed
+    (subst (λ os. HasLeftUnless (changes_from c.name-name.result.now c.as_slice-yields.result.now ways lists c.args.works.now c.args.commit) (records_from c.name-name.result.now c.as_slice-yields.result.now ways lists c.args.works.now c.args.commit before) ways lists before (length os) (WasDenied start end) Committed
     start.world end.world) c.as_slice-others.ensures.value (c.in-Ok.ensures.stays h))
 
 pub returns-in-Ok-clause-any_moment : goal.returns-in-Ok-clause-any_moment
 returns-in-Ok-clause-any_moment g c =
-    let entries = c.args.diversions.now.entries in
+    let ways = c.args.diversions.now.ways in
     let lists = c.args.lists.now.lists in
     let before = c.args.database.now.records in
-    moved (λ n y u. AtEachMoment (MayLeave (changes_from n y entries lists c.args.works.now c.args.commit) (records_from n y entries lists c.args.works.now c.args.commit before) entries lists before (length c.args.rows.now.others.items) (ended_as u))
+    moved (λ n y u. AtEachMoment (MayLeave (changes_from n y ways lists c.args.works.now c.args.commit) (records_from n y ways lists c.args.works.now c.args.commit before) ways lists before (length c.args.rows.now.others.items) (ended_as u))
     (g.H.Host.state c.args.host.now) (g.H.Host.state c.finish_committed.new.host))
     c.name-name.result.now _ c.as_slice-yields.result.now _ c.args.unwinding c.name-name.ensures c.as_slice-yields.ensures c.in-None.is
-    (subst (λ os. AtEachMoment (MayLeave (changes_from c.name-name.result.now c.as_slice-yields.result.now entries lists c.args.works.now c.args.commit) (records_from c.name-name.result.now c.as_slice-yields.result.now entries lists c.args.works.now c.args.commit before) entries lists before (length os) Committed)
+    (subst (λ os. AtEachMoment (MayLeave (changes_from c.name-name.result.now c.as_slice-yields.result.now ways lists c.args.works.now c.args.commit) (records_from c.name-name.result.now c.as_slice-yields.result.now ways lists c.args.works.now c.args.commit before) ways lists before (length os) Committed)
     (g.H.Host.state c.args.host.now) (g.H.Host.state c.finish_committed.new.host)) c.as_slice-others.ensures.value c.finish_committed.ensures.any_moment)
 
 pub returns-in-None-clause-any_moment : goal.returns-in-None-clause-any_moment
 returns-in-None-clause-any_moment g c =
-    let entries = c.args.diversions.now.entries in
+    let ways = c.args.diversions.now.ways in
     let lists = c.args.lists.now.lists in
     let before = c.args.database.now.records in
-    moved (λ n y u. AtEachMoment (MayLeave (changes_from n y entries lists c.args.works.now c.args.commit) (records_from n y entries lists c.args.works.now c.args.commit before) entries lists before (length c.args.rows.now.others.items) (ended_as u))
+    moved (λ n y u. AtEachMoment (MayLeave (changes_from n y ways lists c.args.works.now c.args.commit) (records_from n y ways lists c.args.works.now c.args.commit before) ways lists before (length c.args.rows.now.others.items) (ended_as u))
     (g.H.Host.state c.args.host.now) (g.H.Host.state c.finish_committed.new.host))
     c.name-name.result.now _ c.as_slice-yields.result.now _ c.args.unwinding c.name-name.ensures c.as_slice-yields.ensures c.in-None.is
-    (subst (λ os. AtEachMoment (MayLeave (changes_from c.name-name.result.now c.as_slice-yields.result.now entries lists c.args.works.now c.args.commit) (records_from c.name-name.result.now c.as_slice-yields.result.now entries lists c.args.works.now c.args.commit before) entries lists before (length os) Committed)
+    (subst (λ os. AtEachMoment (MayLeave (changes_from c.name-name.result.now c.as_slice-yields.result.now ways lists c.args.works.now c.args.commit) (records_from c.name-name.result.now c.as_slice-yields.result.now ways lists c.args.works.now c.args.commit before) ways lists before (length os) Committed)
     (g.H.Host.state c.args.host.now) (g.H.Host.state c.finish_committed.new.host)) c.as_slice-others.ensures.value c.finish_committed.ensures.any_moment)
 
 pub finish_unwound-requires-clause-ready : goal.finish_unwound-requires-clause-ready
@@ -103,7 +103,7 @@ returns-in-Ok-finish_unwound-clause-stays g c = λ h.
     let end = g.H.Host.state c.finish_unwound.new.host in
     let name = c.name-name.result.now in
     let row = c.in-Some.unwinding.fall.row in
-    subst (λ u. HasLeftUnless (changes_from (own_name c.args.rows.now.found c.args.rows.now.incoming) c.args.rows.now.yields c.args.diversions.now.entries c.args.lists.now.lists c.args.works.now c.args.commit) (records_from (own_name c.args.rows.now.found c.args.rows.now.incoming) c.args.rows.now.yields c.args.diversions.now.entries c.args.lists.now.lists c.args.works.now c.args.commit before) c.args.diversions.now.entries c.args.lists.now.lists before (length c.args.rows.now.others.items) (WasDenied start end) (ended_as u) start.world end.world) (sym c.in-Some.is)
+    subst (λ u. HasLeftUnless (changes_from (own_name c.args.rows.now.found c.args.rows.now.incoming) c.args.rows.now.yields c.args.diversions.now.ways c.args.lists.now.lists c.args.works.now c.args.commit) (records_from (own_name c.args.rows.now.found c.args.rows.now.incoming) c.args.rows.now.yields c.args.diversions.now.ways c.args.lists.now.lists c.args.works.now c.args.commit before) c.args.diversions.now.ways c.args.lists.now.lists before (length c.args.rows.now.others.items) (WasDenied start end) (ended_as u) start.world end.world) (sym c.in-Some.is)
     (subst (λ n. HasLeftBy (HasDropped (nat_le (length c.args.rows.now.others.items) row) (record_in before n) n) start.world end.world) c.name-name.ensures
     (subst (λ os. HasLeftBy (HasDropped (nat_le (length os) row) (record_in before name) name) start.world end.world) c.as_slice-others.ensures.value (c.in-Ok-finish_unwound.ensures.left h)))
 
@@ -112,7 +112,7 @@ returns-in-Ok-finish_unwound-clause-any_moment g c =
     let before = c.args.database.now.records in
     let old = g.H.Host.state c.args.host.now in
     let new = g.H.Host.state c.finish_unwound.new.host in
-    subst (λ u. AtEachMoment (MayLeave (changes_from (own_name c.args.rows.now.found c.args.rows.now.incoming) c.args.rows.now.yields c.args.diversions.now.entries c.args.lists.now.lists c.args.works.now c.args.commit) (records_from (own_name c.args.rows.now.found c.args.rows.now.incoming) c.args.rows.now.yields c.args.diversions.now.entries c.args.lists.now.lists c.args.works.now c.args.commit before) c.args.diversions.now.entries c.args.lists.now.lists before (length c.args.rows.now.others.items) (ended_as u)) old new) (sym c.in-Some.is)
+    subst (λ u. AtEachMoment (MayLeave (changes_from (own_name c.args.rows.now.found c.args.rows.now.incoming) c.args.rows.now.yields c.args.diversions.now.ways c.args.lists.now.lists c.args.works.now c.args.commit) (records_from (own_name c.args.rows.now.found c.args.rows.now.incoming) c.args.rows.now.yields c.args.diversions.now.ways c.args.lists.now.lists c.args.works.now c.args.commit before) c.args.diversions.now.ways c.args.lists.now.lists before (length c.args.rows.now.others.items) (ended_as u)) old new) (sym c.in-Some.is)
     (subst (λ n. AtEachMoment (MayLeaveBy (HasDropped (nat_le (length c.args.rows.now.others.items) c.in-Some.unwinding.fall.row) (record_in before n) n) (MayDrop (nat_le (length c.args.rows.now.others.items) c.in-Some.unwinding.fall.row) (record_in before n) n)) old new) c.name-name.ensures
     (subst (λ os. AtEachMoment (MayLeaveBy (HasDropped (nat_le (length os) c.in-Some.unwinding.fall.row) (record_in before c.name-name.result.now) c.name-name.result.now) (MayDrop (nat_le (length os) c.in-Some.unwinding.fall.row) (record_in before c.name-name.result.now) c.name-name.result.now)) old new)
     c.as_slice-others.ensures.value c.finish_unwound.ensures.any_moment))
@@ -122,7 +122,7 @@ returns-clause-any_moment g c =
     let before = c.args.database.now.records in
     let old = g.H.Host.state c.args.host.now in
     let new = g.H.Host.state c.finish_unwound.new.host in
-    subst (λ u. AtEachMoment (MayLeave (changes_from (own_name c.args.rows.now.found c.args.rows.now.incoming) c.args.rows.now.yields c.args.diversions.now.entries c.args.lists.now.lists c.args.works.now c.args.commit) (records_from (own_name c.args.rows.now.found c.args.rows.now.incoming) c.args.rows.now.yields c.args.diversions.now.entries c.args.lists.now.lists c.args.works.now c.args.commit before) c.args.diversions.now.entries c.args.lists.now.lists before (length c.args.rows.now.others.items) (ended_as u)) old new) (sym c.in-Some.is)
+    subst (λ u. AtEachMoment (MayLeave (changes_from (own_name c.args.rows.now.found c.args.rows.now.incoming) c.args.rows.now.yields c.args.diversions.now.ways c.args.lists.now.lists c.args.works.now c.args.commit) (records_from (own_name c.args.rows.now.found c.args.rows.now.incoming) c.args.rows.now.yields c.args.diversions.now.ways c.args.lists.now.lists c.args.works.now c.args.commit before) c.args.diversions.now.ways c.args.lists.now.lists before (length c.args.rows.now.others.items) (ended_as u)) old new) (sym c.in-Some.is)
     (subst (λ n. AtEachMoment (MayLeaveBy (HasDropped (nat_le (length c.args.rows.now.others.items) c.in-Some.unwinding.fall.row) (record_in before n) n) (MayDrop (nat_le (length c.args.rows.now.others.items) c.in-Some.unwinding.fall.row) (record_in before n) n)) old new) c.name-name.ensures
     (subst (λ os. AtEachMoment (MayLeaveBy (HasDropped (nat_le (length os) c.in-Some.unwinding.fall.row) (record_in before c.name-name.result.now) c.name-name.result.now) (MayDrop (nat_le (length os) c.in-Some.unwinding.fall.row) (record_in before c.name-name.result.now) c.name-name.result.now)) old new)
     c.as_slice-others.ensures.value c.finish_unwound.ensures.any_moment))

@@ -23,7 +23,7 @@ finish_ready-requires-clause-named g c = ap (λ (x : Changes). is_package_name x
 
 pub finish_ready-requires-clause-losers : goal.finish_ready-requires-clause-losers
 finish_ready-requires-clause-losers g c = λ name has.
-    loser_named c.args.diversions.now.entries _ c.args.lists.now.lists c.args.name.now c.args.yields.now name (subst (λ (x : Changes). Contains x.losers name) c.in-Ok.ensures.change has)
+    loser_named c.args.diversions.now.ways _ c.args.lists.now.lists c.args.name.now c.args.yields.now name (subst (λ (x : Changes). Contains x.losers name) c.in-Ok.ensures.change has)
 
 pub finish_ready-requires-clause-spared : goal.finish_ready-requires-clause-spared
 finish_ready-requires-clause-spared g c = subst (λ (x : Changes). SparesAdministration x.leaving) (sym c.in-Ok.ensures.change) c.requires.spared
@@ -44,7 +44,7 @@ finish_ready-requires-clause-ready g c = λ h.
 pub finish_ready-requires-clause-losers_ready : goal.finish_ready-requires-clause-losers_ready
 finish_ready-requires-clause-losers_ready g c = λ h name has.
     list_ready (g.H.Host.state c.args.host.now).world (c.requires.info h) (c.requires.loose h) name
-    (loser_named c.args.diversions.now.entries _ c.args.lists.now.lists c.args.name.now c.args.yields.now name (subst (λ (x : Changes). Contains x.losers name) c.in-Ok.ensures.change has))
+    (loser_named c.args.diversions.now.ways _ c.args.lists.now.lists c.args.name.now c.args.yields.now name (subst (λ (x : Changes). Contains x.losers name) c.in-Ok.ensures.change has))
 
 pub finish_ready-requires-clause-members : goal.finish_ready-requires-clause-members
 finish_ready-requires-clause-members g c = λ h.
@@ -54,44 +54,44 @@ pub finish_ready-requires-clause-laid : goal.finish_ready-requires-clause-laid
 finish_ready-requires-clause-laid g c = λ h. subst (λ ms. AreLaidOut ms (g.H.Host.state c.args.host.now).world) (sym c.in-Ok.ensures.members) (c.requires.laid h)
 
 pub returns-in-Err-clause-any_moment : goal.returns-in-Err-clause-any_moment
-returns-in-Err-clause-any_moment g c = leave_start _ c.args.diversions.now.entries c.args.lists.now.lists _ c.args.database.now (length c.args.others.now) (g.H.Host.state c.args.host.now) c.requires.kept
+returns-in-Err-clause-any_moment g c = leave_start _ c.args.diversions.now.ways c.args.lists.now.lists _ c.args.database.now (length c.args.others.now) (g.H.Host.state c.args.host.now) c.requires.kept
 
 pub returns-in-Ok-clause-left : goal.returns-in-Ok-clause-left
 returns-in-Ok-clause-left g c = λ h.
-    let entries = c.args.diversions.now.entries in
+    let ways = c.args.diversions.now.ways in
     let lists = c.args.lists.now.lists in
     let before = c.args.database.now.records in
     let old = (g.H.Host.state c.args.host.now).world in
     let new = (g.H.Host.state c.finish_ready.new.host).world in
     let made = changes_of c.in-Ok.committing.change c.in-Ok.committing.new_list in
     let noted = c.in-Ok.committing.records.items in
-    on_ok c.finish_ready.result (HasLeft made noted entries lists before (length c.args.others.now) Committed old new) _
-    (λ left. subst (λ x. HasLeft x (records_from c.args.name.now c.args.yields.now entries lists c.args.works.now c.args.commit before) entries lists before (length c.args.others.now) Committed old new) c.in-Ok.ensures.change
-    (subst (λ r. HasLeft made r entries lists before (length c.args.others.now) Committed old new) c.in-Ok.ensures.records left)) (c.finish_ready.ensures.left h)
+    on_ok c.finish_ready.result (HasLeft made noted ways lists before (length c.args.others.now) Committed old new) _
+    (λ left. subst (λ x. HasLeft x (records_from c.args.name.now c.args.yields.now ways lists c.args.works.now c.args.commit before) ways lists before (length c.args.others.now) Committed old new) c.in-Ok.ensures.change
+    (subst (λ r. HasLeft made r ways lists before (length c.args.others.now) Committed old new) c.in-Ok.ensures.records left)) (c.finish_ready.ensures.left h)
 
 pub returns-in-Ok-clause-stays : goal.returns-in-Ok-clause-stays
 returns-in-Ok-clause-stays g c = λ h.
-    let entries = c.args.diversions.now.entries in
+    let ways = c.args.diversions.now.ways in
     let lists = c.args.lists.now.lists in
     let before = c.args.database.now.records in
     let start = g.H.Host.state c.args.host.now in
     let end = g.H.Host.state c.finish_ready.new.host in
     let made = changes_of c.in-Ok.committing.change c.in-Ok.committing.new_list in
     let noted = c.in-Ok.committing.records.items in
-    on_ok c.finish_ready.result (HasLeftUnless made noted entries lists before (length c.args.others.now) (WasDenied start end) Committed start.world end.world) _
-    (λ left. subst (λ x. HasLeftUnless x (records_from c.args.name.now c.args.yields.now entries lists c.args.works.now c.args.commit before) entries lists before (length c.args.others.now) (WasDenied start end) Committed start.world end.world) c.in-Ok.ensures.change
-    (subst (λ r. HasLeftUnless made r entries lists before (length c.args.others.now) (WasDenied start end) Committed start.world end.world) c.in-Ok.ensures.records left)) (c.finish_ready.ensures.stays h)
+    on_ok c.finish_ready.result (HasLeftUnless made noted ways lists before (length c.args.others.now) (WasDenied start end) Committed start.world end.world) _
+    (λ left. subst (λ x. HasLeftUnless x (records_from c.args.name.now c.args.yields.now ways lists c.args.works.now c.args.commit before) ways lists before (length c.args.others.now) (WasDenied start end) Committed start.world end.world) c.in-Ok.ensures.change
+    (subst (λ r. HasLeftUnless made r ways lists before (length c.args.others.now) (WasDenied start end) Committed start.world end.world) c.in-Ok.ensures.records left)) (c.finish_ready.ensures.stays h)
 
 pub returns-in-Ok-clause-any_moment : goal.returns-in-Ok-clause-any_moment
 returns-in-Ok-clause-any_moment g c =
-    let entries = c.args.diversions.now.entries in
+    let ways = c.args.diversions.now.ways in
     let lists = c.args.lists.now.lists in
     let before = c.args.database.now.records in
     let old = g.H.Host.state c.args.host.now in
     let new = g.H.Host.state c.finish_ready.new.host in
     let made = changes_of c.in-Ok.committing.change c.in-Ok.committing.new_list in
-    subst (λ x. AtEachMoment (MayLeave x (records_from c.args.name.now c.args.yields.now entries lists c.args.works.now c.args.commit before) entries lists before (length c.args.others.now) Committed) old new) c.in-Ok.ensures.change
-    (subst (λ r. AtEachMoment (MayLeave made r entries lists before (length c.args.others.now) Committed) old new) c.in-Ok.ensures.records c.finish_ready.ensures.any_moment)
+    subst (λ x. AtEachMoment (MayLeave x (records_from c.args.name.now c.args.yields.now ways lists c.args.works.now c.args.commit before) ways lists before (length c.args.others.now) Committed) old new) c.in-Ok.ensures.change
+    (subst (λ r. AtEachMoment (MayLeave made r ways lists before (length c.args.others.now) Committed) old new) c.in-Ok.ensures.records c.finish_ready.ensures.any_moment)
 
 pub returns-in-Ok-clause-apart : goal.returns-in-Ok-clause-apart
 returns-in-Ok-clause-apart g c = c.finish_ready.ensures.apart

@@ -54,7 +54,7 @@ returns-in-Ok-clause-ran g c =
           record { lays = (since_now (λ so_far. IsLaying old.world) old mid c.lay_out.ensures.any_moment at_mid).rest; laid = c.in-Ok.ensures.laid at_mid };
       run = made;
       between = later _ mid end c.run_unpack_rows.ensures.any_moment;
-      rows_end = subst (λ place. At (task_by mid c.args.administration.now c.args.diversions.now.entries c.args.works.now.items rows)
+      rows_end = subst (λ place. At (task_by mid c.args.administration.now c.args.diversions.now.ways c.args.works.now.items rows)
           (holding_by c.run_unpack_rows.new.administration c.run_unpack_rows.new.works.items) end place) (same_end (length c.args.calls.items) u) there;
     }) c.run_unpack_rows.ensures.calls c.run_unpack_rows.ensures.there
 
@@ -65,7 +65,7 @@ returns-in-Ok-clause-any_moment g c =
     let mid = g.H.Host.state c.lay_out.new.host in
     let end = g.H.Host.state c.run_unpack_rows.new.host in
     since_running (HasBegun c.args.members.now) IsLaying
-    (λ s. task_by s c.args.administration.now c.args.diversions.now.entries c.args.works.now.items rows) old mid c.lay_out.ensures.silent c.lay_out.ensures.any_moment end
+    (λ s. task_by s c.args.administration.now c.args.diversions.now.ways c.args.works.now.items rows) old mid c.lay_out.ensures.silent c.lay_out.ensures.any_moment end
     (λ h. record { lays = (since_now (λ so_far. IsLaying old.world) old mid c.lay_out.ensures.any_moment h).rest; laid = c.in-Ok.ensures.laid h }) c.run_unpack_rows.ensures.any_moment
 
 pub returns-in-Err-clause-any_moment : goal.returns-in-Err-clause-any_moment
@@ -74,7 +74,7 @@ returns-in-Err-clause-any_moment g c =
     let old = g.H.Host.state c.args.host.now in
     let mid = g.H.Host.state c.lay_out.new.host in
     since_beginning (HasBegun c.args.members.now) IsLaying
-    (λ s. task_by s c.args.administration.now c.args.diversions.now.entries c.args.works.now.items rows) old mid c.lay_out.ensures.silent c.lay_out.ensures.any_moment
+    (λ s. task_by s c.args.administration.now c.args.diversions.now.ways c.args.works.now.items rows) old mid c.lay_out.ensures.silent c.lay_out.ensures.any_moment
 
 pub returns-in-Ok-clause-denied : goal.returns-in-Ok-clause-denied
 returns-in-Ok-clause-denied g c =

@@ -22,16 +22,16 @@ use Rattle.status_db.specs.Held.{is_record_place}
 use Rattle.unpack_engine.proofs.unit.carry_out.Goals as goal
 
 pub begin_and_run-requires-clause-sound : goal.begin_and_run-requires-clause-sound
-begin_and_run-requires-clause-sound g c = parts_sound c.args.administration.now c.args.diversions.now.entries c.args.plan.rows c.args.plan.works.items c.args.plan.calls.items c.args.plan.commit c.requires.plan (same_standing c.args.administration.now.database.records c.law.ensures.standing) (g.H.Host.state c.args.host.now)
+begin_and_run-requires-clause-sound g c = parts_sound c.args.administration.now c.args.diversions.now.ways c.args.plan.rows c.args.plan.works.items c.args.plan.calls.items c.args.plan.commit c.requires.plan (same_standing c.args.administration.now.database.records c.law.ensures.standing) (g.H.Host.state c.args.host.now)
 
 pub begin_and_run-requires-clause-kinds : goal.begin_and_run-requires-clause-kinds
-begin_and_run-requires-clause-kinds g c = parts_kinds c.args.administration.now c.args.diversions.now.entries c.args.plan.rows c.args.plan.works.items c.args.plan.calls.items c.args.plan.commit c.requires.plan
+begin_and_run-requires-clause-kinds g c = parts_kinds c.args.administration.now c.args.diversions.now.ways c.args.plan.rows c.args.plan.works.items c.args.plan.calls.items c.args.plan.commit c.requires.plan
 
 pub begin_and_run-requires-clause-rows : goal.begin_and_run-requires-clause-rows
-begin_and_run-requires-clause-rows g c = parts_rows c.args.administration.now c.args.diversions.now.entries c.args.plan.rows c.args.plan.works.items c.args.plan.calls.items c.args.plan.commit c.requires.plan
+begin_and_run-requires-clause-rows g c = parts_rows c.args.administration.now c.args.diversions.now.ways c.args.plan.rows c.args.plan.works.items c.args.plan.calls.items c.args.plan.commit c.requires.plan
 
 pub begin_and_run-requires-clause-length : goal.begin_and_run-requires-clause-length
-begin_and_run-requires-clause-length g c = parts_length c.args.administration.now c.args.diversions.now.entries c.args.plan.rows c.args.plan.works.items c.args.plan.calls.items c.args.plan.commit c.requires.plan
+begin_and_run-requires-clause-length g c = parts_length c.args.administration.now c.args.diversions.now.ways c.args.plan.rows c.args.plan.works.items c.args.plan.calls.items c.args.plan.commit c.requires.plan
 
 pub finish-requires-clause-noting : goal.finish-requires-clause-noting
 finish-requires-clause-noting g c = c.in-Ok.ensures.ran.rows_end.opened
@@ -53,31 +53,31 @@ finish-requires-clause-elsewhere g c = c.requires.plan.planned.names_are.elsewhe
 
 pub finish-requires-clause-stands : goal.finish-requires-clause-stands
 finish-requires-clause-stands g c =
-    subst (λ (x : List Work). AreStanding (records_from (own_name c.args.plan.rows.found c.args.plan.rows.incoming) c.args.plan.rows.yields c.args.diversions.now.entries c.begin_and_run.new.administration.lists.lists x c.args.plan.commit c.begin_and_run.new.administration.database.records)) (sym c.as_slice-shipped.ensures.value)
-    (parts_stand c.args.administration.now c.args.diversions.now.entries c.args.plan.rows c.args.plan.works.items c.args.plan.calls.items c.args.plan.commit c.requires.plan (ended_as c.in-Ok.unwinding) (holding_by c.begin_and_run.new.administration c.begin_and_run.new.works.items) (g.H.Host.state c.args.host.now) (g.H.Host.state c.begin_and_run.new.host) c.requires.order (g.H.Host.tree c.args.host.now) c.args.told.now.items c.begin_and_run.new.told.items c.in-Ok.ensures.ran (same_standing c.begin_and_run.new.administration.database.records c.law-in-Ok.ensures.standing))
+    subst (λ (x : List Work). AreStanding (records_from (own_name c.args.plan.rows.found c.args.plan.rows.incoming) c.args.plan.rows.yields c.args.diversions.now.ways c.begin_and_run.new.administration.lists.lists x c.args.plan.commit c.begin_and_run.new.administration.database.records)) (sym c.as_slice-shipped.ensures.value)
+    (parts_stand c.args.administration.now c.args.diversions.now.ways c.args.plan.rows c.args.plan.works.items c.args.plan.calls.items c.args.plan.commit c.requires.plan (ended_as c.in-Ok.unwinding) (holding_by c.begin_and_run.new.administration c.begin_and_run.new.works.items) (g.H.Host.state c.args.host.now) (g.H.Host.state c.begin_and_run.new.host) c.requires.order (g.H.Host.tree c.args.host.now) c.args.told.now.items c.begin_and_run.new.told.items c.in-Ok.ensures.ran (same_standing c.begin_and_run.new.administration.database.records c.law-in-Ok.ensures.standing))
 
 pub finish-requires-clause-info : goal.finish-requires-clause-info
-finish-requires-clause-info g c = parts_info c.args.administration.now c.args.diversions.now.entries c.args.plan.rows c.args.plan.works.items c.args.plan.calls.items c.args.plan.commit c.requires.plan (ended_as c.in-Ok.unwinding) (holding_by c.begin_and_run.new.administration c.begin_and_run.new.works.items) (g.H.Host.state c.args.host.now) (g.H.Host.state c.begin_and_run.new.host) c.requires.order (g.H.Host.tree c.args.host.now) c.args.told.now.items c.begin_and_run.new.told.items c.in-Ok.ensures.ran
+finish-requires-clause-info g c = parts_info c.args.administration.now c.args.diversions.now.ways c.args.plan.rows c.args.plan.works.items c.args.plan.calls.items c.args.plan.commit c.requires.plan (ended_as c.in-Ok.unwinding) (holding_by c.begin_and_run.new.administration c.begin_and_run.new.works.items) (g.H.Host.state c.args.host.now) (g.H.Host.state c.begin_and_run.new.host) c.requires.order (g.H.Host.tree c.args.host.now) c.args.told.now.items c.begin_and_run.new.told.items c.in-Ok.ensures.ran
 
 pub finish-requires-clause-loose : goal.finish-requires-clause-loose
-finish-requires-clause-loose g c = parts_loose c.args.administration.now c.args.diversions.now.entries c.args.plan.rows c.args.plan.works.items c.args.plan.calls.items c.args.plan.commit c.requires.plan (ended_as c.in-Ok.unwinding) (holding_by c.begin_and_run.new.administration c.begin_and_run.new.works.items) (g.H.Host.state c.args.host.now) (g.H.Host.state c.begin_and_run.new.host) c.requires.order (g.H.Host.tree c.args.host.now) c.args.told.now.items c.begin_and_run.new.told.items c.in-Ok.ensures.ran
+finish-requires-clause-loose g c = parts_loose c.args.administration.now c.args.diversions.now.ways c.args.plan.rows c.args.plan.works.items c.args.plan.calls.items c.args.plan.commit c.requires.plan (ended_as c.in-Ok.unwinding) (holding_by c.begin_and_run.new.administration c.begin_and_run.new.works.items) (g.H.Host.state c.args.host.now) (g.H.Host.state c.begin_and_run.new.host) c.requires.order (g.H.Host.tree c.args.host.now) c.args.told.now.items c.begin_and_run.new.told.items c.in-Ok.ensures.ran
 
 pub finish-requires-clause-kept : goal.finish-requires-clause-kept
-finish-requires-clause-kept g c = parts_kept c.args.administration.now c.args.diversions.now.entries c.args.plan.rows c.args.plan.works.items c.args.plan.calls.items c.args.plan.commit c.requires.plan (ended_as c.in-Ok.unwinding) (holding_by c.begin_and_run.new.administration c.begin_and_run.new.works.items) (g.H.Host.state c.args.host.now) (g.H.Host.state c.begin_and_run.new.host) c.requires.order (g.H.Host.tree c.args.host.now) c.args.told.now.items c.begin_and_run.new.told.items c.in-Ok.ensures.ran
+finish-requires-clause-kept g c = parts_kept c.args.administration.now c.args.diversions.now.ways c.args.plan.rows c.args.plan.works.items c.args.plan.calls.items c.args.plan.commit c.requires.plan (ended_as c.in-Ok.unwinding) (holding_by c.begin_and_run.new.administration c.begin_and_run.new.works.items) (g.H.Host.state c.args.host.now) (g.H.Host.state c.begin_and_run.new.host) c.requires.order (g.H.Host.tree c.args.host.now) c.args.told.now.items c.begin_and_run.new.told.items c.in-Ok.ensures.ran
 
 pub finish-requires-clause-laid : goal.finish-requires-clause-laid
-finish-requires-clause-laid g c = parts_laid c.args.administration.now c.args.diversions.now.entries c.args.plan.rows c.args.plan.works.items c.args.plan.calls.items c.args.plan.commit c.requires.plan (ended_as c.in-Ok.unwinding) (holding_by c.begin_and_run.new.administration c.begin_and_run.new.works.items) (g.H.Host.state c.args.host.now) (g.H.Host.state c.begin_and_run.new.host) c.requires.order (g.H.Host.tree c.args.host.now) c.args.told.now.items c.begin_and_run.new.told.items c.in-Ok.ensures.ran
+finish-requires-clause-laid g c = parts_laid c.args.administration.now c.args.diversions.now.ways c.args.plan.rows c.args.plan.works.items c.args.plan.calls.items c.args.plan.commit c.requires.plan (ended_as c.in-Ok.unwinding) (holding_by c.begin_and_run.new.administration c.begin_and_run.new.works.items) (g.H.Host.state c.args.host.now) (g.H.Host.state c.begin_and_run.new.host) c.requires.order (g.H.Host.tree c.args.host.now) c.args.told.now.items c.begin_and_run.new.told.items c.in-Ok.ensures.ran
 
 pub returns-in-Ok-clause-unit : goal.returns-in-Ok-clause-unit
 returns-in-Ok-clause-unit g c =
-    if_ok_both c.finish.result (λ u. u.unwinding ≡ c.in-Ok.unwinding) (λ u. HasCarriedOut (ground_by c.args.administration.now c.args.diversions.now.entries c.args.plan.rows.yields) (planned c.args.plan) (ended_as u.unwinding) c.finish.new.database c.finish.new.lists.lists (g.H.Host.state c.args.host.now) (g.H.Host.state c.finish.new.host) c.args.told.now.items c.begin_and_run.new.told.items)
+    if_ok_both c.finish.result (λ u. u.unwinding ≡ c.in-Ok.unwinding) (λ u. HasCarriedOut (ground_by c.args.administration.now c.args.diversions.now.ways c.args.plan.rows.yields) (planned c.args.plan) (ended_as u.unwinding) c.finish.new.database c.finish.new.lists.lists (g.H.Host.state c.args.host.now) (g.H.Host.state c.finish.new.host) c.args.told.now.items c.begin_and_run.new.told.items)
     _ _ _ _ _ (λ u same table lists_are left stays.
-    carried_out c.args.administration.now c.args.diversions.now.entries c.args.plan.rows c.args.plan.works.items c.args.plan.calls.items c.args.plan.commit (ended_as c.in-Ok.unwinding) (ended_as u.unwinding) (holding_by c.begin_and_run.new.administration c.begin_and_run.new.works.items) c.finish.new.database c.finish.new.lists (g.H.Host.state c.args.host.now) (g.H.Host.state c.begin_and_run.new.host) (g.H.Host.state c.finish.new.host) c.args.told.now.items c.begin_and_run.new.told.items
-    (ap ended_as (sym same)) c.in-Ok.ensures.ran c.finish.ensures.silent (subst (λ (x : List Work). AtEachMoment (MayLeave (changes_from (own_name c.args.plan.rows.found c.args.plan.rows.incoming) c.args.plan.rows.yields c.args.diversions.now.entries c.begin_and_run.new.administration.lists.lists x c.args.plan.commit) (records_from (own_name c.args.plan.rows.found c.args.plan.rows.incoming) c.args.plan.rows.yields c.args.diversions.now.entries c.begin_and_run.new.administration.lists.lists x c.args.plan.commit c.begin_and_run.new.administration.database.records) c.args.diversions.now.entries c.begin_and_run.new.administration.lists.lists c.begin_and_run.new.administration.database.records (length c.args.plan.rows.others.items) (ended_as c.in-Ok.unwinding)) (g.H.Host.state c.begin_and_run.new.host) (g.H.Host.state c.finish.new.host)) c.as_slice-shipped.ensures.value c.finish.ensures.any_moment)
-    (λ h. subst (λ (x : List Work). HasLeft (changes_from (own_name c.args.plan.rows.found c.args.plan.rows.incoming) c.args.plan.rows.yields c.args.diversions.now.entries c.begin_and_run.new.administration.lists.lists x c.args.plan.commit) (records_from (own_name c.args.plan.rows.found c.args.plan.rows.incoming) c.args.plan.rows.yields c.args.diversions.now.entries c.begin_and_run.new.administration.lists.lists x c.args.plan.commit c.begin_and_run.new.administration.database.records) c.args.diversions.now.entries c.begin_and_run.new.administration.lists.lists c.begin_and_run.new.administration.database.records (length c.args.plan.rows.others.items) (ended_as c.in-Ok.unwinding) (g.H.Host.state c.begin_and_run.new.host).world (g.H.Host.state c.finish.new.host).world) c.as_slice-shipped.ensures.value (left h))
-    (λ h. subst (λ (x : List Work). HasLeftUnless (changes_from (own_name c.args.plan.rows.found c.args.plan.rows.incoming) c.args.plan.rows.yields c.args.diversions.now.entries c.begin_and_run.new.administration.lists.lists x c.args.plan.commit) (records_from (own_name c.args.plan.rows.found c.args.plan.rows.incoming) c.args.plan.rows.yields c.args.diversions.now.entries c.begin_and_run.new.administration.lists.lists x c.args.plan.commit c.begin_and_run.new.administration.database.records) c.args.diversions.now.entries c.begin_and_run.new.administration.lists.lists c.begin_and_run.new.administration.database.records (length c.args.plan.rows.others.items) (WasDenied (g.H.Host.state c.begin_and_run.new.host) (g.H.Host.state c.finish.new.host)) (ended_as c.in-Ok.unwinding) (g.H.Host.state c.begin_and_run.new.host).world (g.H.Host.state c.finish.new.host).world) c.as_slice-shipped.ensures.value (stays h))
-    (table ∙ ap (λ (x : List Work). ended_table (ended_as c.in-Ok.unwinding) (records_from (own_name c.args.plan.rows.found c.args.plan.rows.incoming) c.args.plan.rows.yields c.args.diversions.now.entries c.begin_and_run.new.administration.lists.lists x c.args.plan.commit c.begin_and_run.new.administration.database.records) c.begin_and_run.new.administration.database.records) c.as_slice-shipped.ensures.value)
-    (ap (λ l. l.lists) lists_are ∙ ap (λ (x : List Work). ended_lists (ended_as c.in-Ok.unwinding) (changes_from (own_name c.args.plan.rows.found c.args.plan.rows.incoming) c.args.plan.rows.yields c.args.diversions.now.entries c.begin_and_run.new.administration.lists.lists x c.args.plan.commit) c.args.diversions.now.entries c.begin_and_run.new.administration.lists.lists) c.as_slice-shipped.ensures.value))
+    carried_out c.args.administration.now c.args.diversions.now.ways c.args.plan.rows c.args.plan.works.items c.args.plan.calls.items c.args.plan.commit (ended_as c.in-Ok.unwinding) (ended_as u.unwinding) (holding_by c.begin_and_run.new.administration c.begin_and_run.new.works.items) c.finish.new.database c.finish.new.lists (g.H.Host.state c.args.host.now) (g.H.Host.state c.begin_and_run.new.host) (g.H.Host.state c.finish.new.host) c.args.told.now.items c.begin_and_run.new.told.items
+    (ap ended_as (sym same)) c.in-Ok.ensures.ran c.finish.ensures.silent (subst (λ (x : List Work). AtEachMoment (MayLeave (changes_from (own_name c.args.plan.rows.found c.args.plan.rows.incoming) c.args.plan.rows.yields c.args.diversions.now.ways c.begin_and_run.new.administration.lists.lists x c.args.plan.commit) (records_from (own_name c.args.plan.rows.found c.args.plan.rows.incoming) c.args.plan.rows.yields c.args.diversions.now.ways c.begin_and_run.new.administration.lists.lists x c.args.plan.commit c.begin_and_run.new.administration.database.records) c.args.diversions.now.ways c.begin_and_run.new.administration.lists.lists c.begin_and_run.new.administration.database.records (length c.args.plan.rows.others.items) (ended_as c.in-Ok.unwinding)) (g.H.Host.state c.begin_and_run.new.host) (g.H.Host.state c.finish.new.host)) c.as_slice-shipped.ensures.value c.finish.ensures.any_moment)
+    (λ h. subst (λ (x : List Work). HasLeft (changes_from (own_name c.args.plan.rows.found c.args.plan.rows.incoming) c.args.plan.rows.yields c.args.diversions.now.ways c.begin_and_run.new.administration.lists.lists x c.args.plan.commit) (records_from (own_name c.args.plan.rows.found c.args.plan.rows.incoming) c.args.plan.rows.yields c.args.diversions.now.ways c.begin_and_run.new.administration.lists.lists x c.args.plan.commit c.begin_and_run.new.administration.database.records) c.args.diversions.now.ways c.begin_and_run.new.administration.lists.lists c.begin_and_run.new.administration.database.records (length c.args.plan.rows.others.items) (ended_as c.in-Ok.unwinding) (g.H.Host.state c.begin_and_run.new.host).world (g.H.Host.state c.finish.new.host).world) c.as_slice-shipped.ensures.value (left h))
+    (λ h. subst (λ (x : List Work). HasLeftUnless (changes_from (own_name c.args.plan.rows.found c.args.plan.rows.incoming) c.args.plan.rows.yields c.args.diversions.now.ways c.begin_and_run.new.administration.lists.lists x c.args.plan.commit) (records_from (own_name c.args.plan.rows.found c.args.plan.rows.incoming) c.args.plan.rows.yields c.args.diversions.now.ways c.begin_and_run.new.administration.lists.lists x c.args.plan.commit c.begin_and_run.new.administration.database.records) c.args.diversions.now.ways c.begin_and_run.new.administration.lists.lists c.begin_and_run.new.administration.database.records (length c.args.plan.rows.others.items) (WasDenied (g.H.Host.state c.begin_and_run.new.host) (g.H.Host.state c.finish.new.host)) (ended_as c.in-Ok.unwinding) (g.H.Host.state c.begin_and_run.new.host).world (g.H.Host.state c.finish.new.host).world) c.as_slice-shipped.ensures.value (stays h))
+    (table ∙ ap (λ (x : List Work). ended_table (ended_as c.in-Ok.unwinding) (records_from (own_name c.args.plan.rows.found c.args.plan.rows.incoming) c.args.plan.rows.yields c.args.diversions.now.ways c.begin_and_run.new.administration.lists.lists x c.args.plan.commit c.begin_and_run.new.administration.database.records) c.begin_and_run.new.administration.database.records) c.as_slice-shipped.ensures.value)
+    (ap (λ l. l.lists) lists_are ∙ ap (λ (x : List Work). ended_lists (ended_as c.in-Ok.unwinding) (changes_from (own_name c.args.plan.rows.found c.args.plan.rows.incoming) c.args.plan.rows.yields c.args.diversions.now.ways c.begin_and_run.new.administration.lists.lists x c.args.plan.commit) c.args.diversions.now.ways c.begin_and_run.new.administration.lists.lists) c.as_slice-shipped.ensures.value))
     c.finish.ensures.unwinding c.finish.ensures.records c.finish.ensures.lists c.finish.ensures.left c.finish.ensures.stays
 
 pub returns-in-Ok-clause-cause : goal.returns-in-Ok-clause-cause
@@ -94,10 +94,10 @@ returns-in-Ok-clause-denied g c =
 
 pub returns-in-Ok-clause-touched : goal.returns-in-Ok-clause-touched
 returns-in-Ok-clause-touched g c =
-    if_ok_with c.finish.result (λ u. AreTold (own_name c.args.plan.rows.found c.args.plan.rows.incoming) (ended_records (ended_as c.in-Ok.unwinding) (records_from (own_name c.args.plan.rows.found c.args.plan.rows.incoming) c.args.plan.rows.yields c.args.diversions.now.entries c.begin_and_run.new.administration.lists.lists c.as_slice-shipped.result.now c.args.plan.commit c.begin_and_run.new.administration.database.records) ++ deconfigured c.finish.new.database.records c.args.plan.rows.others.items) u.touched) (λ u. IsTouched (own_name c.args.plan.rows.found c.args.plan.rows.incoming) c.args.administration.now.database.records c.finish.new.database.records u.touched) _
-    (λ u told table. parts_touched c.args.administration.now c.args.diversions.now.entries c.args.plan.rows c.args.plan.works.items c.args.plan.calls.items c.args.plan.commit c.requires.plan (ended_as c.in-Ok.unwinding) (holding_by c.begin_and_run.new.administration c.begin_and_run.new.works.items) (g.H.Host.state c.args.host.now) (g.H.Host.state c.begin_and_run.new.host) c.requires.order (g.H.Host.tree c.args.host.now) c.args.told.now.items c.begin_and_run.new.told.items c.in-Ok.ensures.ran (order_apart c.begin_and_run.new.administration.database.records c.law-in-Ok.ensures.order) c.finish.new.database.records u.touched
-    (table ∙ ap (λ (x : List Work). ended_table (ended_as c.in-Ok.unwinding) (records_from (own_name c.args.plan.rows.found c.args.plan.rows.incoming) c.args.plan.rows.yields c.args.diversions.now.entries c.begin_and_run.new.administration.lists.lists x c.args.plan.commit c.begin_and_run.new.administration.database.records) c.begin_and_run.new.administration.database.records) c.as_slice-shipped.ensures.value)
-    (subst (λ (x : List Work). AreTold (own_name c.args.plan.rows.found c.args.plan.rows.incoming) (ended_records (ended_as c.in-Ok.unwinding) (records_from (own_name c.args.plan.rows.found c.args.plan.rows.incoming) c.args.plan.rows.yields c.args.diversions.now.entries c.begin_and_run.new.administration.lists.lists x c.args.plan.commit c.begin_and_run.new.administration.database.records) ++ deconfigured c.finish.new.database.records c.args.plan.rows.others.items) u.touched) c.as_slice-shipped.ensures.value told))
+    if_ok_with c.finish.result (λ u. AreTold (own_name c.args.plan.rows.found c.args.plan.rows.incoming) (ended_records (ended_as c.in-Ok.unwinding) (records_from (own_name c.args.plan.rows.found c.args.plan.rows.incoming) c.args.plan.rows.yields c.args.diversions.now.ways c.begin_and_run.new.administration.lists.lists c.as_slice-shipped.result.now c.args.plan.commit c.begin_and_run.new.administration.database.records) ++ deconfigured c.finish.new.database.records c.args.plan.rows.others.items) u.touched) (λ u. IsTouched (own_name c.args.plan.rows.found c.args.plan.rows.incoming) c.args.administration.now.database.records c.finish.new.database.records u.touched) _
+    (λ u told table. parts_touched c.args.administration.now c.args.diversions.now.ways c.args.plan.rows c.args.plan.works.items c.args.plan.calls.items c.args.plan.commit c.requires.plan (ended_as c.in-Ok.unwinding) (holding_by c.begin_and_run.new.administration c.begin_and_run.new.works.items) (g.H.Host.state c.args.host.now) (g.H.Host.state c.begin_and_run.new.host) c.requires.order (g.H.Host.tree c.args.host.now) c.args.told.now.items c.begin_and_run.new.told.items c.in-Ok.ensures.ran (order_apart c.begin_and_run.new.administration.database.records c.law-in-Ok.ensures.order) c.finish.new.database.records u.touched
+    (table ∙ ap (λ (x : List Work). ended_table (ended_as c.in-Ok.unwinding) (records_from (own_name c.args.plan.rows.found c.args.plan.rows.incoming) c.args.plan.rows.yields c.args.diversions.now.ways c.begin_and_run.new.administration.lists.lists x c.args.plan.commit c.begin_and_run.new.administration.database.records) c.begin_and_run.new.administration.database.records) c.as_slice-shipped.ensures.value)
+    (subst (λ (x : List Work). AreTold (own_name c.args.plan.rows.found c.args.plan.rows.incoming) (ended_records (ended_as c.in-Ok.unwinding) (records_from (own_name c.args.plan.rows.found c.args.plan.rows.incoming) c.args.plan.rows.yields c.args.diversions.now.ways c.begin_and_run.new.administration.lists.lists x c.args.plan.commit c.begin_and_run.new.administration.database.records) ++ deconfigured c.finish.new.database.records c.args.plan.rows.others.items) u.touched) c.as_slice-shipped.ensures.value told))
     c.finish.ensures.told c.finish.ensures.records
 
 pub returns-in-Ok-clause-open : goal.returns-in-Ok-clause-open
@@ -110,11 +110,11 @@ returns-in-Ok-clause-told g c = called_then c.args.plan.calls.items (g.H.Host.st
 
 pub returns-in-Ok-clause-any_moment : goal.returns-in-Ok-clause-any_moment
 returns-in-Ok-clause-any_moment g c =
-    plan_moments c.args.administration.now c.args.diversions.now.entries c.args.plan.rows c.args.plan.works.items c.args.plan.calls.items c.args.plan.commit c.requires.plan.job c.requires.plan.planned (g.H.Host.state c.args.host.now) (g.H.Host.state c.begin_and_run.new.host) c.requires.order (g.H.Host.tree c.args.host.now) (g.H.Host.state c.finish.new.host) (ended_as c.in-Ok.unwinding) (holding_by c.begin_and_run.new.administration c.begin_and_run.new.works.items) c.args.told.now.items c.begin_and_run.new.told.items c.begin_and_run.ensures.any_moment c.in-Ok.ensures.ran c.finish.ensures.silent
-    (subst (λ (x : List Work). AtEachMoment (MayLeave (changes_from (own_name c.args.plan.rows.found c.args.plan.rows.incoming) c.args.plan.rows.yields c.args.diversions.now.entries c.begin_and_run.new.administration.lists.lists x c.args.plan.commit) (records_from (own_name c.args.plan.rows.found c.args.plan.rows.incoming) c.args.plan.rows.yields c.args.diversions.now.entries c.begin_and_run.new.administration.lists.lists x c.args.plan.commit c.begin_and_run.new.administration.database.records) c.args.diversions.now.entries c.begin_and_run.new.administration.lists.lists c.begin_and_run.new.administration.database.records (length c.args.plan.rows.others.items) (ended_as c.in-Ok.unwinding)) (g.H.Host.state c.begin_and_run.new.host) (g.H.Host.state c.finish.new.host)) c.as_slice-shipped.ensures.value c.finish.ensures.any_moment)
+    plan_moments c.args.administration.now c.args.diversions.now.ways c.args.plan.rows c.args.plan.works.items c.args.plan.calls.items c.args.plan.commit c.requires.plan.job c.requires.plan.planned (g.H.Host.state c.args.host.now) (g.H.Host.state c.begin_and_run.new.host) c.requires.order (g.H.Host.tree c.args.host.now) (g.H.Host.state c.finish.new.host) (ended_as c.in-Ok.unwinding) (holding_by c.begin_and_run.new.administration c.begin_and_run.new.works.items) c.args.told.now.items c.begin_and_run.new.told.items c.begin_and_run.ensures.any_moment c.in-Ok.ensures.ran c.finish.ensures.silent
+    (subst (λ (x : List Work). AtEachMoment (MayLeave (changes_from (own_name c.args.plan.rows.found c.args.plan.rows.incoming) c.args.plan.rows.yields c.args.diversions.now.ways c.begin_and_run.new.administration.lists.lists x c.args.plan.commit) (records_from (own_name c.args.plan.rows.found c.args.plan.rows.incoming) c.args.plan.rows.yields c.args.diversions.now.ways c.begin_and_run.new.administration.lists.lists x c.args.plan.commit c.begin_and_run.new.administration.database.records) c.args.diversions.now.ways c.begin_and_run.new.administration.lists.lists c.begin_and_run.new.administration.database.records (length c.args.plan.rows.others.items) (ended_as c.in-Ok.unwinding)) (g.H.Host.state c.begin_and_run.new.host) (g.H.Host.state c.finish.new.host)) c.as_slice-shipped.ensures.value c.finish.ensures.any_moment)
 
 pub returns-clause-any_moment : goal.returns-clause-any_moment
-returns-clause-any_moment g c = plan_begins c.args.administration.now c.args.diversions.now.entries c.args.plan.rows c.args.plan.works.items c.args.plan.calls.items c.args.plan.commit c.requires.plan.job c.requires.plan.planned (g.H.Host.state c.args.host.now) (g.H.Host.state c.begin_and_run.new.host) c.requires.order (g.H.Host.tree c.args.host.now) c.begin_and_run.ensures.any_moment
+returns-clause-any_moment g c = plan_begins c.args.administration.now c.args.diversions.now.ways c.args.plan.rows c.args.plan.works.items c.args.plan.calls.items c.args.plan.commit c.requires.plan.job c.requires.plan.planned (g.H.Host.state c.args.host.now) (g.H.Host.state c.begin_and_run.new.host) c.requires.order (g.H.Host.tree c.args.host.now) c.begin_and_run.ensures.any_moment
 
 pub returns-in-Ok-clause-apart : goal.returns-in-Ok-clause-apart
 returns-in-Ok-clause-apart g c =

@@ -21,7 +21,7 @@ pub carry_out-requires-clause-plan : goal.carry_out-requires-clause-plan
 carry_out-requires-clause-plan g c =
     let plan_for = c.in-Ok.ensures.planned in
     record {
-      job = job_of (given_from c.args.incoming c.args.administration.now c.args.diversions.now.entries c.args.others.packages.items c.args.others.yields) plan_for.stored;
+      job = job_of (given_from c.args.incoming c.args.administration.now c.args.diversions.now.ways c.args.others.packages.items c.args.others.yields) plan_for.stored;
       records_are = refl;
       others = c.requires.others;
       planned = plan_for.planned;
@@ -29,20 +29,20 @@ carry_out-requires-clause-plan g c =
 
 pub returns-in-Ok-clause-unit : goal.returns-in-Ok-clause-unit
 returns-in-Ok-clause-unit g c =
-    let G = given_from c.args.incoming c.args.administration.now c.args.diversions.now.entries c.args.others.packages.items c.args.others.yields in
+    let G = given_from c.args.incoming c.args.administration.now c.args.diversions.now.ways c.args.others.packages.items c.args.others.yields in
     let places = c.args.administration.now.places in
     let old = g.H.Host.state c.args.host.now in
     let mid = g.H.Host.state c.plan_unit.new.host in
     let new = g.H.Host.state c.carry_out.new.host in
     let plan = planned c.in-Ok.plan in
     let falls = c.carry_out.ensures.any_moment.honest in
-    let made = subst (λ (ys : List Path). IfOk c.carry_out.result (λ u. HasCarriedOut (ground_by c.args.administration.now c.args.diversions.now.entries ys) plan (ended_as u.unwinding) c.carry_out.new.administration.database c.carry_out.new.administration.lists.lists mid new c.args.told.now.items c.carry_out.new.told.items)) c.in-Ok.ensures.yields c.carry_out.ensures.unit in
+    let made = subst (λ (ys : List Path). IfOk c.carry_out.result (λ u. HasCarriedOut (ground_by c.args.administration.now c.args.diversions.now.ways ys) plan (ended_as u.unwinding) c.carry_out.new.administration.database c.carry_out.new.administration.lists.lists mid new c.args.told.now.items c.carry_out.new.told.items)) c.in-Ok.ensures.yields c.carry_out.ensures.unit in
     if_ok_one c.carry_out.result (λ u. HasCarriedOut (ground_of G places) plan (ended_as u.unwinding) c.carry_out.new.administration.database c.carry_out.new.administration.lists.lists mid new c.args.told.now.items c.carry_out.new.told.items) (λ u. HasUnpacked G places (ended_as u.unwinding) c.carry_out.new.administration.database c.carry_out.new.administration.lists.lists old new c.args.told.now.items c.carry_out.new.told.items)
     (λ u has. unpacked_by G places old mid c.plan_unit.ensures.reads c.plan_unit.ensures.silent plan c.in-Ok.ensures.planned new falls c.args.told.now.items c.carry_out.new.told.items (ended_as u.unwinding) c.carry_out.new.administration.database c.carry_out.new.administration.lists.lists has) made
 
 pub returns-in-Ok-clause-cause : goal.returns-in-Ok-clause-cause
 returns-in-Ok-clause-cause g c =
-    let G = given_from c.args.incoming c.args.administration.now c.args.diversions.now.entries c.args.others.packages.items c.args.others.yields in
+    let G = given_from c.args.incoming c.args.administration.now c.args.diversions.now.ways c.args.others.packages.items c.args.others.yields in
     let places = c.args.administration.now.places in
     let old = g.H.Host.state c.args.host.now in
     let mid = g.H.Host.state c.plan_unit.new.host in
@@ -70,7 +70,7 @@ returns-in-Ok-clause-touched g c =
 
 pub returns-in-Ok-clause-told : goal.returns-in-Ok-clause-told
 returns-in-Ok-clause-told g c =
-    let G = given_from c.args.incoming c.args.administration.now c.args.diversions.now.entries c.args.others.packages.items c.args.others.yields in
+    let G = given_from c.args.incoming c.args.administration.now c.args.diversions.now.ways c.args.others.packages.items c.args.others.yields in
     let places = c.args.administration.now.places in
     let old = g.H.Host.state c.args.host.now in
     let mid = g.H.Host.state c.plan_unit.new.host in
@@ -81,7 +81,7 @@ returns-in-Ok-clause-told g c =
 
 pub returns-in-Ok-clause-any_moment : goal.returns-in-Ok-clause-any_moment
 returns-in-Ok-clause-any_moment g c =
-    let G = given_from c.args.incoming c.args.administration.now c.args.diversions.now.entries c.args.others.packages.items c.args.others.yields in
+    let G = given_from c.args.incoming c.args.administration.now c.args.diversions.now.ways c.args.others.packages.items c.args.others.yields in
     let places = c.args.administration.now.places in
     let old = g.H.Host.state c.args.host.now in
     let mid = g.H.Host.state c.plan_unit.new.host in
@@ -89,11 +89,11 @@ returns-in-Ok-clause-any_moment g c =
     let plan = planned c.in-Ok.plan in
     let falls = c.carry_out.ensures.any_moment.honest in
     unit_amid G places old mid c.plan_unit.ensures.reads c.plan_unit.ensures.silent plan c.in-Ok.ensures.planned
-    new falls (subst (λ (ys : List Path). AtEachMomentOf (IsUnderWay (ground_by c.args.administration.now c.args.diversions.now.entries ys) plan) mid new) c.in-Ok.ensures.yields c.carry_out.ensures.any_moment)
+    new falls (subst (λ (ys : List Path). AtEachMomentOf (IsUnderWay (ground_by c.args.administration.now c.args.diversions.now.ways ys) plan) mid new) c.in-Ok.ensures.yields c.carry_out.ensures.any_moment)
 
 pub returns-in-Err-clause-any_moment : goal.returns-in-Err-clause-any_moment
 returns-in-Err-clause-any_moment g c =
-    let G = given_from c.args.incoming c.args.administration.now c.args.diversions.now.entries c.args.others.packages.items c.args.others.yields in
+    let G = given_from c.args.incoming c.args.administration.now c.args.diversions.now.ways c.args.others.packages.items c.args.others.yields in
     let places = c.args.administration.now.places in
     let old = g.H.Host.state c.args.host.now in
     let mid = g.H.Host.state c.plan_unit.new.host in
@@ -101,7 +101,7 @@ returns-in-Err-clause-any_moment g c =
 
 pub returns-in-Ok-clause-order : goal.returns-in-Ok-clause-order
 returns-in-Ok-clause-order g c =
-    let G = given_from c.args.incoming c.args.administration.now c.args.diversions.now.entries c.args.others.packages.items c.args.others.yields in
+    let G = given_from c.args.incoming c.args.administration.now c.args.diversions.now.ways c.args.others.packages.items c.args.others.yields in
     let places = c.args.administration.now.places in
     let old = g.H.Host.state c.args.host.now in
     let mid = g.H.Host.state c.plan_unit.new.host in
@@ -109,7 +109,7 @@ returns-in-Ok-clause-order g c =
     let plan = planned c.in-Ok.plan in
     let falls = c.carry_out.ensures.any_moment.honest in
     let stored = c.in-Ok.ensures.planned.stored in
-    let made = subst (λ (ys : List Path). IfOk c.carry_out.result (λ u. HasCarriedOut (ground_by c.args.administration.now c.args.diversions.now.entries ys) plan (ended_as u.unwinding) c.carry_out.new.administration.database c.carry_out.new.administration.lists.lists mid new c.args.told.now.items c.carry_out.new.told.items)) c.in-Ok.ensures.yields c.carry_out.ensures.unit in
+    let made = subst (λ (ys : List Path). IfOk c.carry_out.result (λ u. HasCarriedOut (ground_by c.args.administration.now c.args.diversions.now.ways ys) plan (ended_as u.unwinding) c.carry_out.new.administration.database c.carry_out.new.administration.lists.lists mid new c.args.told.now.items c.carry_out.new.told.items)) c.in-Ok.ensures.yields c.carry_out.ensures.unit in
     let carried = if_ok_one c.carry_out.result (λ u. HasCarriedOut (ground_of G places) plan (ended_as u.unwinding) c.carry_out.new.administration.database c.carry_out.new.administration.lists.lists mid new c.args.told.now.items c.carry_out.new.told.items) (λ u. HasCarriedOut (ground_of G places) plan (ended_as u.unwinding) c.carry_out.new.administration.database c.carry_out.new.administration.lists.lists old new c.args.told.now.items c.carry_out.new.told.items) (λ u has. carried_behind G places old mid c.plan_unit.ensures.reads c.plan_unit.ensures.silent plan c.in-Ok.ensures.planned new falls c.args.told.now.items c.carry_out.new.told.items (ended_as u.unwinding) c.carry_out.new.administration.database c.carry_out.new.administration.lists.lists has) made in
     order_if_ok c.carry_out.result (ground_of G places) (job_of G stored) plan c.in-Ok.ensures.planned.planned (λ u. ended_as u.unwinding) c.args.administration.now.database c.carry_out.new.administration.database c.args.administration.now.lists.lists c.carry_out.new.administration.lists.lists
     old new c.args.told.now.items c.carry_out.new.told.items c.requires.order carried c.carry_out.ensures.kept

@@ -20,7 +20,7 @@ pub returns-clause-unit : goal.returns-clause-unit
 returns-clause-unit g c =
     let old = g.H.Host.state c.args.host.now in
     let new = g.H.Host.state c.plan_and_carry_out.new.host in
-    let at = λ (f : Filed). given_beside c.args.incoming c.args.administration.now.database.records f.lists c.args.diversions.now.entries c.args.others.packages.items c.args.others.yields in
+    let at = λ (f : Filed). given_beside c.args.incoming c.args.administration.now.database.records f.lists c.args.diversions.now.ways c.args.others.packages.items c.args.others.yields in
     subst (λ (f : Filed). IfOk c.plan_and_carry_out.result (λ u. HasUnpacked (at f) c.args.administration.now.places (ended_as u.unwinding) c.plan_and_carry_out.new.administration.database c.plan_and_carry_out.new.administration.lists.lists old new c.args.told.now.items c.plan_and_carry_out.new.told.items))
     c.index_where_many.ensures c.plan_and_carry_out.ensures.unit
 
@@ -28,21 +28,21 @@ pub returns-clause-cause : goal.returns-clause-cause
 returns-clause-cause g c =
     let old = g.H.Host.state c.args.host.now in
     let new = g.H.Host.state c.plan_and_carry_out.new.host in
-    let at = λ (f : Filed). given_beside c.args.incoming c.args.administration.now.database.records f.lists c.args.diversions.now.entries c.args.others.packages.items c.args.others.yields in
+    let at = λ (f : Filed). given_beside c.args.incoming c.args.administration.now.database.records f.lists c.args.diversions.now.ways c.args.others.packages.items c.args.others.yields in
     subst (λ (f : Filed). IfOk c.plan_and_carry_out.result (λ u. HasFailedFor (at f) old new u.unwinding)) c.index_where_many.ensures c.plan_and_carry_out.ensures.cause
 
 pub returns-clause-told : goal.returns-clause-told
 returns-clause-told g c =
     let old = g.H.Host.state c.args.host.now in
     let new = g.H.Host.state c.plan_and_carry_out.new.host in
-    let at = λ (f : Filed). given_beside c.args.incoming c.args.administration.now.database.records f.lists c.args.diversions.now.entries c.args.others.packages.items c.args.others.yields in
+    let at = λ (f : Filed). given_beside c.args.incoming c.args.administration.now.database.records f.lists c.args.diversions.now.ways c.args.others.packages.items c.args.others.yields in
     subst (λ (f : Filed). HasCalled (at f) old new c.args.told.now.items c.plan_and_carry_out.new.told.items) c.index_where_many.ensures c.plan_and_carry_out.ensures.told
 
 pub returns-clause-any_moment : goal.returns-clause-any_moment
 returns-clause-any_moment g c =
     let old = g.H.Host.state c.args.host.now in
     let new = g.H.Host.state c.plan_and_carry_out.new.host in
-    let at = λ (f : Filed). given_beside c.args.incoming c.args.administration.now.database.records f.lists c.args.diversions.now.entries c.args.others.packages.items c.args.others.yields in
+    let at = λ (f : Filed). given_beside c.args.incoming c.args.administration.now.database.records f.lists c.args.diversions.now.ways c.args.others.packages.items c.args.others.yields in
     subst (λ (f : Filed). AtEachMomentOf (IsAmidUnit (at f) c.args.administration.now.places) old new) c.index_where_many.ensures c.plan_and_carry_out.ensures.any_moment
 
 pub returns-in_err-index_where_many-clause-apart : goal.returns-in_err-index_where_many-clause-apart

@@ -10,7 +10,7 @@ own_works-requires c = (c.args.tree.flagged, c.args.tree.fitting)
 
 pub returns-clause-names : goal.returns-clause-names
 returns-clause-names c =
-    let entries = c.args.diversions.now.entries in
+    let entries = c.args.diversions.now.ways in
     let tree = c.args.tree in
     c.in_ok-names.ensures.names ∙ ap (λ (l : List Path). cleared_names entries tree.name (option_copied c.args.found) l c.as_slice.result.now c.args.leaving.now) c.as_slice-kept.ensures
     ∙ ap (λ (xs : List Work). cleared_names entries tree.name (option_copied c.args.found) tree.conffiles xs c.args.leaving.now) c.as_slice.ensures.value

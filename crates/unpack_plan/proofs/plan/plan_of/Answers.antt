@@ -12,7 +12,7 @@ returns-clause-planned c =
       «package» = p;
       records = c.args.database.now.records;
       lists = c.args.lists.now.lists;
-      entries = c.args.diversions.now.entries;
+      ways = c.args.diversions.now.ways;
       stored = c.args.stored;
       others = c.args.others.packages.items;
     } in

@@ -18,6 +18,6 @@ works_of-requires-clause-conffiles c =
 
 pub returns-clause-works : goal.returns-clause-works
 returns-clause-works c =
-    let entries = c.args.diversions.now.entries in
+    let entries = c.args.diversions.now.ways in
     c.in_ok-works.ensures.works ∙ ap (λ (l : List Path). shipped_works entries c.args.name.now l c.in_ok-pairs.pairs.items) c.as_slice.ensures
     ∙ ap (shipped_works entries c.args.name.now c.args.conffiles.now) (c.in_ok-pairs.ensures ∙ ap pairs_of c.into_vec.ensures)

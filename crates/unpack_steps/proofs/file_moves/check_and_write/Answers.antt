@@ -40,7 +40,7 @@ pub returns-in-Some-clause-judged : goal.returns-in-Some-clause-judged
 returns-in-Some-clause-judged g c =
     λ h.
     let found = subst (λ (o : Option StepFault). is_declined o ≡ false) c.in-Some.is c.in_ok-found.ensures.undeclined in
-    let o = owning c.args.diversions.now.entries c.args.lists.now.lists c.args.rows.now.yields (own_name c.args.rows.now.found c.args.rows.now.incoming) in
+    let o = owning c.args.diversions.now.ways c.args.lists.now.lists c.args.rows.now.yields (own_name c.args.rows.now.found c.args.rows.now.incoming) in
     step_fault o c.args.works.now.items (g.H.Host.state c.args.host.now).world c.in-Some.fault found (where_some _ _ _ c.in-Some.fault c.in-Some.is (c.in_ok-found.ensures.looks.found h))
 
 pub returns-in-Some-clause-written : goal.returns-in-Some-clause-written

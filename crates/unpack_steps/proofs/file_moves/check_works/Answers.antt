@@ -47,7 +47,7 @@ returns-clause-distinct g c =
 pub returns-clause-looks : goal.returns-clause-looks
 returns-clause-looks g c = record {
   found = λ h.
-      let entries = c.args.diversions.now.entries in
+      let entries = c.args.diversions.now.ways in
       let lists = c.args.lists.now.lists in
       let w = (g.H.Host.state c.args.host.now).world in
       let xs = c.args.works.now.items in

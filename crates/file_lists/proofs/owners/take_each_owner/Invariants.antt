@@ -1,8 +1,0 @@
-use Rattle.std.proofs.Common.{◌≡◌, ◌++◌, map, filter, take}
-use Rattle.std.specs.Str.{bytes_eq}
-use Rattle.diversions.specs.Places.{place}
-use Rattle.file_lists.specs.Owners.{listed}
-use Rattle.file_lists.proofs.owners.take_each_owner.Given as goal
-
-abbrev pub invariant-loop-path : goal.invariant-loop-path
-invariant-loop-path l = l.owners ≡ l.fn.owners ++ map (listed l.list.name) (filter (λ path. bytes_eq (place l.diversions.entries l.list.name path) l.at) (take l.path-index l.path-items))

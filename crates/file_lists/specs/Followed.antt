@@ -1,0 +1,21 @@
+-- Listed paths behind links to directories.
+use Rattle.std.specs.Prelude.{◌≡◌, ◌++◌, ℕ, Bool, List, IsTrue, Contains}
+use Rattle.host_core.specs.Paths.{Path}
+use Rattle.host_core.specs.World.{World}
+use Rattle.aliases.specs.Aliases.{Alias}
+use Rattle.aliases.specs.Reading.{AreAliasesIn, IsWhole}
+use Rattle.diversions.specs.Diverted.{Diverted}
+use Rattle.diversions.specs.Ways.{Ways}
+use Rattle.file_lists.specs.Owners.{paths_of}
+use Rattle.file_lists.specs.declared.paths.PackageList.{PackageList}
+
+-- The aliases are ones of this world, and each listed path is followed to where it leads there.
+pub record AreFollowed (lists : List PackageList) (ways : Ways) (w : World) : Type 0 where
+  pub aliases : AreAliasesIn w ways.aliases
+  pub whole : (name : List ℕ) (path : Path) → Contains (paths_of lists name) path → IsWhole w path ways.aliases
+
+-- Aliases were added, which are ones of this world where the answers were true; nothing else has changed.
+pub record HasMoreAliases (honest : Bool) (w : World) (old new : Diverted) : Type 0 where
+  pub added : List Alias
+  pub kept : new ≡ record old { ways = record old.ways { aliases = old.ways.aliases ++ added } }
+  pub sound : IsTrue honest → AreAliasesIn w added
