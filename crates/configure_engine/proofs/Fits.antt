@@ -1,8 +1,11 @@
 -- The parts of configuring fit: what is noted is of the package, each conffile is settled once, and what is left of the list is a list.
-use Rattle.std.proofs.Common.{◌≡◌, ◌≢◌, ◌<◌, ℕ, zero, suc, true, not, List, [], ◌∷◌, ◌++◌, length, get_or, Some, is_some, refl, sym, ap, subst, ◌∙◌, arith}
-use Rattle.std.specs.List.{All, AllByRecursion, AllPairs, list_any}
+use Rattle.std.proofs.Common.{◌≡◌, ◌≢◌, ◌<◌, ℕ, zero, suc, true, false, not, List, [], ◌∷◌, ◌++◌, length, get_or, Some, is_some, refl, sym, ap, subst, ◌∙◌, arith}
+use Rattle.std.specs.List.{All, AllPairs, list_any}
 use Rattle.std.specs.Str.{bytes_eq}
+use Rattle.std.proofs.lemmas.Bool.{true≢false, or_parts}
+use Rattle.std.proofs.lemmas.Slice.Eq.{bytes_eq-Decides}
 use Rattle.std.proofs.lemmas.List.Elements.{All-cons, All-head, All-nil, All-tail}
+use Rattle.diversions.specs.Ways.{Ways}
 use Rattle.host_core.specs.Paths.{Path}
 use Rattle.host_core.specs.World.{World}
 use Rattle.conffiles.specs.Settling.{CanSettle}
@@ -10,10 +13,8 @@ use Rattle.conffiles.specs.declared.entries.Settled.{Settled}
 use Rattle.file_lists.specs.Owners.{AreLists, AreListPaths, paths_of}
 use Rattle.file_lists.specs.declared.paths.PackageList.{PackageList}
 use Rattle.file_lists.proofs.LeftPaths.{left_list_paths}
-use Rattle.status_records.specs.ConffilePaths.{is_before, AreInOrder}
 use Rattle.status_records.specs.Records.{put_record, record_in}
 use Rattle.status_records.specs.declared.record.Record.{Record}
-use Rattle.status_records.proofs.PathOrder.{not_itself}
 use Rattle.unit_stages.specs.PartFitting.{AreFit, AreSettleable, HaveNoSettle, IsFit, IsNotable}
 use Rattle.unit_stages.specs.Parts.{parts_records}
 use Rattle.unit_stages.specs.declared.part.Part.{Part}
@@ -21,24 +22,24 @@ use Rattle.unit_stages.specs.declared.part.Part.TheVariants.{Note, Forget, Settl
 use Rattle.configure_engine.specs.Decided.{decided_paths}
 use Rattle.configure_engine.specs.Settled.{settled}
 use Rattle.configure_engine.specs.Stages.{AreFirstParts, SettlesThese, half, list_parts, listed_without}
-use Rattle.configure_engine.specs.Waiting.{going_paths, settling_paths}
+use Rattle.configure_engine.specs.Waiting.{going_paths, settling_places}
 use Rattle.configure_engine.proofs.NothingSettled.{settled_same}
+use Rattle.configure_engine.proofs.PlacesOnce.{AreOnce}
 use Rattle.configure_engine.proofs.Tables.{put_other, put_own}
 
--- conffiles in path order are pairwise different
+-- conffiles of which each has a place of its own
 
-behind_at : (p : Path) (es : List Settled) (k : ℕ) (d : Settled) → k < length es → AllByRecursion (λ q. is_before p q ≡ true) (decided_paths es) → is_before p (get_or es k d).path ≡ true
-behind_at p [] k d lt all = absurd (omega (arith, lt))
-behind_at p (e ∷ es) zero d lt all = all.0
-behind_at p (e ∷ es) (suc k) d lt all = behind_at p es k d (omega (arith, lt)) all.1
+other_at : (p : Path) (es : List Settled) (k : ℕ) (d : Settled) → k < length es → list_any (bytes_eq p) (decided_paths es) ≡ false → p ≢ (get_or es k d).path
+other_at p [] k d lt none = absurd (omega (arith, lt))
+other_at p (e ∷ es) zero d lt none = λ same. true≢false (sym ((bytes_eq-Decides p e.path).1 same) ∙ (or_parts (bytes_eq p e.path) (list_any (bytes_eq p) (decided_paths es)) none).0)
+other_at p (e ∷ es) (suc k) d lt none = other_at p es k d (omega (arith, lt)) (or_parts (bytes_eq p e.path) (list_any (bytes_eq p) (decided_paths es)) none).1
 
-once : (list : List Settled) → AreInOrder (decided_paths list) → AllPairs (λ e f. e.path ≢ f.path) list
-once [] order i j d less within = absurd (omega (arith, within))
-once (e ∷ es) order zero zero d less within = absurd (omega (arith, less))
-once (e ∷ es) order zero (suc j) d less within = λ same.
-    not_itself e.path (subst (λ (q : Path). is_before e.path q ≡ true) (sym same) (behind_at e.path es j d (omega (arith, within)) order.0))
-once (e ∷ es) order (suc i) zero d less within = absurd (omega (arith, less))
-once (e ∷ es) order (suc i) (suc j) d less within = once es order.1 i j d (omega (arith, less)) (omega (arith, within))
+once : (list : List Settled) → AreOnce (decided_paths list) → AllPairs (λ e f. e.path ≢ f.path) list
+once [] are i j d less within = absurd (omega (arith, within))
+once (e ∷ es) are zero zero d less within = absurd (omega (arith, less))
+once (e ∷ es) are zero (suc j) d less within = other_at e.path es j d (omega (arith, within)) are.0
+once (e ∷ es) are (suc i) zero d less within = absurd (omega (arith, less))
+once (e ∷ es) are (suc i) (suc j) d less within = once es are.1 i j d (omega (arith, less)) (omega (arith, within))
 
 each_can : (w : World) (list : List Settled) → All (λ x. CanSettle x w) (decided_paths list) → All (λ e. CanSettle e.path w) list
 each_can w [] all = All-nil (λ (e : Settled). CanSettle e.path w)
@@ -70,7 +71,7 @@ module _ (r : Record) (name : List ℕ) (own : r.name ≡ name) where
   no_more (q ∷ going) listed = (refl, (refl, tt))
 
   module _ (rs : List Record) (ls : List PackageList) (found : record_in rs name ≡ Some r) (are : AreLists ls) where
-    settle_fits : (list : List Settled) (part : Part) → AreInOrder (decided_paths list) → SettlesThese list part → IsFit name part (put_record (half r) rs) ls
+    settle_fits : (list : List Settled) (part : Part) → AreOnce (decided_paths list) → SettlesThese list part → IsFit name part (put_record (half r) rs) ls
     settle_fits list (Note x) order is = absurd is
     settle_fits list Forget order is = absurd is
     settle_fits list (Settle settled) order is = subst (AllPairs (λ (e f : Settled). e.path ≢ f.path)) (sym is) (once list order)
@@ -81,7 +82,7 @@ module _ (r : Record) (name : List ℕ) (own : r.name ≡ name) where
     settle_fits list DropList order is = absurd is
     settle_fits list (DropMembers keep_postrm) order is = absurd is
 
-    behind_settle : (list : List Settled) (part : Part) (parts : List Part) → SettlesThese list part → AreFit name parts (put_record (half r) rs) ls → AreInOrder (decided_paths list) → AreFit name (part ∷ parts) (put_record (half r) rs) ls
+    behind_settle : (list : List Settled) (part : Part) (parts : List Part) → SettlesThese list part → AreFit name parts (put_record (half r) rs) ls → AreOnce (decided_paths list) → AreFit name (part ∷ parts) (put_record (half r) rs) ls
     behind_settle list (Note x) parts is fit order = absurd is
     behind_settle list Forget parts is fit order = absurd is
     behind_settle list (Settle settled) parts is fit order = (settle_fits list (Settle settled) order is, fit)
@@ -92,7 +93,7 @@ module _ (r : Record) (name : List ℕ) (own : r.name ≡ name) where
     behind_settle list DropList parts is fit order = absurd is
     behind_settle list (DropMembers keep_postrm) parts is fit order = absurd is
 
-    pub first_fit : (list : List Settled) (parts : List Part) → AreInOrder (decided_paths list) → AreFirstParts r (paths_of ls name) list parts → AreFit name parts rs ls
+    pub first_fit : (list : List Settled) (parts : List Part) → AreOnce (decided_paths list) → AreFirstParts r (paths_of ls name) list parts → AreFit name parts rs ls
     first_fit [] parts order is = subst (λ (ps : List Part). AreFit name ps rs ls) (sym is) (notable rs (ap is_some found), tt)
     first_fit (e ∷ es) parts order is =
         let going = going_paths r in
@@ -118,12 +119,12 @@ module _ (r : Record) (name : List ℕ) (own : r.name ≡ name) where
     pub is : record_in now name ≡ Some (half (settled r))
     pub others : (q : List ℕ) → q ≢ name → record_in now q ≡ record_in rs q
 
-  pub first_records : (listed : List Path) (list : List Settled) (parts : List Part) (rs : List Record) → decided_paths list ≡ settling_paths r → AreFirstParts r listed list parts → IsHalf rs (parts_records name parts rs)
-  first_records listed [] parts rs paths is = subst (λ (ps : List Part). IsHalf rs (parts_records name ps rs)) (sym is) record {
-    is = put_own (half r) rs name own ∙ ap (λ (s : Record). Some (half s)) (sym (settled_same r (sym paths)));
+  pub first_records : (ways : Ways) (listed : List Path) (list : List Settled) (parts : List Part) (rs : List Record) → decided_paths list ≡ settling_places ways r → AreFirstParts r listed list parts → IsHalf rs (parts_records name parts rs)
+  first_records ways listed [] parts rs paths is = subst (λ (ps : List Part). IsHalf rs (parts_records name ps rs)) (sym is) record {
+    is = put_own (half r) rs name own ∙ ap (λ (s : Record). Some (half s)) (sym (settled_same ways r (sym paths)));
     others = λ q other. put_other (half r) rs name q own other;
   }
-  first_records listed (e ∷ es) parts rs paths is =
+  first_records ways listed (e ∷ es) parts rs paths is =
       let going = going_paths r in
       let mid = put_record (half r) rs in
       let now = parts_records name parts rs in

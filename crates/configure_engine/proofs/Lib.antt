@@ -1,8 +1,10 @@
 mod Least
 mod Staying
-mod PathLists
+mod PlacesOnce
+mod Deciding
+mod Unlinked
 mod Tables
-mod NothingSettled
+pub mod NothingSettled
 mod SettledLaws
 mod Fits
 mod Made

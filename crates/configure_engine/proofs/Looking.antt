@@ -10,7 +10,7 @@ use Rattle.host_core.proofs.Denials.{denied_later_reads}
 use Rattle.host_core.proofs.Moments.{since_reads, since_then, since_weaker_if, silent_then}
 use Rattle.host_core.specs.declared.call.Call.{Call}
 use Rattle.undo_rows.specs.Telling.{Begun}
-use Rattle.diversions.specs.declared.entry.Diversion.{Diversion}
+use Rattle.diversions.specs.Ways.{Ways}
 use Rattle.undo_rows.specs.declared.rows.Called.{Called}
 use Rattle.unit_stages.specs.Parts.{HaveDone}
 use Rattle.unit_stages.proofs.Denied.{parts_wider}
@@ -66,15 +66,15 @@ module _ (old mid : State) (reads : Reads old mid) (silent : Silent old mid) whe
         (parts_wider name (WasDenied mid ready) (WasDenied old ready) (λ p is. denied_later_reads old mid ready p reads is) parts h.records mid.world ready.world (does.done t));
   }
 
-  run_behind : (name : List ℕ) (entries : List Diversion) (first : Stage) (stages : List Stage) (failed : Option Call) (before after : Holding) (new : State) (told now : List Called) → HaveRun name entries (first ∷ stages) failed before after mid new told now
-      → HaveRun name entries (first ∷ stages) failed before after old new told now
-  run_behind name entries first stages failed before after new told now (inl passed) = inl record {
+  run_behind : (name : List ℕ) (ways : Ways) (first : Stage) (stages : List Stage) (failed : Option Call) (before after : Holding) (new : State) (told now : List Called) → HaveRun name ways (first ∷ stages) failed before after mid new told now
+      → HaveRun name ways (first ∷ stages) failed before after old new told now
+  run_behind name ways first stages failed before after new told now (inl passed) = inl record {
     mid = passed.mid;
     more = passed.more;
     passed = record { ready = passed.passed.ready; parts = does_behind name first.parts.items before passed.passed.ready passed.passed.parts; calls = passed.passed.calls };
     further = passed.further;
   }
-  run_behind name entries first stages failed before after new told now (inr fell) = inr record {
+  run_behind name ways first stages failed before after new told now (inr fell) = inr record {
     ready = fell.ready;
     parts = does_behind name first.parts.items before fell.ready fell.parts;
     fell = fell.fell;
@@ -130,21 +130,21 @@ module _ (old mid : State) (reads : Reads old mid) (silent : Silent old mid) whe
         each = λ h. inl (refl, refl);
       }
 
-      pub unit_moments : faults mid ≡ faults old → AtEachMomentOf (AreRunning g.name g.entries stages g.before) mid new → AtEachMomentOf (IsAmidUnit g) old new
+      pub unit_moments : faults mid ≡ faults old → AtEachMomentOf (AreRunning g.name g.ways stages g.before) mid new → AtEachMomentOf (IsAmidUnit g) old new
       unit_moments counts moments = since_then (IsAmidUnit g old.world) old mid new (quiet_moments counts)
-          (since_weaker_if (AreRunning g.name g.entries stages g.before mid.world) (IsAmidUnit g old.world) mid new
-          (λ h so_far now is. inr record { stages = stages; plan = plan_true h; running = subst (λ (w : World). AreRunning g.name g.entries stages g.before w so_far now) reads.world is }) moments)
+          (since_weaker_if (AreRunning g.name g.ways stages g.before mid.world) (IsAmidUnit g old.world) mid new
+          (λ h so_far now is. inr record { stages = stages; plan = plan_true h; running = subst (λ (w : World). AreRunning g.name g.ways stages g.before w so_far now) reads.world is }) moments)
 
       module _ (told now : List Called) where
         pub called_by : Begun (MayRunStages stages) mid new told now → HasCalled g old new told now
         called_by begun = HasCalled.planned stages plan_seen (begun_behind (MayRunStages stages) old mid new told now silent begun)
 
-        pub configured_by : (failed : Option Call) (after : Holding) → HaveRun g.name g.entries stages failed g.before after mid new told now → HasConfigured g failed after old new told now
+        pub configured_by : (failed : Option Call) (after : Holding) → HaveRun g.name g.ways stages failed g.before after mid new told now → HasConfigured g failed after old new told now
         configured_by failed after run =
             let is = plan.plan.stages_are in
             record {
               stages = stages;
               plan = plan_seen;
-              run = subst (λ (ss : List Stage). HaveRun g.name g.entries ss failed g.before after old new told now) (sym is.are)
-                  (run_behind g.name g.entries is.first (is.second ∷ []) failed g.before after new told now (subst (λ (ss : List Stage). HaveRun g.name g.entries ss failed g.before after mid new told now) is.are run));
+              run = subst (λ (ss : List Stage). HaveRun g.name g.ways ss failed g.before after old new told now) (sym is.are)
+                  (run_behind g.name g.ways is.first (is.second ∷ []) failed g.before after new told now (subst (λ (ss : List Stage). HaveRun g.name g.ways ss failed g.before after mid new told now) is.are run));
             }

@@ -4,15 +4,16 @@ use Rattle.std.specs.List.{AllByRecursion, list_any}
 use Rattle.std.specs.Str.{bytes_eq}
 use Rattle.std.proofs.lemmas.Bool.{true≢false, false_from_ne_true, or_from, or_parts}
 use Rattle.std.proofs.lemmas.Slice.Eq.{bytes_eq-Decides}
+use Rattle.diversions.specs.Ways.{Ways}
 use Rattle.host_core.specs.Paths.{Path}
 use Rattle.status_records.specs.declared.entries.ConffileEntry.{ConffileEntry}
 use Rattle.status_records.specs.declared.entries.PendingDigest.{PendingDigest}
 use Rattle.status_records.specs.declared.record.Record.{Record}
-use Rattle.status_records.specs.ConffilePaths.{is_before, AreInOrder, placed_by, all_placed_by}
+use Rattle.status_records.specs.ConffilePaths.{is_before, AreInOrder, placed_by, all_placed_by, in_path_order}
 use Rattle.status_records.specs.Conffiles.{has_pending, recorded_digest}
 use Rattle.status_records.proofs.PathOrder.{before_apart, has_placed}
 use Rattle.configure_engine.specs.Settled.{settled, settled_entries, settled_entry, stays}
-use Rattle.configure_engine.specs.Waiting.{goes, is_going, pending_digest, settling_paths}
+use Rattle.configure_engine.specs.Waiting.{goes, is_going, pending_digest, places_once, settling_paths}
 
 abbrev path_in : ConffileEntry → Path
 path_in e = e.path
@@ -51,10 +52,10 @@ none_go : (es : List ConffileEntry) → AllByRecursion IsUnflagged es → filter
 none_go [] all = refl
 none_go (e ∷ es) all = ap (λ (b : Bool). cond (b && true) (e ∷ filter (goes []) es) (filter (goes []) es)) all.0 ∙ none_go es all.1
 
-pub nothing_left : (r : Record) → settling_paths (settled r) ≡ []
-nothing_left r =
+pub nothing_left : (ways : Ways) (r : Record) → settling_paths ways (settled r) ≡ []
+nothing_left ways r =
     let unflagged = all_of_both IsUnflagged (map settled_entry r.pending) (filter (stays r.pending) r.conffiles) (shipped_unflagged r.pending) (staying_unflagged r.pending r.conffiles) in
-    ap (λ (es : List ConffileEntry). all_placed_by (λ (q : Path). q) [] (map path_in es)) (none_go (settled_entries r) unflagged)
+    ap (λ (es : List ConffileEntry). in_path_order (λ (q : Path). q) (places_once ways (map path_in es))) (none_go (settled_entries r) unflagged)
 
 -- the digest of a path, entry by entry
 

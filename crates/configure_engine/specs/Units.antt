@@ -12,7 +12,7 @@ use Rattle.undo_rows.specs.Telling.{Begun}
 use Rattle.conffiles.specs.Settling.{CanSettle}
 use Rattle.conffiles.specs.declared.decisions.ConfPolicy.{ConfPolicy}
 use Rattle.conffiles.specs.declared.entries.Settled.{Settled}
-use Rattle.diversions.specs.declared.entry.Diversion.{Diversion}
+use Rattle.diversions.specs.Ways.{Ways}
 use Rattle.file_lists.specs.Owners.{paths_of}
 use Rattle.status_records.specs.Records.{record_in}
 use Rattle.status_records.specs.Standings.{configured}
@@ -28,7 +28,7 @@ use Rattle.undo_rows.specs.declared.rows.Called.{Called}
 use Rattle.configure_engine.specs.Decided.{AreDecided, decided_paths}
 use Rattle.configure_engine.specs.Settled.{settled}
 use Rattle.configure_engine.specs.Stages.{AreConfigureStages, half}
-use Rattle.configure_engine.specs.Waiting.{settling_paths}
+use Rattle.configure_engine.specs.Waiting.{settling_places}
 
 -- a package that waits to be configured has this record
 pub record IsWaiting (records : List Record) (name : List ℕ) : Type 0 where
@@ -37,16 +37,16 @@ pub record IsWaiting (records : List Record) (name : List ℕ) : Type 0 where
   pub state : (entry.state ≡ Unpacked) ⊎ (entry.state ≡ HalfConfigured)
   pub flag : entry.flag ≡ Ok
 
--- the conffiles of the package's record that are to be settled can be settled in this world
-abbrev pub CanConfigure : List Record → List ℕ → World → Type 0
-CanConfigure records name w = (r : Record) → record_in records name ≡ Some r → All (λ x. CanSettle x w) (settling_paths r)
+-- the conffiles of the package's record that are to be settled can be settled at their places in this world
+abbrev pub CanConfigure : Ways → List Record → List ℕ → World → Type 0
+CanConfigure ways records name w = (r : Record) → record_in records name ≡ Some r → All (λ x. CanSettle x w) (settling_places ways r)
 
 -- The stages for this record and list, by what stands in this world: what is decided of each conffile, and whether the postinst is
 -- stored.
-pub record IsPlanFor (r : Record) (policy : ConfPolicy) (listed : List Path) (w : World) (honest : Bool) (stages : List Stage) : Type 0 where
+pub record IsPlanFor (r : Record) (policy : ConfPolicy) (ways : Ways) (listed : List Path) (w : World) (honest : Bool) (stages : List Stage) : Type 0 where
   pub decisions : List Settled
-  pub paths : decided_paths decisions ≡ settling_paths r
-  pub decided : IsTrue honest → AreDecided r policy w decisions
+  pub paths : decided_paths decisions ≡ settling_places ways r
+  pub decided : IsTrue honest → AreDecided r policy ways w decisions
   pub stored : Bool
   pub seen : IsTrue honest → stored ≡ is_some (w (script_path r.name Postinst))
   pub stages_are : AreConfigureStages r listed decisions stored stages
@@ -55,29 +55,29 @@ pub record IsPlanFor (r : Record) (policy : ConfPolicy) (listed : List Path) (w 
 pub record Given : Type 0 where
   pub name : List ℕ
   pub policy : ConfPolicy
-  pub entries : List Diversion
+  pub ways : Ways
   pub before : Holding
 
-abbrev pub given : List ℕ → ConfPolicy → List Diversion → Holding → Given
-given name policy entries before = record { name = name; policy = policy; entries = entries; before = before }
+abbrev pub given : List ℕ → ConfPolicy → Ways → Holding → Given
+given name policy ways before = record { name = name; policy = policy; ways = ways; before = before }
 
 -- the stages of the package's record
 pub record IsPlanOf (g : Given) (w : World) (honest : Bool) (stages : List Stage) : Type 0 where
   pub entry : Record
   pub found : record_in g.before.records g.name ≡ Some entry
-  pub plan : IsPlanFor entry g.policy (paths_of g.before.lists g.name) w honest stages
+  pub plan : IsPlanFor entry g.policy g.ways (paths_of g.before.lists g.name) w honest stages
 
 -- The whole unit: it is planned, and then the stages are run.
 pub record HasConfigured (g : Given) (failed : Option Call) (after : Holding) (old new : State) (told now : List Called) : Type 0 where
   pub stages : List Stage
   pub plan : IsPlanOf g old.world new.honest stages
-  pub run : HaveRun g.name g.entries stages failed g.before after old new told now
+  pub run : HaveRun g.name g.ways stages failed g.before after old new told now
 
 -- at each moment of it
 pub record IsAmid (g : Given) (old : World) (so_far : List Event) (now : World) : Type 0 where
   pub stages : List Stage
   pub plan : IsPlanOf g old true stages
-  pub running : AreRunning g.name g.entries stages g.before old so_far now
+  pub running : AreRunning g.name g.ways stages g.before old so_far now
 
 -- the same, or it only looks yet
 abbrev pub IsAmidUnit : Given → World → List Event → World → Type 0

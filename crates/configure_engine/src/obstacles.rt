@@ -6,10 +6,11 @@ ghost use Rattle.host_core.specs.Looks.{Looks};
 ghost use Rattle.conffiles.specs.Settling.{CanSettle};
 ghost use Rattle.status_records.specs.ConffilePaths.{is_before};
 ghost use Rattle.configure_engine.specs.Obstacles.{lesser_of, names_of_all, IsObstacle};
-ghost use Rattle.configure_engine.specs.Waiting.{settling_paths};
+ghost use Rattle.configure_engine.specs.Waiting.{settling_places};
 
-use crate::waiting::settling_paths;
+use crate::waiting::{places_of, settling_paths};
 use conffiles::find_obstacle;
+use diversions::Diversions;
 use host_core::{Host, HostFault, RootPath, ShipPath};
 use status_records::Record;
 use std::alloc::Global;
@@ -52,22 +53,25 @@ fn look_at_each<H: Host>(
     Ok(())
 }
 
-/// Of the names of all conffiles of a package that are to be settled the smallest at which something
-/// else than a file stands: then they can't be settled.
+/// Of the names of all conffiles of a package that are to be settled, as they stand at their places, the
+/// smallest at which something else than a file stands: then they can't be settled.
 pub fn obstacle<H: Host>(
     alloc: Global,
     host: &mut H,
+    diversions: &Diversions,
     entry: &Record,
 ) -> Result<Option<RootPath>, HostFault>
-    ensures looks { Looks result (λ found w. IsObstacle w (names_of_all (settling_paths entry.now))
+    ensures looks { Looks result
+        (λ found w. IsObstacle w (names_of_all (settling_places diversions.now.ways entry.now))
         found) (H.state host.old) (H.state host.new) }
     ensures clear { Tells result (λ found w. found ≡ None
-        → All (λ x. CanSettle x w) (settling_paths entry.now)) (H.state host.old)
-        (H.state host.new) }
+        → All (λ x. CanSettle x w) (settling_places diversions.now.ways entry.now))
+        (H.state host.old) (H.state host.new) }
 {
-    let paths = settling_paths(alloc, entry)?;
+    let paths = settling_paths(alloc, diversions, entry)?;
+    let places = places_of(alloc, diversions, paths.as_slice())?;
     let mut least = None;
-    match look_at_each(host, paths.as_slice(), &mut least) {
+    match look_at_each(host, places.as_slice(), &mut least) {
         Ok(()) => Ok(least),
         Err(fault) => Err(fault),
     }

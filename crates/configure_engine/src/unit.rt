@@ -5,14 +5,12 @@ ghost use Rattle.host_core.specs.Host.{AtEachMomentOf, Counts, Needs, Reads, Sil
 ghost use Rattle.host_core.specs.Looks.{Looks};
 ghost use Rattle.host_core.specs.declared.call.Script.TheVariants.{Postinst};
 ghost use Rattle.administration.specs.Places.{script_path as stored_path};
-ghost use Rattle.status_records.specs.ConffilePaths.{AreInOrder};
 ghost use Rattle.scattered_losses.specs.Apart.{WorksApart};
 ghost use Rattle.status_db.specs.Held.{is_record_place};
 ghost use Rattle.held_administration.specs.Open.{IsOpen};
 ghost use Rattle.held_administration.specs.Order.{IsInOrder};
 ghost use Rattle.unit_stages.specs.Holding.{holding_of};
 ghost use Rattle.configure_engine.specs.Units.{CanConfigure, HasCalled, HasConfigured, HasEnded, IsAmidUnit, IsPlanFor, IsWaiting, given};
-ghost use Rattle.configure_engine.specs.Waiting.{settling_paths};
 
 use crate::decisions::decisions;
 use crate::stages::stages_of;
@@ -37,31 +35,24 @@ fn has_postinst<H: Host>(alloc: Global, host: &mut H, name: &Text) -> Result<boo
     Ok(host.kind(&path)?.is_some())
 }
 
-// The conffiles of a record that are to be settled stand in order.
-fn settling_order(entry: &Record)
-    ensures { AreInOrder (settling_paths entry.now) }
-{
-    entry.conffiles.law();
-    entry.pending.law();
-}
-
 // Plans: nothing but looking.
 fn plan<H: Host>(
     alloc: Global,
     host: &mut H,
+    diversions: &Diversions,
     entry: &Record,
     policy: ConfPolicy,
     listed: &[RootPath],
 ) -> Result<Vec<Stage>, HostFault>
     requires named { is_package_name entry.now.name ≡ true }
-    ensures planned { IfOk result (λ stages. IsPlanFor entry.now policy listed.now
-        (H.state host.old).world (H.state host.new).honest stages.items) }
+    ensures planned { IfOk result (λ stages. IsPlanFor entry.now policy diversions.now.ways
+        listed.now (H.state host.old).world (H.state host.new).honest stages.items) }
     ensures reads { Reads (H.state host.old) (H.state host.new) }
     ensures silent { Silent (H.state host.old) (H.state host.new) }
     ensures counts { Counts (H.state host.old) (H.state host.new) result }
 {
     let stored = has_postinst(alloc, host, &entry.name)?;
-    match decisions(alloc, host, entry, policy) {
+    match decisions(alloc, host, diversions, entry, policy) {
         Ok(list) => Ok(stages_of(alloc, entry, listed, list, stored)?),
         Err(fault) => Err(fault),
     }
@@ -77,25 +68,25 @@ pub fn configure<H: Host>(
     policy: ConfPolicy,
     told: &mut Vec<Called>,
 ) -> Result<Option<Call>, HostFault>
-    requires open { IsOpen diversions.now.entries administration.old }
+    requires open { IsOpen diversions.now.ways administration.old }
     requires waits { IsWaiting administration.old.database.records name.now }
     requires order { Needs (H.state host.old)
         (IsInOrder administration.old.database administration.old.lists.lists) }
     requires clear { Needs (H.state host.old)
-        (CanConfigure administration.old.database.records name.now) }
+        (CanConfigure diversions.now.ways administration.old.database.records name.now) }
     ensures unit { IfOk result
-        (λ failed. HasConfigured (given name.now policy diversions.now.entries
+        (λ failed. HasConfigured (given name.now policy diversions.now.ways
         (holding_of administration.old)) failed (holding_of administration.new) (H.state host.old)
         (H.state host.new) told.old.items told.new.items) }
     ensures end { IfOk result (λ failed. HasEnded name.now failed
         administration.old.database.records administration.new.database.records) }
     ensures order { IfOk result (λ failed. Needs (H.state host.new)
         (IsInOrder administration.new.database administration.new.lists.lists)) }
-    ensures open { OnOk result (IsOpen diversions.now.entries administration.new) }
-    ensures told { HasCalled (given name.now policy diversions.now.entries
+    ensures open { OnOk result (IsOpen diversions.now.ways administration.new) }
+    ensures told { HasCalled (given name.now policy diversions.now.ways
         (holding_of administration.old)) (H.state host.old) (H.state host.new) told.old.items
         told.new.items }
-    ensures any_moment { AtEachMomentOf (IsAmidUnit (given name.now policy diversions.now.entries
+    ensures any_moment { AtEachMomentOf (IsAmidUnit (given name.now policy diversions.now.ways
         (holding_of administration.old))) (H.state host.old) (H.state host.new) }
     ensures apart { WorksApart result is_record_place (H.state host.old) (H.state host.new) }
     ensures counts { Counts (H.state host.old) (H.state host.new) result }
@@ -103,10 +94,10 @@ pub fn configure<H: Host>(
     let alloc = administration.alloc;
     administration.lists.law();
     let entry = administration.database.get(name).unwrap();
-    settling_order(entry);
     match plan(
         alloc,
         host,
+        diversions,
         entry,
         policy,
         administration.lists.list_of(name),

@@ -1,9 +1,11 @@
 // Which conffiles of a record are to be settled.
-ghost use Rattle.std.specs.Prelude.{◌≡◌, ◌≤◌, length, IfOk};
-ghost use Rattle.std.specs.List.{insert};
-ghost use Rattle.status_records.specs.ConffilePaths.{is_before, placed_by};
-ghost use Rattle.configure_engine.specs.Waiting.{goes, going_paths, pending_paths, settling_paths};
+ghost use Rattle.std.specs.Prelude.{◌≡◌, ◌≤◌, ◌++◌, ◌∷◌, [], cond, length, map, IfOk, OnOk};
+ghost use Rattle.std.specs.List.{insert, list_any};
+ghost use Rattle.std.specs.Str.{bytes_eq};
+ghost use Rattle.status_records.specs.ConffilePaths.{in_path_order, is_before, placed_by};
+ghost use Rattle.configure_engine.specs.Waiting.{goes, going_paths, pending_paths, place_of, places_once, settling_paths};
 
+use diversions::Diversions;
 use host_core::ShipPath;
 use status_records::{ConffileEntry, PendingDigests, Record};
 use std::alloc::{AllocError, Global};
@@ -45,8 +47,68 @@ fn pending_paths(alloc: Global, entry: &Record) -> Result<Vec<ShipPath>, AllocEr
     Ok(paths)
 }
 
+// The paths of the digests that aren't settled yet, and then those that are to go.
+fn waiting_paths(alloc: Global, entry: &Record) -> Result<Vec<ShipPath>, AllocError>
+    ensures { IfOk result
+        (λ paths. paths.items ≡ pending_paths entry.now ++ going_paths entry.now) }
+{
+    let mut paths = pending_paths(alloc, entry)?;
+    for path in going_paths(alloc, entry)? {
+        paths.push(path)?;
+    }
+    Ok(paths)
+}
+
+fn is_among(places: &[ShipPath], place: &ShipPath) -> bool
+    ensures { result ≡ list_any (λ q. bytes_eq place.now q) places.now }
+{
+    for other in places {
+        if place.as_str() == other.as_str() {
+            return true;
+        }
+    }
+    false
+}
+
+// Keeps a path beside those kept, and its place beside theirs, unless its place is among these.
+fn keep(
+    places: &mut Vec<ShipPath>,
+    kept: &mut Vec<ShipPath>,
+    place: ShipPath,
+    path: ShipPath,
+) -> Result<(), AllocError>
+    ensures places { OnOk result (places.new.items ≡ cond (list_any (bytes_eq place)
+        places.old.items) places.old.items (places.old.items ++ place ∷ [])) }
+    ensures kept { OnOk result (kept.new.items ≡ cond (list_any (bytes_eq place)
+        places.old.items) kept.old.items (kept.old.items ++ path ∷ [])) }
+{
+    if is_among(places.as_slice(), &place) {
+        return Ok(());
+    }
+    places.push(place)?;
+    kept.push(path)?;
+    Ok(())
+}
+
+// Of the paths that have one place the first.
+fn places_once(
+    alloc: Global,
+    diversions: &Diversions,
+    paths: Vec<ShipPath>,
+) -> Result<Vec<ShipPath>, AllocError>
+    ensures { IfOk result (λ kept. kept.items ≡ places_once diversions.now.ways paths.items) }
+{
+    let mut places = Vec::new(alloc);
+    let mut kept = Vec::new(alloc);
+    for path in paths {
+        let place = diversions.resolve_ship(&path)?;
+        keep(&mut places, &mut kept, place, path)?;
+    }
+    Ok(kept)
+}
+
 // The index of the first path that isn't before this one.
-fn place_of(paths: &[ShipPath], path: &ShipPath) -> usize
+fn index_of(paths: &[ShipPath], path: &ShipPath) -> usize
     ensures within { result ≤ length paths.now }
     ensures place { placed_by (λ q. q) path.now paths.now ≡ insert paths.now result path.now }
 {
@@ -58,14 +120,42 @@ fn place_of(paths: &[ShipPath], path: &ShipPath) -> usize
     paths.len()
 }
 
-/// The paths of all conffiles of a record that are to be settled, in their order.
-pub(crate) fn settling_paths(alloc: Global, entry: &Record) -> Result<Vec<ShipPath>, AllocError>
-    ensures { IfOk result (λ paths. paths.items ≡ settling_paths entry.now) }
+fn in_path_order(alloc: Global, paths: Vec<ShipPath>) -> Result<Vec<ShipPath>, AllocError>
+    ensures { IfOk result (λ ordered. ordered.items ≡ in_path_order (λ q. q) paths.items) }
 {
-    let mut paths = pending_paths(alloc, entry)?;
-    for path in going_paths(alloc, entry)? {
-        let place = place_of(paths.as_slice(), &path);
-        paths.insert(place, path)?;
+    let mut ordered = Vec::new(alloc);
+    for path in paths {
+        let index = index_of(ordered.as_slice(), &path);
+        ordered.insert(index, path)?;
     }
-    Ok(paths)
+    Ok(ordered)
+}
+
+/// The paths of all conffiles of a record that are to be settled, in their order.
+pub(crate) fn settling_paths(
+    alloc: Global,
+    diversions: &Diversions,
+    entry: &Record,
+) -> Result<Vec<ShipPath>, AllocError>
+    ensures { IfOk result (λ paths. paths.items ≡ settling_paths diversions.now.ways entry.now) }
+{
+    let paths = waiting_paths(alloc, entry)?;
+    let kept = places_once(alloc, diversions, paths)?;
+    in_path_order(alloc, kept)
+}
+
+/// The places of some conffiles.
+pub(crate) fn places_of(
+    alloc: Global,
+    diversions: &Diversions,
+    paths: &[ShipPath],
+) -> Result<Vec<ShipPath>, AllocError>
+    ensures { IfOk result
+        (λ places. places.items ≡ map (place_of diversions.now.ways) paths.now) }
+{
+    let mut places = Vec::new(alloc);
+    for path in paths {
+        places.push(diversions.resolve_ship(path)?)?;
+    }
+    Ok(places)
 }

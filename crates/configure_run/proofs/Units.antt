@@ -7,7 +7,8 @@ use Rattle.conffiles.specs.Settling.{CanSettle}
 use Rattle.conffiles.specs.declared.decisions.ConfPolicy.{ConfPolicy}
 use Rattle.configure_engine.specs.Obstacles.{IsObstacle, names_of_all}
 use Rattle.configure_engine.specs.Units.{CanConfigure, Given, HasCalled, IsWaiting}
-use Rattle.configure_engine.specs.Waiting.{settling_paths}
+use Rattle.configure_engine.specs.Waiting.{settling_places}
+use Rattle.diversions.specs.Ways.{Ways}
 use Rattle.dependency_check.specs.Waiting.{Waiting}
 use Rattle.dependency_sets.proofs.StrikingLaws.{in_range}
 use Rattle.host_core.specs.Host.{State, Silent}
@@ -55,14 +56,14 @@ called_nothing policy name before u s t silent same none = record {
 
 -- the conffiles of the record that a name has
 
-pub obstacle_is : (records : List Record) (name : List ℕ) (w : World) (entry : Record) (found : Option (List ℕ)) → Some entry ≡ record_in records name → IsObstacle w (names_of_all (settling_paths entry)) found → HasObstacle records name w found
-obstacle_is records name w entry found is obstacle = record { entry = entry; recorded = sym is; obstacle = obstacle }
+pub obstacle_is : (ways : Ways) (records : List Record) (name : List ℕ) (w : World) (entry : Record) (found : Option (List ℕ)) → Some entry ≡ record_in records name → IsObstacle w (names_of_all (settling_places ways entry)) found → HasObstacle ways records name w found
+obstacle_is ways records name w entry found is obstacle = record { entry = entry; recorded = sym is; obstacle = obstacle }
 
 same_entry : (a b : Record) → Some a ≡ Some b → a ≡ b
 same_entry a b e = cc
 
-pub clear_is : (records : List Record) (name : List ℕ) (w : World) (entry : Record) → Some entry ≡ record_in records name → All (λ x. CanSettle x w) (settling_paths entry) → CanConfigure records name w
-clear_is records name w entry is all r found = subst (λ (q : Record). All (λ x. CanSettle x w) (settling_paths q)) (same_entry entry r (is ∙ found)) all
+pub clear_is : (ways : Ways) (records : List Record) (name : List ℕ) (w : World) (entry : Record) → Some entry ≡ record_in records name → All (λ x. CanSettle x w) (settling_places ways entry) → CanConfigure ways records name w
+clear_is ways records name w entry is all r found = subst (λ (q : Record). All (λ x. CanSettle x w) (settling_places ways q)) (same_entry entry r (is ∙ found)) all
 
 -- the package of a number
 

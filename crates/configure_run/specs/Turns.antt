@@ -5,6 +5,7 @@ use Rattle.dependency_check.specs.Deconfigured.{of_role}
 use Rattle.dependency_check.specs.Waiting.{Waiting, IsConfigurableNow, IsNextOfConfigurable, with_configured, without_failed}
 use Rattle.dependency_check.specs.declared.roles.Role.TheVariants.{Breaking}
 use Rattle.dependency_sets.specs.Choices.{IsFirst}
+use Rattle.diversions.specs.Ways.{Ways}
 use Rattle.host_core.specs.Events.{Event, Did, scripts_of}
 use Rattle.host_core.specs.Host.{State, AtEachMomentOf, Happens, Needs, Reads, Silent}
 use Rattle.host_core.specs.Loss.{IsAnswered}
@@ -26,7 +27,7 @@ use Rattle.undo_rows.specs.declared.rows.Called.{Called}
 use Rattle.configure_engine.specs.Obstacles.{IsObstacle, names_of_all}
 use Rattle.configure_engine.specs.Units.{Given, HasCalled, HasConfigured, HasEnded, given}
 use Rattle.configure_engine.specs.Units.{IsAmidUnit as IsAmidConfiguring}
-use Rattle.configure_engine.specs.Waiting.{settling_paths}
+use Rattle.configure_engine.specs.Waiting.{settling_places}
 use Rattle.unit_runs.specs.Turns as runs
 use Rattle.unit_runs.specs.Turns.{IsBrokenNext, IsStill, TurnsTo}
 use Rattle.configure_run.specs.LeftOver.{HaveRefusedLeft, HaveRefusedSomeLeft, IsNumbered}
@@ -41,13 +42,13 @@ abbrev pub holding_of : Held → Holding
 holding_of h = record { records = h.records.records; lists = h.lists }
 
 abbrev pub given_by : ConfPolicy → List ℕ → Held → Given
-given_by policy name h = given name policy h.entries (holding_of h)
+given_by policy name h = given name policy h.ways (holding_of h)
 
--- the smallest of the names of its conffiles at which something else than a file stands, if there is one
-pub record HasObstacle (records : List Record) (name : List ℕ) (w : World) (found : Option (List ℕ)) : Type 0 where
+-- the smallest of the names of its conffiles, at their places, at which something else than a file stands, if there is one
+pub record HasObstacle (ways : Ways) (records : List Record) (name : List ℕ) (w : World) (found : Option (List ℕ)) : Type 0 where
   pub entry : Record
   pub recorded : record_in records name ≡ Some entry
-  pub obstacle : IsObstacle w (names_of_all (settling_paths entry)) found
+  pub obstacle : IsObstacle w (names_of_all (settling_places ways entry)) found
 
 -- done, or failed by this call
 abbrev pub reply_to : List ℕ → Option Call → Reply
@@ -78,15 +79,15 @@ pub record IsConfigured (policy : ConfPolicy) (name : List ℕ) (before after : 
   pub configured : ConfiguresToDisk (given_by policy name before) failed (holding_of after) s t [] u.calls.items
   pub ended : HasEnded name failed before.records.records after.records.records
   pub order : Needs t (IsInOrder after.records after.lists)
-  pub entries : after.entries ≡ before.entries
+  pub ways : after.ways ≡ before.ways
   pub answers : Answers name after.records.records failed u
 
 -- The unit of a package that no other breaks: refused where something else than a file stands at a name of one of its conffiles,
 -- else configured.
 pub data IsUnitFor (policy : ConfPolicy) (name : List ℕ) (before after : Held) (u : AUnit) (s t : State) : Type 0 where
-  obstructed : (path : List ℕ) → (IsTrue t.honest → HasObstacle before.records.records name s.world (Some path)) → IsRefused (ConffileKind path) name before after u s t
+  obstructed : (path : List ℕ) → (IsTrue t.honest → HasObstacle before.ways before.records.records name s.world (Some path)) → IsRefused (ConffileKind path) name before after u s t
       → IsUnitFor policy name before after u s t
-  configured : (looked : State) → Reads s looked → Silent s looked → (IsTrue looked.honest → HasObstacle before.records.records name s.world None)
+  configured : (looked : State) → Reads s looked → Silent s looked → (IsTrue looked.honest → HasObstacle before.ways before.records.records name s.world None)
       → IsConfigured policy name before after u looked t → IsUnitFor policy name before after u s t
 
 -- The unit of the package whose turn it is: another breaks it, the first in name order; or none does.

@@ -37,7 +37,7 @@ fn take_turns<H: Host, W: Watcher>(
     units: &mut Vec<Unit>,
     watcher: &mut W,
 ) -> Result<Queue, Unit>
-    requires open { IsOpen diversions.now.entries administration.old }
+    requires open { IsOpen diversions.now.ways administration.old }
     requires wait { AreWaiting queue administration.old.database.records }
     requires order { Needs (H.state host.old)
         (IsInOrder administration.old.database administration.old.lists.lists) }
@@ -52,7 +52,7 @@ fn take_turns<H: Host, W: Watcher>(
     ensures answered { OnOk result (IsAnswered (H.state host.old) (H.state host.new)) }
     ensures order { OnOk result (Needs (H.state host.new)
         (IsInOrder administration.new.database administration.new.lists.lists)) }
-    ensures open { OnOk result (IsOpen diversions.now.entries administration.new) }
+    ensures open { OnOk result (IsOpen diversions.now.ways administration.new) }
     ensures err { IfErr result (λ unit. StopTurns policy (has silent.items) queue
         (held_by administration.old diversions.now) (H.state host.old) units.old.items
         units.new.items (Some unit) (H.state host.new)) }
@@ -105,7 +105,7 @@ pub(crate) fn run_turns<H: Host, W: Watcher>(
     units: &mut Vec<Unit>,
     watcher: &mut W,
 ) -> Result<Packages, Unit>
-    requires open { IsOpen diversions.now.entries administration.old }
+    requires open { IsOpen diversions.now.ways administration.old }
     requires wait { AreWaiting queue administration.old.database.records }
     requires order { Needs (H.state host.old)
         (IsInOrder administration.old.database administration.old.lists.lists) }
@@ -118,7 +118,7 @@ pub(crate) fn run_turns<H: Host, W: Watcher>(
     ensures answered { OnOk result (IsAnswered (H.state host.old) (H.state host.new)) }
     ensures order { OnOk result (Needs (H.state host.new)
         (IsInOrder administration.new.database administration.new.lists.lists)) }
-    ensures open { OnOk result (IsOpen diversions.now.entries administration.new) }
+    ensures open { OnOk result (IsOpen diversions.now.ways administration.new) }
     ensures err { IfErr result (λ unit. StopTurns policy (has silent.items) queue
         (held_by administration.old diversions.now) (H.state host.old) units.old.items
         units.new.items (Some unit) (H.state host.new)) }

@@ -93,7 +93,7 @@ fn run_and_renew<H: Host, W: Watcher>(
     units: &mut Vec<Unit>,
     watcher: &mut W,
 ) -> Result<(), Unit>
-    requires open { IsOpen diversions.now.entries administration.old }
+    requires open { IsOpen diversions.now.ways administration.old }
     requires begun { IsBegun names.now administration.old.database.records queue }
     requires order { Needs (H.state host.old)
         (IsInOrder administration.old.database administration.old.lists.lists) }
@@ -104,7 +104,7 @@ fn run_and_renew<H: Host, W: Watcher>(
     ensures answered { OnOk result (IsAnswered (H.state host.old) (H.state host.new)) }
     ensures order { OnOk result (Needs (H.state host.new)
         (IsInOrder administration.new.database administration.new.lists.lists)) }
-    ensures open { OnOk result (IsOpen diversions.now.entries administration.new) }
+    ensures open { OnOk result (IsOpen diversions.now.ways administration.new) }
     ensures err { IfErr result (λ unit. StopTurns policy (has silent.items) queue
         (held_by administration.old diversions.now) (H.state host.old) units.old.items
         units.new.items (Some unit) (H.state host.new)) }
@@ -158,7 +158,7 @@ fn run_all<H: Host, W: Watcher>(
 ) -> Result<(), Unit>
     requires none { units.old.items ≡ [] }
     requires indexed { ArePackagesOf administration.old.database.records packages.old }
-    requires open { IsOpen diversions.now.entries administration.old }
+    requires open { IsOpen diversions.now.ways administration.old }
     requires order { Needs (H.state host.old)
         (IsInOrder administration.old.database administration.old.lists.lists) }
     ensures ok { OnOk result (IsConfigureRun names.now policy units.new.items
@@ -170,7 +170,7 @@ fn run_all<H: Host, W: Watcher>(
     ensures answered { OnOk result (IsAnswered (H.state host.old) (H.state host.new)) }
     ensures order { OnOk result (Needs (H.state host.new)
         (IsInOrder administration.new.database administration.new.lists.lists)) }
-    ensures open { OnOk result (IsOpen diversions.now.entries administration.new) }
+    ensures open { OnOk result (IsOpen diversions.now.ways administration.new) }
     ensures told { OnOk result (TellsAll (H.state host.old) (H.state host.new) []
         (calls_of units.new.items)) }
     ensures told_broken { IfErr result (λ unit. TellsAll (H.state host.old) (H.state host.new) []
@@ -222,7 +222,7 @@ pub fn configure_packages<H: Host, W: Watcher>(
     watcher: &mut W,
 ) -> Report
     requires indexed { ArePackagesOf administration.old.database.records packages.old }
-    requires open { IsOpen diversions.now.entries administration.old }
+    requires open { IsOpen diversions.now.ways administration.old }
     requires order { Needs (H.state host.old)
         (IsInOrder administration.old.database administration.old.lists.lists) }
     ensures whole { IsNone result.last → IsConfigureRun names.items policy result.units.items
@@ -237,7 +237,7 @@ pub fn configure_packages<H: Host, W: Watcher>(
     ensures answered { IsNone result.last → IsAnswered (H.state host.old) (H.state host.new) }
     ensures order { IsNone result.last → Needs (H.state host.new)
         (IsInOrder administration.new.database administration.new.lists.lists) }
-    ensures open { IsNone result.last → IsOpen diversions.now.entries administration.new }
+    ensures open { IsNone result.last → IsOpen diversions.now.ways administration.new }
     ensures indexed { IsNone result.last → ArePackagesOf administration.new.database.records
         packages.new }
     ensures counts { CountsLast (H.state host.old) (H.state host.new) result.last }

@@ -36,7 +36,7 @@ fn take_turn<H: Host>(
     number: usize,
     room: bool,
 ) -> Result<Unit, Unit>
-    requires open { IsOpen diversions.now.entries administration.old }
+    requires open { IsOpen diversions.now.ways administration.old }
     requires wait { AreWaiting queue.now administration.old.database.records }
     requires order { Needs (H.state host.old)
         (IsInOrder administration.old.database administration.old.lists.lists) }
@@ -49,7 +49,7 @@ fn take_turn<H: Host>(
         queue.now) administration.new.database.records) }
     ensures order { OnOk result (Needs (H.state host.new)
         (IsInOrder administration.new.database administration.new.lists.lists)) }
-    ensures open { OnOk result (IsOpen diversions.now.entries administration.new) }
+    ensures open { OnOk result (IsOpen diversions.now.ways administration.new) }
     ensures broken_off { IfErr result (IsBrokenAt policy queue.now number
         (held_by administration.old diversions.now) (H.state host.old) (H.state host.new)) }
     ensures told { IfOk result (λ unit. TellsAll (H.state host.old) (H.state host.new) []
@@ -87,7 +87,7 @@ fn take_next<H: Host>(
     room: bool,
     taken: &mut Option<(usize, bool)>,
 ) -> Result<Option<Unit>, Unit>
-    requires open { IsOpen diversions.now.entries administration.old }
+    requires open { IsOpen diversions.now.ways administration.old }
     requires wait { AreWaiting queue.now administration.old.database.records }
     requires order { Needs (H.state host.old)
         (IsInOrder administration.old.database administration.old.lists.lists) }
@@ -104,7 +104,7 @@ fn take_next<H: Host>(
         administration.new.database.records) }
     ensures order { OnOk result (Needs (H.state host.new)
         (IsInOrder administration.new.database administration.new.lists.lists)) }
-    ensures open { OnOk result (IsOpen diversions.now.entries administration.new) }
+    ensures open { OnOk result (IsOpen diversions.now.ways administration.new) }
     ensures answered { OnOk result (IsAnswered (H.state host.old) (H.state host.new)) }
     ensures told { TellsAll (H.state host.old) (H.state host.new) [] (calls_in result) }
     ensures any_moment { AtEachMomentOf (runs.IsAmidNext

@@ -54,17 +54,18 @@ pub(crate) fn no_memory(alloc: Global) -> Unit
 fn obstacle_of<H: Host>(
     alloc: Global,
     host: &mut H,
+    diversions: &Diversions,
     database: &NotedDatabase,
     name: &Text,
 ) -> Result<Option<RootPath>, HostFault>
     requires waits { IsWaiting database.now.records name.now }
-    ensures looks { Looks result (λ found w. HasObstacle database.now.records name.now w found)
-        (H.state host.old) (H.state host.new) }
-    ensures clear { Tells result (λ found w. found ≡ None → CanConfigure database.now.records
-        name.now w) (H.state host.old) (H.state host.new) }
+    ensures looks { Looks result (λ found w. HasObstacle diversions.now.ways database.now.records
+        name.now w found) (H.state host.old) (H.state host.new) }
+    ensures clear { Tells result (λ found w. found ≡ None → CanConfigure diversions.now.ways
+        database.now.records name.now w) (H.state host.old) (H.state host.new) }
 {
     match database.get(name) {
-        Some(entry) => obstacle(alloc, host, entry),
+        Some(entry) => obstacle(alloc, host, diversions, entry),
         None => unreachable!(),
     }
 }
@@ -157,12 +158,12 @@ fn configure_to_disk<H: Host>(
     policy: ConfPolicy,
     told: &mut Vec<Called>,
 ) -> Result<Option<Call>, HostFault>
-    requires open { IsOpen diversions.now.entries administration.old }
+    requires open { IsOpen diversions.now.ways administration.old }
     requires waits { IsWaiting administration.old.database.records name.now }
     requires order { Needs (H.state host.old)
         (IsInOrder administration.old.database administration.old.lists.lists) }
-    requires clear { Needs (H.state host.old) (CanConfigure administration.old.database.records
-        name.now) }
+    requires clear { Needs (H.state host.old) (CanConfigure diversions.now.ways
+        administration.old.database.records name.now) }
     ensures unit { IfOk result (λ failed. ConfiguresToDisk
         (given_by policy name.now (held_by administration.old diversions.now)) failed
         (holding_of (held_by administration.new diversions.now)) (H.state host.old)
@@ -171,7 +172,7 @@ fn configure_to_disk<H: Host>(
         administration.old.database.records administration.new.database.records) }
     ensures order { IfOk result (λ failed. Needs (H.state host.new)
         (IsInOrder administration.new.database administration.new.lists.lists)) }
-    ensures open { OnOk result (IsOpen diversions.now.entries administration.new) }
+    ensures open { OnOk result (IsOpen diversions.now.ways administration.new) }
     ensures on_disk { OnOk result (IsOnDisk (H.state host.new).events) }
     ensures told { HasCalledToDisk (given_by policy name.now
         (held_by administration.old diversions.now)) (H.state host.old) (H.state host.new)
@@ -198,16 +199,16 @@ fn configured_unit<H: Host>(
     name: &Text,
     policy: ConfPolicy,
 ) -> Unit
-    requires open { IsOpen diversions.now.entries administration.old }
+    requires open { IsOpen diversions.now.ways administration.old }
     requires waits { IsWaiting administration.old.database.records name.now }
     requires order { Needs (H.state host.old)
         (IsInOrder administration.old.database administration.old.lists.lists) }
-    requires clear { Needs (H.state host.old) (CanConfigure administration.old.database.records
-        name.now) }
+    requires clear { Needs (H.state host.old) (CanConfigure diversions.now.ways
+        administration.old.database.records name.now) }
     ensures unit { IsBroken result.reply ⊎ IsConfigured policy name.now
         (held_by administration.old diversions.now) (held_by administration.new diversions.now)
         result (H.state host.old) (H.state host.new) }
-    ensures open { IsBroken result.reply ⊎ IsOpen diversions.now.entries administration.new }
+    ensures open { IsBroken result.reply ⊎ IsOpen diversions.now.ways administration.new }
     ensures on_disk { IsBroken result.reply ⊎ IsOnDisk (H.state host.new).events }
     ensures untouched { IsBroken result.reply → TellsNoPackage result }
     ensures told { HasCalledToDisk (given_by policy name.now
@@ -235,7 +236,7 @@ fn unit_for<H: Host>(
     name: &Text,
     policy: ConfPolicy,
 ) -> Unit
-    requires open { IsOpen diversions.now.entries administration.old }
+    requires open { IsOpen diversions.now.ways administration.old }
     requires waits { IsWaiting administration.old.database.records name.now }
     requires order { Needs (H.state host.old)
         (IsInOrder administration.old.database administration.old.lists.lists) }
@@ -244,7 +245,7 @@ fn unit_for<H: Host>(
         result (H.state host.old) (H.state host.new) }
     ensures order { IsBroken result.reply ⊎ Needs (H.state host.new)
         (IsInOrder administration.new.database administration.new.lists.lists) }
-    ensures open { IsBroken result.reply ⊎ IsOpen diversions.now.entries administration.new }
+    ensures open { IsBroken result.reply ⊎ IsOpen diversions.now.ways administration.new }
     ensures answered { IsBroken result.reply ⊎ IsAnswered (H.state host.old) (H.state host.new) }
     ensures untouched { IsBroken result.reply → TellsNoPackage result }
     ensures told { HasCalledFor policy name.now (held_by administration.old diversions.now) result
@@ -255,7 +256,7 @@ fn unit_for<H: Host>(
     ensures not_closed { IsBrokenBy Closed result.reply → ⊥ }
 {
     let alloc = administration.alloc;
-    match obstacle_of(alloc, host, &administration.database, name) {
+    match obstacle_of(alloc, host, diversions, &administration.database, name) {
         Ok(None) => configured_unit(host, administration, diversions, name, policy),
         Ok(Some(path)) => refused_named(alloc, Rule::ConffileKind(path), name),
         Err(fault) => broken(alloc, Vec::new(alloc), breakage_of(fault)),
@@ -285,7 +286,7 @@ pub(crate) fn unit_of<H: Host>(
     of: &Package,
     policy: ConfPolicy,
 ) -> Unit
-    requires open { IsOpen diversions.now.entries administration.old }
+    requires open { IsOpen diversions.now.ways administration.old }
     requires waits { IsWaiting administration.old.database.records of.now.name }
     requires order { Needs (H.state host.old)
         (IsInOrder administration.old.database administration.old.lists.lists) }
@@ -294,7 +295,7 @@ pub(crate) fn unit_of<H: Host>(
         result (H.state host.old) (H.state host.new) }
     ensures order { IsBroken result.reply ⊎ Needs (H.state host.new)
         (IsInOrder administration.new.database administration.new.lists.lists) }
-    ensures open { IsBroken result.reply ⊎ IsOpen diversions.now.entries administration.new }
+    ensures open { IsBroken result.reply ⊎ IsOpen diversions.now.ways administration.new }
     ensures answered { IsBroken result.reply ⊎ IsAnswered (H.state host.old) (H.state host.new) }
     ensures untouched { IsBroken result.reply → TellsNoPackage result }
     ensures told { HasCalledFor policy of.now.name (held_by administration.old diversions.now)

@@ -3,7 +3,6 @@ pub mod Steps
 pub mod Calls
 pub mod Runs
 pub mod Pages
-pub mod NothingSettled
 pub mod Planned
 pub mod Removals
 pub mod Configuring

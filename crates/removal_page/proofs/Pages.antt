@@ -6,7 +6,7 @@ use Rattle.host_core.specs.declared.call.Call.{Call}
 use Rattle.undo_rows.specs.declared.rows.Called.{Called}
 use Rattle.status_records.specs.Records.{record_in}
 use Rattle.status_records.specs.declared.record.Record.{Record}
-use Rattle.diversions.specs.declared.entry.Diversion.{Diversion}
+use Rattle.diversions.specs.Ways.{Ways}
 use Rattle.unit_stages.specs.Calls.{AreCallsOf}
 use Rattle.unit_stages.specs.declared.stage.Stage.{Stage}
 use Rattle.policy_page.specs.Answers.{answer_of}
@@ -56,9 +56,9 @@ module _ {L : Type 0} (page : L → Line) where
   placed (m ∷ ms) l failed ts (inl equal) is = inl (subst (λ x. IsLine (page x) failed ts) equal is)
   placed (m ∷ ms) l failed ts (inr later) is = inr (placed ms l failed ts later is)
 
-  pub is_page : (name : List ℕ) (entries : List Diversion) (stages : List Stage) (steps : List Step) (ls : List L) → FitAll name steps stages → ((o : Option Record) → lines o steps ≡ map page ls)
-      → ((l : L) → In l ls) → ((l : L) → read ls (successes (page l)) ≡ Some l) → IsPage page name entries stages
-  is_page name entries stages steps ls fit are all back = record {
+  pub is_page : (name : List ℕ) (ways : Ways) (stages : List Stage) (steps : List Step) (ls : List L) → FitAll name steps stages → ((o : Option Record) → lines o steps ≡ map page ls)
+      → ((l : L) → In l ls) → ((l : L) → read ls (successes (page l)) ≡ Some l) → IsPage page name ways stages
+  is_page name ways stages steps ls fit are all back = record {
     each = each;
     no_other = λ l failed ts is. of_lines name steps stages fit None failed ts (subst (λ x. Among x failed ts) (sym (are None)) (placed ls l failed ts (all l) is));
     decided = λ l failed ts run outcomes.
@@ -69,7 +69,7 @@ module _ {L : Type 0} (page : L → Line) where
         subst (λ x. IsLine (page x) failed ts) equal m.1;
     run = λ failed before after old new told now run.
         let o = record_in before.records name in
-        ended ls name failed after.records told now (subst (λ x. Ended x name failed after.records told now) (are o) (ended_lines name entries steps stages fit o failed before after old new told now refl run));
+        ended ls name failed after.records told now (subst (λ x. Ended x name failed after.records told now) (are o) (ended_lines name ways steps stages fit o failed before after old new told now refl run));
   }
     where
       each : (failed : Option Call) (ts : List Ran) → AreCallsOf stages failed ts → (l : L) × IsLine (page l) failed ts

@@ -5,7 +5,7 @@ use Rattle.status_records.specs.declared.record.Record.{Record}
 use Rattle.status_records.specs.declared.words.State.{State}
 use Rattle.status_records.specs.declared.words.State.TheVariants as state
 use Rattle.unpack_rows.specs.Kinds.{has_prerm}
-use Rattle.diversions.specs.declared.entry.Diversion.{Diversion}
+use Rattle.diversions.specs.Ways.{Ways}
 use Rattle.file_lists.specs.Owners.{paths_of}
 use Rattle.file_lists.specs.declared.paths.PackageList.{PackageList}
 use Rattle.unit_stages.specs.declared.stage.Stage.{Stage}
@@ -19,13 +19,13 @@ use Rattle.removal_page.proofs.Pages.{In, is_page, read, successes}
 use Rattle.removal_page.proofs.Planned.{IsStep, fit_all}
 use Rattle.removal_page.proofs.Steps.{Calls, Quiet, Step}
 
-module _ (entries : List Diversion) (lists : List PackageList) (r : Record) (to_come : List Path) where
+module _ (ways : Ways) (lists : List PackageList) (r : Record) (to_come : List Path) where
   -- the stages, by the state in which the package is found
 
-  pub with_prerm : (purge : Bool) → has_prerm r.state ≡ true → stages_from entries lists r.state r all_stored purge to_come ≡ prerm_stage r all_stored ∷ files_stages entries lists r all_stored purge to_come
+  pub with_prerm : (purge : Bool) → has_prerm r.state ≡ true → stages_from ways lists r.state r all_stored purge to_come ≡ prerm_stage r all_stored ∷ files_stages ways lists r all_stored purge to_come
   with_prerm purge is = by r.state is
     where
-      by : (s : State) → has_prerm s ≡ true → stages_from entries lists s r all_stored purge to_come ≡ prerm_stage r all_stored ∷ files_stages entries lists r all_stored purge to_come
+      by : (s : State) → has_prerm s ≡ true → stages_from ways lists s r all_stored purge to_come ≡ prerm_stage r all_stored ∷ files_stages ways lists r all_stored purge to_come
       by state.NotInstalled none = cc
       by state.ConfigFiles none = cc
       by state.HalfInstalled none = cc
@@ -33,10 +33,10 @@ module _ (entries : List Diversion) (lists : List PackageList) (r : Record) (to_
       by state.HalfConfigured called = refl
       by state.Installed called = refl
 
-  pub without_prerm : (purge : Bool) → has_prerm r.state ≡ false → r.state ≢ state.ConfigFiles → stages_from entries lists r.state r all_stored purge to_come ≡ files_stages entries lists r all_stored purge to_come
+  pub without_prerm : (purge : Bool) → has_prerm r.state ≡ false → r.state ≢ state.ConfigFiles → stages_from ways lists r.state r all_stored purge to_come ≡ files_stages ways lists r all_stored purge to_come
   without_prerm purge is files = by r.state is files
     where
-      by : (s : State) → has_prerm s ≡ false → s ≢ state.ConfigFiles → stages_from entries lists s r all_stored purge to_come ≡ files_stages entries lists r all_stored purge to_come
+      by : (s : State) → has_prerm s ≡ false → s ≢ state.ConfigFiles → stages_from ways lists s r all_stored purge to_come ≡ files_stages ways lists r all_stored purge to_come
       by state.NotInstalled none files = refl
       by state.ConfigFiles none files = absurd (files refl)
       by state.HalfInstalled none files = refl
@@ -44,8 +44,8 @@ module _ (entries : List Diversion) (lists : List PackageList) (r : Record) (to_
       by state.HalfConfigured none files = cc
       by state.Installed none files = cc
 
-  pub of_conffiles : r.state ≡ state.ConfigFiles → stages_from entries lists r.state r all_stored true to_come ≡ purge_stages entries lists r all_stored (paths_of lists r.name)
-  of_conffiles is = ap (λ s. stages_from entries lists s r all_stored true to_come) is
+  pub of_conffiles : r.state ≡ state.ConfigFiles → stages_from ways lists r.state r all_stored true to_come ≡ purge_stages ways lists r all_stored (paths_of lists r.name)
+  of_conffiles is = ap (λ s. stages_from ways lists s r all_stored true to_come) is
 
   -- the steps
 
@@ -64,19 +64,19 @@ module _ (entries : List Diversion) (lists : List PackageList) (r : Record) (to_
   prerm_is : IsStep r.name prerm_step (prerm_stage r all_stored)
   prerm_is = IsStep.calls _ _ _ _ _ refl refl refl (refl, tt) (λ o. refl) (refl, tt) refl
 
-  postrm_is : IsStep r.name postrm_step (files_stage entries lists r all_stored to_come)
+  postrm_is : IsStep r.name postrm_step (files_stage ways lists r all_stored to_come)
   postrm_is = IsStep.calls _ _ _ _ _ refl refl refl (refl, (tt, (tt, (tt, (tt, (refl, tt)))))) (λ o. refl) tt refl
 
   left_is : IsStep r.name left_step (left_stage r)
   left_is = IsStep.quiet _ _ refl (tt, (refl, tt)) (λ o. refl)
 
-  purge_is : IsStep r.name (purge_step (config_files r)) (purge_stage entries lists (config_files r) all_stored)
+  purge_is : IsStep r.name (purge_step (config_files r)) (purge_stage ways lists (config_files r) all_stored)
   purge_is = IsStep.calls _ _ _ _ _ refl refl refl (refl, (tt, tt)) (λ o. refl) tt refl
 
-  purge_alone_is : IsStep r.name (purge_step r) (purge_stage entries lists r all_stored)
+  purge_alone_is : IsStep r.name (purge_step r) (purge_stage ways lists r all_stored)
   purge_alone_is = IsStep.calls _ _ _ _ _ refl refl refl (refl, (tt, tt)) (λ o. refl) tt refl
 
-  last_is : (c : Record) (listed : List Path) → IsStep r.name (Quiet None) (last_stage entries lists c listed)
+  last_is : (c : Record) (listed : List Path) → IsStep r.name (Quiet None) (last_stage ways lists c listed)
   last_is c listed = IsStep.quiet _ _ refl (tt, (tt, (tt, (tt, (tt, tt))))) (λ o. refl)
 
   module _ (stages : List Stage) where
@@ -86,10 +86,10 @@ module _ (entries : List Diversion) (lists : List PackageList) (r : Record) (to_
     abbrev removed_lines : List Removal
     removed_lines = Removal.PrermFails ∷ Removal.PrermFailsThenPostinst ∷ Removal.PostrmFails ∷ Removal.Succeeds ∷ []
 
-    pub removed : has_prerm r.state ≡ true → map planned stages ≡ removal_stages entries lists extent.Remove r all_stored to_come → IsPage (Page.removal r) r.name entries stages
+    pub removed : has_prerm r.state ≡ true → map planned stages ≡ removal_stages ways lists extent.Remove r all_stored to_come → IsPage (Page.removal r) r.name ways stages
     removed prerm are =
-        is_page (Page.removal r) r.name entries stages removed_steps removed_lines
-        (fit_all r.name removed_steps (prerm_stage r all_stored ∷ files_stages entries lists r all_stored false to_come) (prerm_is, (postrm_is, (left_is, tt))) stages (are ∙ with_prerm false prerm)) (λ o. refl) all back
+        is_page (Page.removal r) r.name ways stages removed_steps removed_lines
+        (fit_all r.name removed_steps (prerm_stage r all_stored ∷ files_stages ways lists r all_stored false to_come) (prerm_is, (postrm_is, (left_is, tt))) stages (are ∙ with_prerm false prerm)) (λ o. refl) all back
       where
         all : (l : Removal) → In (Page.removal r) l removed_lines
         all Removal.PrermFails = inl refl
@@ -109,10 +109,10 @@ module _ (entries : List Diversion) (lists : List PackageList) (r : Record) (to_
     abbrev removed_unconfigured_lines : List RemovalOfFiles
     removed_unconfigured_lines = RemovalOfFiles.PostrmFails ∷ RemovalOfFiles.Succeeds ∷ []
 
-    pub removed_unconfigured : has_prerm r.state ≡ false → r.state ≢ state.ConfigFiles → map planned stages ≡ removal_stages entries lists extent.Remove r all_stored to_come → IsPage (Page.removal_of_files r) r.name entries stages
+    pub removed_unconfigured : has_prerm r.state ≡ false → r.state ≢ state.ConfigFiles → map planned stages ≡ removal_stages ways lists extent.Remove r all_stored to_come → IsPage (Page.removal_of_files r) r.name ways stages
     removed_unconfigured none files are =
-        is_page (Page.removal_of_files r) r.name entries stages removed_unconfigured_steps removed_unconfigured_lines
-        (fit_all r.name removed_unconfigured_steps (files_stages entries lists r all_stored false to_come) (postrm_is, (left_is, tt)) stages (are ∙ without_prerm false none files)) (λ o. refl) all back
+        is_page (Page.removal_of_files r) r.name ways stages removed_unconfigured_steps removed_unconfigured_lines
+        (fit_all r.name removed_unconfigured_steps (files_stages ways lists r all_stored false to_come) (postrm_is, (left_is, tt)) stages (are ∙ without_prerm false none files)) (λ o. refl) all back
       where
         all : (l : RemovalOfFiles) → In (Page.removal_of_files r) l removed_unconfigured_lines
         all RemovalOfFiles.PostrmFails = inl refl
@@ -128,10 +128,10 @@ module _ (entries : List Diversion) (lists : List PackageList) (r : Record) (to_
     abbrev removed_in_favour_lines : List RemovalOfFiles
     removed_in_favour_lines = RemovalOfFiles.PostrmFails ∷ RemovalOfFiles.Succeeds ∷ []
 
-    pub removed_in_favour : map planned stages ≡ removal_stages entries lists extent.InFavour r all_stored to_come → IsPage (Page.removal_of_files r) r.name entries stages
+    pub removed_in_favour : map planned stages ≡ removal_stages ways lists extent.InFavour r all_stored to_come → IsPage (Page.removal_of_files r) r.name ways stages
     removed_in_favour are =
-        is_page (Page.removal_of_files r) r.name entries stages removed_in_favour_steps removed_in_favour_lines
-        (fit_all r.name removed_in_favour_steps (files_stages entries lists r all_stored false to_come) (postrm_is, (left_is, tt)) stages (are)) (λ o. refl) all back
+        is_page (Page.removal_of_files r) r.name ways stages removed_in_favour_steps removed_in_favour_lines
+        (fit_all r.name removed_in_favour_steps (files_stages ways lists r all_stored false to_come) (postrm_is, (left_is, tt)) stages (are)) (λ o. refl) all back
       where
         all : (l : RemovalOfFiles) → In (Page.removal_of_files r) l removed_in_favour_lines
         all RemovalOfFiles.PostrmFails = inl refl
@@ -147,10 +147,10 @@ module _ (entries : List Diversion) (lists : List PackageList) (r : Record) (to_
     abbrev purged_configured_lines : List Purge
     purged_configured_lines = Purge.PrermFails ∷ Purge.PrermFailsThenPostinst ∷ Purge.PostrmFails ∷ Purge.PurgeFails ∷ Purge.Succeeds ∷ []
 
-    pub purged_configured : has_prerm r.state ≡ true → map planned stages ≡ removal_stages entries lists extent.Purge r all_stored to_come → IsPage (Page.purge r) r.name entries stages
+    pub purged_configured : has_prerm r.state ≡ true → map planned stages ≡ removal_stages ways lists extent.Purge r all_stored to_come → IsPage (Page.purge r) r.name ways stages
     purged_configured prerm are =
-        is_page (Page.purge r) r.name entries stages purged_configured_steps purged_configured_lines
-        (fit_all r.name purged_configured_steps (prerm_stage r all_stored ∷ files_stages entries lists r all_stored true to_come) (prerm_is, (postrm_is, (left_is, (purge_is, (last_is (config_files r) to_come, tt))))) stages (are ∙ with_prerm true prerm)) (λ o. refl) all back
+        is_page (Page.purge r) r.name ways stages purged_configured_steps purged_configured_lines
+        (fit_all r.name purged_configured_steps (prerm_stage r all_stored ∷ files_stages ways lists r all_stored true to_come) (prerm_is, (postrm_is, (left_is, (purge_is, (last_is (config_files r) to_come, tt))))) stages (are ∙ with_prerm true prerm)) (λ o. refl) all back
       where
         all : (l : Purge) → In (Page.purge r) l purged_configured_lines
         all Purge.PrermFails = inl refl
@@ -172,10 +172,10 @@ module _ (entries : List Diversion) (lists : List PackageList) (r : Record) (to_
     abbrev purged_unconfigured_lines : List PurgeOfFiles
     purged_unconfigured_lines = PurgeOfFiles.PostrmFails ∷ PurgeOfFiles.PurgeFails ∷ PurgeOfFiles.Succeeds ∷ []
 
-    pub purged_unconfigured : has_prerm r.state ≡ false → r.state ≢ state.ConfigFiles → map planned stages ≡ removal_stages entries lists extent.Purge r all_stored to_come → IsPage (Page.purge_of_files r) r.name entries stages
+    pub purged_unconfigured : has_prerm r.state ≡ false → r.state ≢ state.ConfigFiles → map planned stages ≡ removal_stages ways lists extent.Purge r all_stored to_come → IsPage (Page.purge_of_files r) r.name ways stages
     purged_unconfigured none files are =
-        is_page (Page.purge_of_files r) r.name entries stages purged_unconfigured_steps purged_unconfigured_lines
-        (fit_all r.name purged_unconfigured_steps (files_stages entries lists r all_stored true to_come) (postrm_is, (left_is, (purge_is, (last_is (config_files r) to_come, tt)))) stages (are ∙ without_prerm true none files)) (λ o. refl) all back
+        is_page (Page.purge_of_files r) r.name ways stages purged_unconfigured_steps purged_unconfigured_lines
+        (fit_all r.name purged_unconfigured_steps (files_stages ways lists r all_stored true to_come) (postrm_is, (left_is, (purge_is, (last_is (config_files r) to_come, tt)))) stages (are ∙ without_prerm true none files)) (λ o. refl) all back
       where
         all : (l : PurgeOfFiles) → In (Page.purge_of_files r) l purged_unconfigured_lines
         all PurgeOfFiles.PostrmFails = inl refl
@@ -193,10 +193,10 @@ module _ (entries : List Diversion) (lists : List PackageList) (r : Record) (to_
     abbrev purged_removed_lines : List PurgeOfConffiles
     purged_removed_lines = PurgeOfConffiles.PurgeFails ∷ PurgeOfConffiles.Succeeds ∷ []
 
-    pub purged_removed : r.state ≡ state.ConfigFiles → map planned stages ≡ removal_stages entries lists extent.Purge r all_stored to_come → IsPage (Page.purge_of_conffiles r) r.name entries stages
+    pub purged_removed : r.state ≡ state.ConfigFiles → map planned stages ≡ removal_stages ways lists extent.Purge r all_stored to_come → IsPage (Page.purge_of_conffiles r) r.name ways stages
     purged_removed gone are =
-        is_page (Page.purge_of_conffiles r) r.name entries stages purged_removed_steps purged_removed_lines
-        (fit_all r.name purged_removed_steps (purge_stages entries lists r all_stored (paths_of lists r.name)) (purge_alone_is, (last_is r (paths_of lists r.name), tt)) stages (are ∙ of_conffiles gone)) (λ o. refl) all back
+        is_page (Page.purge_of_conffiles r) r.name ways stages purged_removed_steps purged_removed_lines
+        (fit_all r.name purged_removed_steps (purge_stages ways lists r all_stored (paths_of lists r.name)) (purge_alone_is, (last_is r (paths_of lists r.name), tt)) stages (are ∙ of_conffiles gone)) (λ o. refl) all back
       where
         all : (l : PurgeOfConffiles) → In (Page.purge_of_conffiles r) l purged_removed_lines
         all PurgeOfConffiles.PurgeFails = inl refl

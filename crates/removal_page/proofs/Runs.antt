@@ -9,7 +9,7 @@ use Rattle.undo_rows.specs.declared.rows.Owner.{Owner}
 use Rattle.undo_rows.specs.Transcript.{Tells, told_of}
 use Rattle.status_records.specs.declared.record.Record.{Record}
 use Rattle.status_records.specs.Records.{record_in}
-use Rattle.diversions.specs.declared.entry.Diversion.{Diversion}
+use Rattle.diversions.specs.Ways.{Ways}
 use Rattle.unit_stages.specs.Parts.{parts_records}
 use Rattle.unit_stages.specs.declared.part.Part.{Part}
 use Rattle.unit_stages.specs.Holding.{Holding, after_parts}
@@ -44,17 +44,17 @@ module _ (name : List ℕ) (records : List Record) (fell : Option Call) where
       subst (λ (l : List Called). Ended ls name fell records l now) (tells ∙ ap (λ (ts : List Ran). told ++ map told_of ts) silent ∙ append-nil told) ended
 
 -- the record where a call failed
-restored_is : (name : List ℕ) (entries : List Diversion) (restore : List Part) (owners : List Owner) (before after : Holding) (s t : State) (left restored : Option Record) → record_in before.records name ≡ left → record_in (parts_records name restore before.records) name ≡ restored
-    → HasRestored name entries owners restore before after s t → ((owners ≡ []) × (record_in after.records name ≡ restored)) ⊎ ((owners ≢ []) × (record_in after.records name ≡ left))
-restored_is name entries restore owners before after s t left restored is done (HasRestored.restored none does same) = inl (none, ap (λ (h : Holding). record_in h.records name) same ∙ done)
-restored_is name entries restore owners before after s t left restored is done (HasRestored.left some stays same) = inr (some, ap (λ (h : Holding). record_in h.records name) same ∙ is)
+restored_is : (name : List ℕ) (ways : Ways) (restore : List Part) (owners : List Owner) (before after : Holding) (s t : State) (left restored : Option Record) → record_in before.records name ≡ left → record_in (parts_records name restore before.records) name ≡ restored
+    → HasRestored name ways owners restore before after s t → ((owners ≡ []) × (record_in after.records name ≡ restored)) ⊎ ((owners ≢ []) × (record_in after.records name ≡ left))
+restored_is name ways restore owners before after s t left restored is done (HasRestored.restored none does same) = inl (none, ap (λ (h : Holding). record_in h.records name) same ∙ done)
+restored_is name ways restore owners before after s t left restored is done (HasRestored.left some stays same) = inr (some, ap (λ (h : Holding). record_in h.records name) same ∙ is)
 
 -- where a call fails
-failing_ended : (name : List ℕ) (entries : List Diversion) (stage : Stage) (call : Call) (undo : Option Call) (left restored : Option Record) → stage.row.forward ≡ Some call → stage.row.fallback ≡ None → stage.row.undo ≡ undo
+failing_ended : (name : List ℕ) (ways : Ways) (stage : Stage) (call : Call) (undo : Option Call) (left restored : Option Record) → stage.row.forward ≡ Some call → stage.row.fallback ≡ None → stage.row.undo ≡ undo
     → ((rs : List Record) → record_in (parts_records name stage.parts.items rs) name ≡ left) → ((rs : List Record) → record_in (parts_records name stage.restore.items (parts_records name stage.parts.items rs)) name ≡ restored)
-    → (fell : Option Call) (before after : Holding) (s t : State) (told now : List Called) → HasFailed name entries stage fell before after s t told now
+    → (fell : Option Call) (before after : Holding) (s t : State) (told now : List Called) → HasFailed name ways stage fell before after s t told now
     → Ended (failing call undo left restored) name fell after.records told now
-failing_ended name entries stage call undo left restored forward alone back leaves restores fell before after s t told now f = by undo back
+failing_ended name ways stage call undo left restored forward alone back leaves restores fell before after s t told now f = by undo back
   where
     fell_for : fell ≡ Some call
     fell_for = f.fell.answer ∙ sym f.fell.forward ∙ forward
@@ -66,7 +66,7 @@ failing_ended name entries stage call undo left restored forward alone back leav
     tells = tells_then f.fell.calls.0 f.fell.undo.undo.0 told f.fell.so_far now f.fell.calls.2.1 f.fell.undo.undo.2.1
 
     ends : ((f.fell.undo.owners ≡ []) × (record_in after.records name ≡ restored)) ⊎ ((f.fell.undo.owners ≢ []) × (record_in after.records name ≡ left))
-    ends = restored_is name entries stage.restore.items f.fell.undo.owners (after_parts name stage.parts.items before) after f.fell.undo.undone t left restored (leaves before.records) (restores before.records) f.fell.undo.restored
+    ends = restored_is name ways stage.restore.items f.fell.undo.owners (after_parts name stage.parts.items before) after f.fell.undo.undone t left restored (leaves before.records) (restores before.records) f.fell.undo.restored
 
     well : {A : Type 0} → f.fell.undo.owners ≡ [] → ((record_in after.records name ≡ restored) → A) → A
     well {A} none go = elim ends [ inl is ↦ go is.1 | inr is ↦ absurd (is.0 none) ]
@@ -99,24 +99,24 @@ failing_ended name entries stage call undo left restored forward alone back leav
     ]
 
 -- what a run of stages tells and leaves is one of the lines of their steps
-pub ended_lines : (name : List ℕ) (entries : List Diversion) (steps : List Step) (stages : List Stage) → FitAll name steps stages
+pub ended_lines : (name : List ℕ) (ways : Ways) (steps : List Step) (stages : List Stage) → FitAll name steps stages
     → (o : Option Record) (fell : Option Call) (before after : Holding) (s t : State) (told now : List Called) → record_in before.records name ≡ o
-    → HaveRun name entries stages fell before after s t told now → Ended (lines o steps) name fell after.records told now
-ended_lines name entries [] [] fit o fell before after s t told now found run = inl (record {
+    → HaveRun name ways stages fell before after s t told now → Ended (lines o steps) name fell after.records told now
+ended_lines name ways [] [] fit o fell before after s t told now found run = inl (record {
   ts = [];
   is = record { calls = refl; ends = run.0 };
   tells = run.3 ∙ sym (append-nil told);
   left = ap (λ (h : Holding). record_in h.records name) run.1 ∙ found;
 })
-ended_lines name entries [] (x ∷ xs) fit o fell before after s t told now found run = absurd fit
-ended_lines name entries (p ∷ ps) [] fit o fell before after s t told now found run = absurd fit
-ended_lines name entries (p ∷ ps) (x ∷ xs) (Fits.quiet stage left none leaves, rest) o fell before after s t told now found (inl passed) =
+ended_lines name ways [] (x ∷ xs) fit o fell before after s t told now found run = absurd fit
+ended_lines name ways (p ∷ ps) [] fit o fell before after s t told now found run = absurd fit
+ended_lines name ways (p ∷ ps) (x ∷ xs) (Fits.quiet stage left none leaves, rest) o fell before after s t told now found (inl passed) =
     silent_ended name after.records fell (lines left ps) passed.passed.calls.0 told passed.more now (tried_quiet x.row none passed.passed.calls.0 passed.passed.calls.2.0) passed.passed.calls.2.1
-    (ended_lines name entries ps xs rest left fell (after_parts name x.parts.items before) after passed.mid t passed.more now (leaves before.records) passed.further)
-ended_lines name entries (p ∷ ps) (x ∷ xs) (Fits.quiet stage left none leaves, rest) o fell before after s t told now found (inr f) = absurd (never_fails x.row none f.fell.calls.0 f.fell.calls.2.0)
-ended_lines name entries (p ∷ ps) (x ∷ xs) (Fits.calls stage call undo left restored forward alone back leaves restores, rest) o fell before after s t told now found (inl passed) =
+    (ended_lines name ways ps xs rest left fell (after_parts name x.parts.items before) after passed.mid t passed.more now (leaves before.records) passed.further)
+ended_lines name ways (p ∷ ps) (x ∷ xs) (Fits.quiet stage left none leaves, rest) o fell before after s t told now found (inr f) = absurd (never_fails x.row none f.fell.calls.0 f.fell.calls.2.0)
+ended_lines name ways (p ∷ ps) (x ∷ xs) (Fits.calls stage call undo left restored forward alone back leaves restores, rest) o fell before after s t told now found (inl passed) =
     ended-right (failing call undo left restored) (behind call (lines left ps)) name fell after.records told now
     (behind_ended name after.records fell call (lines left ps) passed.passed.calls.0 told passed.more now (tried x.row call forward alone passed.passed.calls.0 passed.passed.calls.2.0) passed.passed.calls.2.1
-    (ended_lines name entries ps xs rest left fell (after_parts name x.parts.items before) after passed.mid t passed.more now (leaves before.records) passed.further))
-ended_lines name entries (p ∷ ps) (x ∷ xs) (Fits.calls stage call undo left restored forward alone back leaves restores, rest) o fell before after s t told now found (inr f) =
-    ended-left (failing call undo left restored) (behind call (lines left ps)) name fell after.records told now (failing_ended name entries x call undo left restored forward alone back leaves restores fell before after s t told now f)
+    (ended_lines name ways ps xs rest left fell (after_parts name x.parts.items before) after passed.mid t passed.more now (leaves before.records) passed.further))
+ended_lines name ways (p ∷ ps) (x ∷ xs) (Fits.calls stage call undo left restored forward alone back leaves restores, rest) o fell before after s t told now found (inr f) =
+    ended-left (failing call undo left restored) (behind call (lines left ps)) name fell after.records told now (failing_ended name ways x call undo left restored forward alone back leaves restores fell before after s t told now f)

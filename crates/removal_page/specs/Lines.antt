@@ -9,7 +9,7 @@ use Rattle.undo_rows.specs.Transcript.{Tells}
 use Rattle.status_records.specs.declared.record.Record.{Record}
 use Rattle.status_records.specs.Records.{record_in}
 use Rattle.policy_page.specs.Answers.{Answer, answer_of}
-use Rattle.diversions.specs.declared.entry.Diversion.{Diversion}
+use Rattle.diversions.specs.Ways.{Ways}
 use Rattle.unit_stages.specs.Calls.{AreCallsOf}
 use Rattle.unit_stages.specs.Holding.{Holding}
 use Rattle.unit_stages.specs.Runs.{HaveRun}
@@ -41,7 +41,7 @@ pub record HasEnded (line : Line) (name : List ℕ) (failed : Option Call) (reco
   pub tells : Tells ts told now
   pub left : record_in records name ≡ line.end.left
 
-module _ {L : Type 0} (page : L → Line) (name : List ℕ) (entries : List Diversion) (stages : List Stage) where
+module _ {L : Type 0} (page : L → Line) (name : List ℕ) (ways : Ways) (stages : List Stage) where
   -- It is the page of the unit of these stages.
   pub record IsPage : Type 0 where
     -- whatever may be called is one of its lines
@@ -53,4 +53,4 @@ module _ {L : Type 0} (page : L → Line) (name : List ℕ) (entries : List Dive
         → map (λ t. is_success t.outcome) ts ≡ map (λ a. a.succeeds) (page l).calls → IsLine (page l) failed ts
     -- a run tells a line, and leaves the package's record as it says
     pub run : (failed : Option Call) (before after : Holding) (old new : State) (told now : List Called)
-        → HaveRun name entries stages failed before after old new told now → (l : L) × HasEnded (page l) name failed after.records told now
+        → HaveRun name ways stages failed before after old new told now → (l : L) × HasEnded (page l) name failed after.records told now

@@ -14,7 +14,7 @@ use Rattle.host_core.specs.declared.node.Node.{Node}
 use Rattle.administration.specs.Places.{script_path}
 use Rattle.control_members.specs.Stored.{goes, is_among}
 use Rattle.control_members.proofs.MemberNames.{script_is_member}
-use Rattle.diversions.specs.declared.entry.Diversion.{Diversion}
+use Rattle.diversions.specs.Ways.{Ways}
 use Rattle.file_lists.specs.Owners.{paths_of}
 use Rattle.file_lists.specs.declared.paths.PackageList.{PackageList}
 use Rattle.list_changes.specs.Leaving.{leaving_of}
@@ -152,16 +152,16 @@ module _ (name : List ℕ) (s : Script) where
   leaves_up_to call (stage ∷ front) b rest is safe =
       (safe.0 (inr (as_planned (front ++ b ∷ rest) call (among_back front (b ∷ rest) call is))), leaves_up_to call front b rest is safe.1)
 
-  module _ (entries : List Diversion) (h : Holding) (old now : World) (so_far : List Event) where
-    first_alone : (b : Stage) (rest : List Stage) (at : Holding) (reached : World) (since : List Event) (table : List Record) → IsInNext name entries (b ∷ rest) at reached since now table
-        → IsInNext name entries (b ∷ []) at reached since now table
+  module _ (ways : Ways) (h : Holding) (old now : World) (so_far : List Event) where
+    first_alone : (b : Stage) (rest : List Stage) (at : Holding) (reached : World) (since : List Event) (table : List Record) → IsInNext name ways (b ∷ rest) at reached since now table
+        → IsInNext name ways (b ∷ []) at reached since now table
     first_alone b rest at reached since table (IsInNext.between none same is) = IsInNext.between none same is
     first_alone b rest at reached since table (IsInNext.inside stage others are amid) =
         let same : b ≡ stage = cc are in
-        IsInNext.inside b [] refl (subst (λ (x : Stage). IsInStage name entries x at reached since now table) (sym same) amid)
+        IsInNext.inside b [] refl (subst (λ (x : Stage). IsInStage name ways x at reached since now table) (sym same) amid)
 
     -- a run up to the first stage that isn't past
-    up_to : (stages : List Stage) (running : AreRunning name entries stages h old so_far now) (b : Stage) (rest : List Stage) → running.back ≡ b ∷ rest → AreRunning name entries (running.front ++ b ∷ []) h old so_far now
+    up_to : (stages : List Stage) (running : AreRunning name ways stages h old so_far now) (b : Stage) (rest : List Stage) → running.back ≡ b ∷ rest → AreRunning name ways (running.front ++ b ∷ []) h old so_far now
     up_to stages running b rest is = record {
       front = running.front;
       back = b ∷ [];
@@ -173,11 +173,11 @@ module _ (name : List ℕ) (s : Script) where
       past = running.past;
       table = running.table;
       next = first_alone b rest (after_stages name running.front h) running.reached running.since running.table
-          (subst (λ (l : List Stage). IsInNext name entries l (after_stages name running.front h) running.reached running.since now running.table) is running.next);
+          (subst (λ (l : List Stage). IsInNext name ways l (after_stages name running.front h) running.reached running.since now running.table) is running.next);
       opens = running.opens;
     }
 
-    pub running_same : (call : Call) (stages : List Stage) (running : AreRunning name entries stages h old so_far now) → AreSafe call (map planned stages) → IsCallAmong running.back call → now q ≡ old q
+    pub running_same : (call : Call) (stages : List Stage) (running : AreRunning name ways stages h old so_far now) → AreSafe call (map planned stages) → IsCallAmong running.back call → now q ≡ old q
     running_same call stages running safe is = by running.back refl is
       where
         by : (back : List Stage) → running.back ≡ back → IsCallAmong back call → now q ≡ old q
@@ -188,12 +188,12 @@ module _ (name : List ℕ) (s : Script) where
             stages_same (IsDeniedIn so_far) (map planned whole) h.records old (changes_of so_far) now
             (leaves_up_to call running.front b rest among
             (subst (λ (l : List Stage). AreSafe call (map planned l)) (running.are ∙ ap (λ (l : List Stage). running.front ++ l) are) safe))
-            (stages_amid name (IsDeniedIn so_far) entries whole h old so_far now (λ p is. is) here)
-            ∙ changed_kept is_own (changes_of so_far) old (own_avoided name entries whole h old so_far now here) q refl
+            (stages_amid name (IsDeniedIn so_far) ways whole h old so_far now (λ p is. is) here)
+            ∙ changed_kept is_own (changes_of so_far) old (own_avoided name ways whole h old so_far now here) q refl
 
 -- the stages of a removal
 
-module _ (entries : List Diversion) (lists : List PackageList) (r : Record) (stored : Stored) (w : World) (seen : AreStored r.name w stored) (call : Call) where
+module _ (ways : Ways) (lists : List PackageList) (r : Record) (stored : Stored) (w : World) (seen : AreStored r.name w stored) (call : Call) where
   abbrev LeftAlone : Deed → Type 0
   LeftAlone = Leaves r.name call.script
 
@@ -224,9 +224,9 @@ module _ (entries : List Diversion) (lists : List PackageList) (r : Record) (sto
   listed_off : (paths : List Path) → LeftAlone (Deed.Lists paths)
   listed_off paths = inl ((member_is_no_list r.name (script_name call.script) r.name (script_is_member call.script)).1, off_list)
 
-  no_leaving : (to_stay listed : List Path) (c : Record) → is_leaving_place (leaving_of entries lists c.name to_stay (entry_paths c.conffiles) listed) place ≡ true → ⊥
+  no_leaving : (to_stay listed : List Path) (c : Record) → is_leaving_place (leaving_of ways lists c.name to_stay (entry_paths c.conffiles) listed) place ≡ true → ⊥
   no_leaving to_stay listed c is =
-      true≢false (sym is ∙ no_leaving_place (leaving_of entries lists c.name to_stay (entry_paths c.conffiles) listed) place (leaving_spares entries lists c.name to_stay (entry_paths c.conffiles) listed) (member_within r.name (script_name call.script)))
+      true≢false (sym is ∙ no_leaving_place (leaving_of ways lists c.name to_stay (entry_paths c.conffiles) listed) place (leaving_spares ways lists c.name to_stay (entry_paths c.conffiles) listed) (member_within r.name (script_name call.script)))
 
   no_name : (names : List Path) → AreElsewhere names → LeftAlone (Deed.Clears names)
   no_name names elsewhere = inl (λ is. true≢false (sym is ∙ elsewhere place (member_within r.name (script_name call.script))))
@@ -265,18 +265,18 @@ module _ (entries : List Diversion) (lists : List PackageList) (r : Record) (sto
   module _ (c : Record) (listed : List Path) where
     -- the stages of a purge, of a package of this name
     abbrev first_of : List ℕ → Planned
-    first_of n = stage_of (Deed.Notes (purged c) ∷ Deed.Clears (purged_names entries lists c) ∷ []) (purge_row n stored)
+    first_of n = stage_of (Deed.Notes (purged c) ∷ Deed.Clears (purged_names ways lists c) ∷ []) (purge_row n stored)
 
     abbrev last_of : List ℕ → Planned
-    last_of n = stage_of (Deed.RemovesDirectories (leaving_directories entries lists c listed) ∷ Deed.Lists [] ∷ Deed.DropsList ∷ Deed.DropsMembers false ∷ Deed.Forgets ∷ []) (quiet_row n)
+    last_of n = stage_of (Deed.RemovesDirectories (leaving_directories ways lists c listed) ∷ Deed.Lists [] ∷ Deed.DropsList ∷ Deed.DropsMembers false ∷ Deed.Forgets ∷ []) (quiet_row n)
 
-    purge_good : c.name ≡ r.name → AreGood (purge_stages entries lists c stored listed)
+    purge_good : c.name ≡ r.name → AreGood (purge_stages ways lists c stored listed)
     purge_good named = subst (λ (n : List ℕ). AreGood (first_of n ∷ last_of n ∷ [])) (sym named)
         (good (first_of r.name) (last_of r.name ∷ []) (λ is. (purge_calls is).0)
-        (λ is. ((noted (purged c), (no_name (purged_names entries lists c) (purged_elsewhere entries lists c), tt)), tt))
+        (λ is. ((noted (purged c), (no_name (purged_names ways lists c) (purged_elsewhere ways lists c), tt)), tt))
         (good (last_of r.name) [] silent last_call good_none))
 
-  purge_only : (c : Record) (listed : List Path) → c.name ≡ r.name → IsCallIn (purge_stages entries lists c stored listed) call → call.script ≡ script.Postrm
+  purge_only : (c : Record) (listed : List Path) → c.name ≡ r.name → IsCallIn (purge_stages ways lists c stored listed) call → call.script ≡ script.Postrm
   purge_only c listed named (inl is) = (purge_calls (subst (λ (n : List ℕ). IsCallOf (purge_row n stored) call) named is)).1
   purge_only c listed named (inr (inl is)) = silent (subst (λ (n : List ℕ). IsCallOf (quiet_row n) call) named is)
   purge_only c listed named (inr (inr none)) = absurd none
@@ -289,25 +289,25 @@ module _ (entries : List Diversion) (lists : List PackageList) (r : Record) (sto
         later (inl here) = silent here
         later (inr among) = postrm among
 
-    behind_good : (purge : Bool) → AreGood (left_stage r ∷ cond purge (purge_stages entries lists (config_files r) stored to_come) [])
-    behind_good true = left_good (purge_stages entries lists (config_files r) stored to_come) (purge_only (config_files r) to_come refl) (purge_good (config_files r) to_come refl)
+    behind_good : (purge : Bool) → AreGood (left_stage r ∷ cond purge (purge_stages ways lists (config_files r) stored to_come) [])
+    behind_good true = left_good (purge_stages ways lists (config_files r) stored to_come) (purge_only (config_files r) to_come refl) (purge_good (config_files r) to_come refl)
     behind_good false = left_good [] (λ none. absurd none) good_none
 
-    ends_good : (at_once purge : Bool) → AreGood (cond at_once (gone_stage r ∷ []) (left_stage r ∷ cond purge (purge_stages entries lists (config_files r) stored to_come) []))
+    ends_good : (at_once purge : Bool) → AreGood (cond at_once (gone_stage r ∷ []) (left_stage r ∷ cond purge (purge_stages ways lists (config_files r) stored to_come) []))
     ends_good true purge = good (gone_stage r) [] silent last_call good_none
     ends_good false purge = behind_good purge
 
-    files_good : (purge : Bool) → AreGood (files_stages entries lists r stored purge to_come)
+    files_good : (purge : Bool) → AreGood (files_stages ways lists r stored purge to_come)
     files_good purge =
-        good (files_stage entries lists r stored to_come) _ postrm_calls
+        good (files_stage ways lists r stored to_come) _ postrm_calls
         (λ is. (
           (
             noted (losing_files r),
             (
-              no_name (waiting_names entries r.name r.pending) (waiting_elsewhere entries r.name r.pending),
+              no_name (waiting_names ways r.name r.pending) (waiting_elsewhere ways r.name r.pending),
               (
                 inl (λ is. absurd (no_leaving to_come (paths_of lists r.name) r is)),
-                (no_name (cleared_names entries lists r) (cleared_elsewhere entries lists r), (listed_off to_come, (noted (without_files r), tt))),
+                (no_name (cleared_names ways lists r) (cleared_elsewhere ways lists r), (listed_off to_come, (noted (without_files r), tt))),
               ),
             ),
           ),
@@ -318,15 +318,15 @@ module _ (entries : List Diversion) (lists : List PackageList) (r : Record) (sto
     prerm_good : (rest : List Planned) → AreGood rest → AreGood (prerm_stage r stored ∷ rest)
     prerm_good rest is = good (prerm_stage r stored) rest prerm_calls (λ among. ((noted (half_configured r), tt), (noted r, tt))) is
 
-    from_good : (s : State) (purge : Bool) → AreGood (stages_from entries lists s r stored purge to_come)
+    from_good : (s : State) (purge : Bool) → AreGood (stages_from ways lists s r stored purge to_come)
     from_good state.NotInstalled purge = files_good purge
     from_good state.ConfigFiles purge = purge_good r (paths_of lists r.name) refl
     from_good state.HalfInstalled purge = files_good purge
     from_good state.Unpacked purge = files_good purge
-    from_good state.HalfConfigured purge = prerm_good (files_stages entries lists r stored purge to_come) (files_good purge)
-    from_good state.Installed purge = prerm_good (files_stages entries lists r stored purge to_come) (files_good purge)
+    from_good state.HalfConfigured purge = prerm_good (files_stages ways lists r stored purge to_come) (files_good purge)
+    from_good state.Installed purge = prerm_good (files_stages ways lists r stored purge to_come) (files_good purge)
 
-    pub removal_good : (extent : Extent) → AreGood (removal_stages entries lists extent r stored to_come)
+    pub removal_good : (extent : Extent) → AreGood (removal_stages ways lists extent r stored to_come)
     removal_good Remove = from_good r.state false
     removal_good Purge = from_good r.state true
     removal_good InFavour = files_good false
@@ -338,7 +338,7 @@ good_plan : (g : Given) (w : World) (stages : List Stage) (plan : IsPlanOf g w t
 good_plan g w stages plan call =
     let r = plan.entry in
     subst (λ (ps : List Planned). (IsCallIn ps call → CallsStored r.name w call) × AreSafe r.name call.script call ps) (sym plan.plan.are)
-    (removal_good g.entries g.before.lists r plan.plan.stored w (plan.plan.seen refl) call plan.plan.to_come g.extent)
+    (removal_good g.ways g.before.lists r plan.plan.stored w (plan.plan.seen refl) call plan.plan.to_come g.extent)
 
 pub removal_calls_stored : (g : Given) (w : World) (stages : List Stage) → IsPlanOf g w true stages → (call : Call) → IsCallAmong stages call → CallsStored g.name w call
 removal_calls_stored g w stages plan call is =
@@ -349,7 +349,7 @@ removal_files_same g old now so_far amid call is =
     let named = is_named g.before.records g.name amid.plan.entry amid.plan.found in
     let among = subst (λ (l : List Stage). IsCallAmong l call) (sym amid.running.are) (among_back amid.running.front amid.running.back call is) in
     subst (λ (p : Path). now p ≡ old p) (sym (removal_calls_stored g old amid.stages amid.plan call among).at)
-    (running_same g.name call.script g.entries g.before old now so_far call amid.stages amid.running
+    (running_same g.name call.script g.ways g.before old now so_far call amid.stages amid.running
     (subst (λ (n : List ℕ). AreSafe n call.script call (map planned amid.stages)) named (good_plan g old amid.stages amid.plan call).1) is)
 
 pub configure_files_same : (g : Configuring) (old now : World) (so_far : List Event) (amid : IsAmidConfiguring g old so_far now) (call : Call) → IsCallAmong amid.stages call → now call.at ≡ old call.at

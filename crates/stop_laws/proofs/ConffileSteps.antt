@@ -1,6 +1,6 @@
 -- How far configuring is at each moment, conffile by conffile.
 use Rattle.std.proofs.Common.{◌≡◌, ◌⊎◌, inl, inr, ℕ, zero, suc, false, List, [], ◌∷◌, ◌++◌, Option, Some, Contains, refl, sym, ap, subst, ◌∙◌, arith}
-use Rattle.std.specs.List.{All, list_any}
+use Rattle.std.specs.List.{AllZip, list_any}
 use Rattle.std.proofs.lemmas.Bool.{false_from_ne_true}
 use Rattle.std.proofs.lemmas.List.Elements.{All-contains, Contains-append_cases, Contains-append_right}
 use Rattle.host_core.specs.Paths.{Path, is_below_administration}
@@ -13,6 +13,7 @@ use Rattle.conffiles.specs.Settling.{AreSettled, AreSettling, ConffileFiles, Has
 use Rattle.conffiles.specs.declared.decisions.ConfPolicy.{ConfPolicy}
 use Rattle.conffiles.specs.declared.decisions.Decision.{Decision}
 use Rattle.conffiles.specs.declared.entries.Settled.{Settled}
+use Rattle.diversions.specs.Ways.{Ways}
 use Rattle.file_lists.specs.Owners.{paths_of}
 use Rattle.status_records.specs.Conffiles.{recorded_digest}
 use Rattle.status_db.specs.Held.{HasRecords}
@@ -25,11 +26,12 @@ use Rattle.undo_rows.specs.declared.rows.Row.{Row}
 use Rattle.removal_engine.specs.Stages.{Deed}
 use Rattle.removal_engine.proofs.Deeds.{deeds_records}
 use Rattle.removal_engine.proofs.Tables.{one_record, put_own}
-use Rattle.configure_engine.specs.Decided.{IsDecidedOf, decided_paths}
+use Rattle.configure_engine.specs.Decided.{AreDecided, IsDecidedOf, decided_paths}
 use Rattle.configure_engine.specs.Settled.{settled}
 use Rattle.configure_engine.specs.Stages.{half}
 use Rattle.configure_engine.specs.Units.{Given, IsAmid, IsAmidUnit}
-use Rattle.configure_engine.specs.Waiting.{going_paths, pending_digest, settling_paths}
+use Rattle.configure_engine.specs.Waiting.{going_paths, pending_digest, place_of, settling_paths, settling_places}
+use Rattle.configure_engine.proofs.NothingSettled.{no_paths}
 use Rattle.stop_laws.specs.Configuring.{AreOthersSame, IsAtStep, IsConffileAmid, IsConffileSettled, IsHalfRecord, IsScriptedElsewhere, IsSettledRecord, IsWaitingRecord, is_settling_name}
 use Rattle.stop_laws.specs.Left.{IsRecorded}
 use Rattle.stop_laws.proofs.ConfigureStages.{first_deeds, last_deeds, names_of_decided, stage_with, then_all, then_deeds}
@@ -49,12 +51,14 @@ IsSameElsewhere v w = IsScriptedElsewhere [] v w
 
 -- what is decided of a path
 
-decided_at : (list : List Settled) (x : Path) → Contains (decided_paths list) x → (e : Settled) × Contains list e × (e.path ≡ x)
-decided_at [] x has = absurd (omega (arith, has.1))
-decided_at (e ∷ es) x (zero, lt, is) = (e, (zero, omega arith, refl), is)
-decided_at (e ∷ es) x (suc k, lt, is) =
-    let more = decided_at es x (k, omega (arith, lt), is) in
-    (more.0, Contains-append_right (e ∷ []) es more.0 more.1, more.2)
+module _ (r : Record) (policy : ConfPolicy) (ways : Ways) (old : World) where
+  decided_at : (paths : List Path) (list : List Settled) (x : Path) → AllZip (IsDecidedOf r policy ways old) paths list → Contains paths x → (e : Settled) × Contains list e × IsDecidedOf r policy ways old x e
+  decided_at [] list x each has = absurd (omega (arith, has.1))
+  decided_at (p ∷ ps) [] x each has = absurd each
+  decided_at (p ∷ ps) (e ∷ es) x each (zero, lt, is) = (e, (zero, omega arith, refl), subst (λ (q : Path). IsDecidedOf r policy ways old q e) is each.0)
+  decided_at (p ∷ ps) (e ∷ es) x each (suc k, lt, is) =
+      let more = decided_at ps es x each.1 (k, omega (arith, lt), is) in
+      (more.0, Contains-append_right (e ∷ []) es more.0 more.1, more.2)
 
 -- the files of a conffile, where nothing but the administration is changed
 same_files : (e : Settled) (v w : World) → IsSameElsewhere v w → files_at w e.path ≡ files_at v e.path
@@ -84,52 +88,57 @@ settling_between list v w settling e has = elim (Contains-append_cases settling.
     first (b ∷ bs) next (zero, lt, is) = subst (λ (x : Settled). IsBetween (files_at v x.path) (settled_files x.decision (files_at v x.path)) (files_at w x.path)) is next.0.files
     first (b ∷ bs) next (suc k, lt, is) = inl (All-contains (IsUntouched v w) bs e next.1 (k, omega (arith, lt), is)).files
 
-module _ (g : Given) (r : Record) (own_named : r.name ≡ g.name) (old : World) (decisions : List Settled) (paths : decided_paths decisions ≡ settling_paths r) (each : All (IsDecidedOf r g.policy old) decisions) (declined : Path → Type 0) where
+module _ (g : Given) (r : Record) (own_named : r.name ≡ g.name) (old : World) (decisions : List Settled) (paths : decided_paths decisions ≡ settling_places g.ways r) (each : AreDecided r g.policy g.ways old decisions) (declined : Path → Type 0) where
   -- of each path that is to be settled, by what is decided of it
-  by_decided : (P : Path → Type 0) → ((e : Settled) → Contains decisions e → P e.path) → (x : Path) → Contains (settling_paths r) x → P x
+  by_decided : (P : Path → Type 0) → ((x : Path) (e : Settled) → Contains decisions e → IsDecidedOf r g.policy g.ways old x e → P x) → (x : Path) → Contains (settling_paths g.ways r) x → P x
   by_decided P all x has =
-      let one = decided_at decisions x (subst (λ (l : List Path). Contains l x) (sym paths) has) in
-      subst P one.2 (all one.0 one.1)
+      let one = decided_at r g.policy g.ways old (settling_paths g.ways r) decisions x each has in
+      all x one.0 one.1 one.2
 
-  decided_so : (e : Settled) → Contains decisions e → IsDecided (recorded_digest r.conffiles e.path) (pending_digest r.pending e.path) g.policy (files_at old e.path) e.decision
-  decided_so e has = All-contains (IsDecidedOf r g.policy old) decisions e each has
+  decided_so : (x : Path) (e : Settled) → IsDecidedOf r g.policy g.ways old x e → IsDecided (recorded_digest r.conffiles x) (pending_digest r.pending x) g.policy (files_at old (place_of g.ways x)) e.decision
+  decided_so x e is = subst (λ (p : Path). IsDecided (recorded_digest r.conffiles x) (pending_digest r.pending x) g.policy (files_at old p) e.decision) is.place is.decided
+
+  amid_so : (now : World) (x : Path) (e : Settled) → IsDecidedOf r g.policy g.ways old x e → IsBetween (files_at old e.path) (settled_files e.decision (files_at old e.path)) (files_at now e.path) → IsConffileAmid g r old now x
+  amid_so now x e is between = record {
+    decision = e.decision;
+    decided = decided_so x e is;
+    between = subst (λ (p : Path). IsBetween (files_at old p) (settled_files e.decision (files_at old p)) (files_at now p)) is.place between;
+  }
 
   abbrev EachAmid : World → Type 0
-  EachAmid now = (x : Path) → Contains (settling_paths r) x → IsConffileAmid g r old now x
+  EachAmid now = (x : Path) → Contains (settling_paths g.ways r) x → IsConffileAmid g r old now x
 
   abbrev EachSettled : World → Type 0
-  EachSettled done = (x : Path) → Contains (settling_paths r) x → IsConffileSettled g r old done x
+  EachSettled done = (x : Path) → Contains (settling_paths g.ways r) x → IsConffileSettled g r old done x
 
   untouched_each : (now : World) → IsSameElsewhere old now → EachAmid now
-  untouched_each now same = by_decided (IsConffileAmid g r old now) (λ e has. record { decision = e.decision; decided = decided_so e has; between = inl (same_files e old now same) })
+  untouched_each now same = by_decided (IsConffileAmid g r old now) (λ x e has is. amid_so now x e is (inl (same_files e old now same)))
 
   settling_each : (mid now : World) → IsSameElsewhere old mid → AreSettling decisions mid now → EachAmid now
-  settling_each mid now same settling = by_decided (IsConffileAmid g r old now) (λ e has. record {
-    decision = e.decision;
-    decided = decided_so e has;
-    between = subst (λ (f : ConffileFiles). IsBetween f (settled_files e.decision f) (files_at now e.path)) (same_files e old mid same) (settling_between decisions mid now settling e has);
-  })
+  settling_each mid now same settling = by_decided (IsConffileAmid g r old now)
+      (λ x e has is. amid_so now x e is (subst (λ (f : ConffileFiles). IsBetween f (settled_files e.decision f) (files_at now e.path)) (same_files e old mid same) (settling_between decisions mid now settling e has)))
 
   settled_files_at : (mid done : World) → IsSameElsewhere old mid → AreSettled decisions mid done → (e : Settled) → Contains decisions e → files_at done e.path ≡ settled_files e.decision (files_at old e.path)
   settled_files_at mid done same all e has = (All-contains (HasSettled mid done) decisions e all.each has).files ∙ ap (settled_files e.decision) (same_files e old mid same)
 
   settled_each : (mid done : World) → IsSameElsewhere old mid → AreSettled decisions mid done → EachSettled done
-  settled_each mid done same all = by_decided (IsConffileSettled g r old done) (λ e has. record { decision = e.decision; decided = decided_so e has; files = settled_files_at mid done same all e has })
-
-  behind_each : (mid done now : World) → IsSameElsewhere old mid → AreSettled decisions mid done → IsSameElsewhere done now → EachAmid now
-  behind_each mid done now same all since = by_decided (IsConffileAmid g r old now) (λ e has. record {
+  settled_each mid done same all = by_decided (IsConffileSettled g r old done) (λ x e has is. record {
     decision = e.decision;
-    decided = decided_so e has;
-    between = inr (inr (inr (same_files e done now since ∙ settled_files_at mid done same all e has)));
+    decided = decided_so x e is;
+    files = subst (λ (p : Path). files_at done p ≡ settled_files e.decision (files_at old p)) is.place (settled_files_at mid done same all e has);
   })
 
-  no_name : (q : Path) → is_settling_name r q ≡ false → is_name_of_some decisions q ≡ false
+  behind_each : (mid done now : World) → IsSameElsewhere old mid → AreSettled decisions mid done → IsSameElsewhere done now → EachAmid now
+  behind_each mid done now same all since =
+      by_decided (IsConffileAmid g r old now) (λ x e has is. amid_so now x e is (inr (inr (inr (same_files e done now since ∙ settled_files_at mid done same all e has)))))
+
+  no_name : (q : Path) → is_settling_name g.ways r q ≡ false → is_name_of_some decisions q ≡ false
   no_name q none = names_of_decided decisions q ∙ ap (λ (l : List Path). list_any (λ x. is_conffile_name x q) l) paths ∙ none
 
-  others_settling : (mid now : World) → IsSameElsewhere old mid → AreSettling decisions mid now → AreOthersSame r old now
+  others_settling : (mid now : World) → IsSameElsewhere old mid → AreSettling decisions mid now → AreOthersSame g.ways r old now
   others_settling mid now same settling q out none = settling.rest q (no_name q none) ∙ same q out
 
-  others_settled : (mid done : World) → IsSameElsewhere old mid → AreSettled decisions mid done → AreOthersSame r old done
+  others_settled : (mid done : World) → IsSameElsewhere old mid → AreSettled decisions mid done → AreOthersSame g.ways r old done
   others_settled mid done same has q out none = has.rest q (no_name q none) ∙ same q out
 
   -- records
@@ -147,7 +156,7 @@ module _ (g : Given) (r : Record) (own_named : r.name ≡ g.name) (old : World) 
     own_halved : IsHalfRecord r (record_in halved g.name)
     own_halved = put_own (half r) rs g.name own_named
 
-    own_settled : IsSettledRecord r (record_in (put_record (half (settled r)) halved) g.name)
+    own_settled : IsSettledRecord g.ways r (record_in (put_record (half (settled r)) halved) g.name)
     own_settled = IsSettledRecord.settled_half (put_own (half (settled r)) halved g.name own_named)
 
     abbrev AtStep : Change → World → Type 0
@@ -202,7 +211,7 @@ module _ (g : Given) (r : Record) (own_named : r.name ≡ g.name) (old : World) 
         let since = then_same behind.mid now behind.further in
         elim (then_records (paths_of g.before.lists g.name) (going_paths r) behind.mid now behind.further) [
           | inl before ↦ IsAtStep.settling refl (recorded_by (IsHalfRecord r) halved now before own_halved) (behind_each mid behind.mid now same behind.done since) (λ q out none. since q out ∙ others_settled mid behind.mid same behind.done q out none)
-          | inr after ↦ IsAtStep.settled_then (recorded_by (IsSettledRecord r) (put_record (half (settled r)) halved) now after own_settled) behind.mid (settled_each mid behind.mid same behind.done) (others_settled mid behind.mid same behind.done) since
+          | inr after ↦ IsAtStep.settled_then (recorded_by (IsSettledRecord g.ways r) (put_record (half (settled r)) halved) now after own_settled) behind.mid (settled_each mid behind.mid same behind.done) (others_settled mid behind.mid same behind.done) since
         ]
 
     first_amid : (list : List Settled) → list ≡ decisions → (now : World) → Amid g.name declined (first_deeds r (paths_of g.before.lists g.name) list) rs old now → AtStep [] now
@@ -216,12 +225,15 @@ module _ (g : Given) (r : Record) (own_named : r.name ≡ g.name) (old : World) 
     record IsReady (table : List Record) (ready : World) : Type 0 where
       done : World
       all : EachSettled done
-      others : AreOthersSame r old done
+      others : AreOthersSame g.ways r old done
       since : IsSameElsewhere done ready
-      own : IsSettledRecord r (record_in table g.name)
+      own : IsSettledRecord g.ways r (record_in table g.name)
 
-    none_in : {X : Type 0} (x : Path) → [] ≡ decisions → Contains (settling_paths r) x → X
-    none_in x is has = let none = subst (λ (l : List Path). Contains l x) (sym (ap decided_paths is ∙ paths)) has in absurd (omega (arith, none.1))
+    none_in : {X : Type 0} (x : Path) → [] ≡ decisions → Contains (settling_paths g.ways r) x → X
+    none_in x is has =
+        let one = decided_at r g.policy g.ways old (settling_paths g.ways r) decisions x each has in
+        let none = subst (λ (l : List Settled). Contains l one.0) (sym is) one.1 in
+        absurd (omega (arith, none.1))
 
     first_done : (list : List Settled) → list ≡ decisions → (ready : World) → AllDone g.name declined (first_deeds r (paths_of g.before.lists g.name) list) rs old ready → IsReady (deeds_records g.name (first_deeds r (paths_of g.before.lists g.name) list) rs) ready
     first_done [] is ready done = record {
@@ -229,7 +241,7 @@ module _ (g : Given) (r : Record) (own_named : r.name ≡ g.name) (old : World) 
       all = λ x has. none_in x is has;
       others = λ q out none. ap (λ (w : World). w q) done.2 ∙ done.1.rest q (elsewhere_unnoted q out);
       since = λ q out. refl;
-      own = IsSettledRecord.nothing (sym paths ∙ sym (ap decided_paths is)) own_halved;
+      own = IsSettledRecord.nothing (no_paths g.ways r (sym paths ∙ sym (ap decided_paths is))) own_halved;
     }
     first_done (e ∷ es) is ready done =
         let same = noted_same (half r) rs old done.0 done.1 in
@@ -239,23 +251,23 @@ module _ (g : Given) (r : Record) (own_named : r.name ≡ g.name) (old : World) 
           all = settled_each done.0 done.2.0 same settles;
           others = others_settled done.0 done.2.0 same settles;
           since = done_same done.2.0 ready done.2.2;
-          own = subst (λ (l : List Record). IsSettledRecord r (record_in l g.name)) (sym (then_table (paths_of g.before.lists g.name) (going_paths r))) own_settled;
+          own = subst (λ (l : List Record). IsSettledRecord g.ways r (record_in l g.name)) (sym (then_table (paths_of g.before.lists g.name) (going_paths r))) own_settled;
         }
 
     abbrev first_table : List Record
     first_table = deeds_records g.name (first_deeds r (paths_of g.before.lists g.name) decisions) rs
 
-    ready_step : (ready now : World) (change : Change) → IsReady first_table ready → IsRecorded g.name (IsSettledRecord r) now → IsScriptedElsewhere change ready now → AtStep change now
+    ready_step : (ready now : World) (change : Change) → IsReady first_table ready → IsRecorded g.name (IsSettledRecord g.ways r) now → IsScriptedElsewhere change ready now → AtStep change now
     ready_step ready now change is recorded then = IsAtStep.settled_then recorded is.done is.all is.others (elsewhere_then [] change is.done ready now is.since then)
 
     inside_step : (row : Row) (change : Change) (now : World) → IsInside g.name declined (stage_with (first_deeds r (paths_of g.before.lists g.name) decisions) row) rs old change now → AtStep change now
     inside_step row change now (IsInside.in_parts none amid) = subst (λ (c : Change). AtStep c now) (sym none) (first_amid decisions refl now amid)
     inside_step row change now (IsInside.in_calls ready done (IsCalled.on_calls same has)) =
         let is = first_done decisions refl ready done in
-        ready_step ready now change is (recorded_by (IsSettledRecord r) first_table now has is.own) (λ q out. ap (λ (w : World). w q) same)
+        ready_step ready now change is (recorded_by (IsSettledRecord g.ways r) first_table now has is.own) (λ q out. ap (λ (w : World). w q) same)
     inside_step row change now (IsInside.in_calls ready done (IsCalled.on_restore called same over)) =
         let is = first_done decisions refl ready done in
-        ready_step ready now change is (recorded_by (IsSettledRecord r) first_table now over.records is.own) (λ q out. ap (λ (w : World). w q) (over.same ∙ same))
+        ready_step ready now change is (recorded_by (IsSettledRecord g.ways r) first_table now over.records is.own) (λ q out. ap (λ (w : World). w q) (over.same ∙ same))
 
     -- behind the call
     last_same : (row : Row) (table : List Record) (start : World) (late : Change) (now : World) → AmidStages g.name declined (stage_with (last_deeds r) row ∷ []) table start late now → IsScriptedElsewhere late start now
@@ -272,7 +284,7 @@ module _ (g : Given) (r : Record) (own_named : r.name ≡ g.name) (old : World) 
     stages_step first second change now (inr (inl inside)) = inside_step first change now inside
     stages_step first second change now (inr (inr passed)) =
         let is = first_done decisions refl passed.ready passed.done in
-        let standing = stages_good g.name first_table (IsSettledRecord r) declined (stage_with (last_deeds r) second ∷ []) first_table (changed passed.early passed.ready) passed.late now ((((own_named, IsSettledRecord.installed refl), tt), tt), tt) (record { own = is.own; others = λ q other. refl }) passed.further in
+        let standing = stages_good g.name first_table (IsSettledRecord g.ways r) declined (stage_with (last_deeds r) second ∷ []) first_table (changed passed.early passed.ready) passed.late now ((((own_named, IsSettledRecord.installed refl), tt), tt), tt) (record { own = is.own; others = λ q other. refl }) passed.further in
         ready_step passed.ready now change is
         (record { table = standing.table; records = standing.records; own = standing.good.own })
         (subst (λ (c : Change). IsScriptedElsewhere c passed.ready now) (sym passed.changes)
@@ -287,22 +299,24 @@ module _ (g : Given) (r : Record) (own_named : r.name ≡ g.name) (old : World) 
       record {
         decision = one.decision;
         decided = one.decided;
-        between = inr (inr (inr (by_decided (λ (p : Path). files_at now p ≡ files_at done p) (λ e there. same_files e done now since) x has ∙ one.files)));
+        between = inr (inr (inr (by_decided (λ (y : Path). files_at now (place_of g.ways y) ≡ files_at done (place_of g.ways y))
+            (λ y e there is. subst (λ (p : Path). files_at now p ≡ files_at done p) is.place (same_files e done now since)) x has
+            ∙ one.files)));
       }
 
 -- at each moment of a unit
 
 module _ (g : Given) (r : Record) (found : record_in g.before.records g.name ≡ Some r) (old now : World) (so_far : List Event) where
   module _ (amid : IsAmid g old so_far now) where
-    each_decided : All (IsDecidedOf r g.policy old) (decisions_then g r found old now so_far amid)
-    each_decided = subst (λ (e : Record). All (IsDecidedOf e g.policy old) amid.plan.plan.decisions) (one_record amid.plan.entry r (sym amid.plan.found ∙ found)) (amid.plan.plan.decided refl).each
+    each_decided : AreDecided r g.policy g.ways old (decisions_then g r found old now so_far amid)
+    each_decided = subst (λ (e : Record). AreDecided e g.policy g.ways old amid.plan.plan.decisions) (one_record amid.plan.entry r (sym amid.plan.found ∙ found)) (amid.plan.plan.decided refl)
 
     step_amid : IsAtStep g r old (changes_of so_far) now
     step_amid =
         stages_step g r (named g r found) old (decisions_then g r found old now so_far amid) (paths_then g r found old now so_far amid) each_decided (IsDeniedIn so_far) g.before.records found
         amid.plan.plan.stages_are.first.row amid.plan.plan.stages_are.second.row (changes_of so_far) now (amid_at g r found old now so_far amid)
 
-    conffiles_amid : changes_of so_far ≡ [] → (x : Path) → Contains (settling_paths r) x → IsConffileAmid g r old now x
+    conffiles_amid : changes_of so_far ≡ [] → (x : Path) → Contains (settling_paths g.ways r) x → IsConffileAmid g r old now x
     conffiles_amid none =
         each_amid g r (named g r found) old (decisions_then g r found old now so_far amid) (paths_then g r found old now so_far amid) each_decided (IsDeniedIn so_far) now (subst (λ (c : Change). IsAtStep g r old c now) none step_amid)
 
@@ -318,11 +332,11 @@ module _ (g : Given) (r : Record) (found : record_in g.before.records g.name ≡
   EndsAlike = (recorded shipped : Option (List ℕ)) (policy : ConfPolicy) (before files : ConffileFiles) (first again : Decision) → IsShippedAs shipped before → IsDecided recorded shipped policy before first → IsBetween before (settled_files first before) files
       → IsDecided recorded shipped policy files again → settled_files again files ≡ settled_files first before
 
-  pub configure_again : EndsAlike → (x : Path) (first again : Decision) → changes_of so_far ≡ [] → Contains (settling_paths r) x → IsShippedAs (pending_digest r.pending x) (files_at old x) → IsDecided (recorded_digest r.conffiles x) (pending_digest r.pending x) g.policy (files_at old x) first
-      → IsDecided (recorded_digest r.conffiles x) (pending_digest r.pending x) g.policy (files_at now x) again → IsAmidUnit g old so_far now → settled_files again (files_at now x) ≡ settled_files first (files_at old x)
+  pub configure_again : EndsAlike → (x : Path) (first again : Decision) → changes_of so_far ≡ [] → Contains (settling_paths g.ways r) x → IsShippedAs (pending_digest r.pending x) (files_at old (place_of g.ways x)) → IsDecided (recorded_digest r.conffiles x) (pending_digest r.pending x) g.policy (files_at old (place_of g.ways x)) first
+      → IsDecided (recorded_digest r.conffiles x) (pending_digest r.pending x) g.policy (files_at now (place_of g.ways x)) again → IsAmidUnit g old so_far now → settled_files again (files_at now (place_of g.ways x)) ≡ settled_files first (files_at old (place_of g.ways x))
   configure_again alike x first again none has ship decided again_decided (inl looks) =
-      alike (recorded_digest r.conffiles x) (pending_digest r.pending x) g.policy (files_at old x) (files_at now x) first again ship decided (inl (ap (λ (w : World). files_at w x) looks.0)) again_decided
+      alike (recorded_digest r.conffiles x) (pending_digest r.pending x) g.policy (files_at old (place_of g.ways x)) (files_at now (place_of g.ways x)) first again ship decided (inl (ap (λ (w : World). files_at w (place_of g.ways x)) looks.0)) again_decided
   configure_again alike x first again none has ship decided again_decided (inr amid) =
       let one = conffiles_amid amid none x has in
-      alike (recorded_digest r.conffiles x) (pending_digest r.pending x) g.policy (files_at old x) (files_at now x) one.decision again ship one.decided one.between again_decided
-      ∙ alike (recorded_digest r.conffiles x) (pending_digest r.pending x) g.policy (files_at old x) (files_at old x) first one.decision ship decided (inl refl) one.decided
+      alike (recorded_digest r.conffiles x) (pending_digest r.pending x) g.policy (files_at old (place_of g.ways x)) (files_at now (place_of g.ways x)) one.decision again ship one.decided one.between again_decided
+      ∙ alike (recorded_digest r.conffiles x) (pending_digest r.pending x) g.policy (files_at old (place_of g.ways x)) (files_at old (place_of g.ways x)) first one.decision ship decided (inl refl) one.decided

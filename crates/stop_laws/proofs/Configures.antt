@@ -31,7 +31,7 @@ use Rattle.removal_engine.proofs.Tables.{is_named, one_record}
 use Rattle.configure_engine.specs.Decided.{decided_paths}
 use Rattle.configure_engine.specs.Stages.{listed_without}
 use Rattle.configure_engine.specs.Units.{Given, IsAmid, IsAmidUnit}
-use Rattle.configure_engine.specs.Waiting.{going_paths, settling_paths}
+use Rattle.configure_engine.specs.Waiting.{going_paths, settling_places}
 use Rattle.stop_laws.specs.Configuring.{HasRecordsAmid, IsOwnList, IsSettledRecord, IsWaitingRecord, is_settling_name}
 use Rattle.stop_laws.proofs.Avoiding.{own_avoided}
 use Rattle.stop_laws.proofs.ConfigureStages.{first_deeds, last_deeds, names_of_decided, stage_with, stages_all, stages_deeds}
@@ -73,8 +73,8 @@ module _ (g : Given) (r : Record) (found : record_in g.before.records g.name ≡
     abbrev pub decisions_then : List Settled
     decisions_then = amid.plan.plan.decisions
 
-    pub paths_then : decided_paths decisions_then ≡ settling_paths r
-    paths_then = amid.plan.plan.paths ∙ ap settling_paths entry_is
+    pub paths_then : decided_paths decisions_then ≡ settling_places g.ways r
+    paths_then = amid.plan.plan.paths ∙ ap (settling_places g.ways) entry_is
 
     abbrev pub stages_then : List Planned
     stages_then = stage_with (first_deeds r listed decisions_then) amid.plan.plan.stages_are.first.row ∷ stage_with (last_deeds r) amid.plan.plan.stages_are.second.row ∷ []
@@ -85,15 +85,15 @@ module _ (g : Given) (r : Record) (found : record_in g.before.records g.name ≡
         ∙ ap (λ (e : Record). stage_with (first_deeds e listed decisions_then) amid.plan.plan.stages_are.first.row ∷ stage_with (last_deeds e) amid.plan.plan.stages_are.second.row ∷ []) entry_is
 
     pub amid_at : AmidStages g.name (IsDeniedIn so_far) stages_then g.before.records old (changes_of so_far) now
-    amid_at = subst (λ (ps : List Planned). AmidStages g.name (IsDeniedIn so_far) ps g.before.records old (changes_of so_far) now) deeds_are (stages_amid g.name (IsDeniedIn so_far) g.entries amid.stages g.before old so_far now (λ p is. is) amid.running)
+    amid_at = subst (λ (ps : List Planned). AmidStages g.name (IsDeniedIn so_far) ps g.before.records old (changes_of so_far) now) deeds_are (stages_amid g.name (IsDeniedIn so_far) g.ways amid.stages g.before old so_far now (λ p is. is) amid.running)
 
     avoided : Avoids is_own (changes_of so_far)
-    avoided = own_avoided g.name g.entries amid.stages g.before old so_far now amid.running
+    avoided = own_avoided g.name g.ways amid.stages g.before old so_far now amid.running
 
     -- records
 
     abbrev IsNoted : Option Record → Type 0
-    IsNoted o = IsWaitingRecord r o ⊎ IsSettledRecord r o
+    IsNoted o = IsWaitingRecord r o ⊎ IsSettledRecord g.ways r o
 
     abbrev Notes : Deed → Type 0
     Notes = NotesOwn g.name g.before.records IsNoted
@@ -111,10 +111,10 @@ module _ (g : Given) (r : Record) (found : record_in g.before.records g.name ≡
 
     -- names of conffiles that are settled
 
-    pub no_decided_name : (q : Path) → is_settling_name r q ≡ false → is_name_of_some decisions_then q ≡ false
+    pub no_decided_name : (q : Path) → is_settling_name g.ways r q ≡ false → is_name_of_some decisions_then q ≡ false
     no_decided_name q none = names_of_decided decisions_then q ∙ ap (λ (l : List Path). list_any (λ x. is_conffile_name x q) l) paths_then ∙ none
 
-    paths_amid : (q : Path) → is_below_administration q ≡ false → is_settling_name r q ≡ false → now q ≡ changed (changes_of so_far) old q
+    paths_amid : (q : Path) → is_below_administration q ≡ false → is_settling_name g.ways r q ≡ false → now q ≡ changed (changes_of so_far) old q
     paths_amid q out none =
         by (stages_set g.name q Never (IsDeniedIn so_far) stages_then g.before.records old (changes_of so_far) now
         (stages_all (Sets g.name q Never) r listed decisions_then amid.plan.plan.stages_are.first.row amid.plan.plan.stages_are.second.row
@@ -182,7 +182,7 @@ module _ (g : Given) (r : Record) (found : record_in g.before.records g.name ≡
     configure_list (inl looks) = inl (ap (λ (w : World). w (list_path g.name)) looks.0)
     configure_list (inr amid) = own_list_amid old now so_far amid
 
-    pub configure_paths : (q : Path) → is_below_administration q ≡ false → is_settling_name r q ≡ false → IsAmidUnit g old so_far now → now q ≡ changed (changes_of so_far) old q
+    pub configure_paths : (q : Path) → is_below_administration q ≡ false → is_settling_name g.ways r q ≡ false → IsAmidUnit g old so_far now → now q ≡ changed (changes_of so_far) old q
     configure_paths q out none (inl looks) = ap (λ (w : World). w q) looks.0 ∙ ap (λ c. changed c old q) (sym (no_change so_far looks.1))
     configure_paths q out none (inr amid) = paths_amid old now so_far amid q out none
 
@@ -201,10 +201,10 @@ module _ (g : Given) (old now : World) (so_far : List Event) where
   configure_member q member is (inl looks) = ap (λ (w : World). w (stored_member_path q member)) looks.0
   configure_member q member is (inr amid) = each_member g amid.plan.entry amid.plan.found old now so_far amid q member is
 
-module _ (g : Given) (r : Record) (found : record_in g.before.records g.name ≡ Some r) (q : Path) (owned : has_other_owner g.entries g.before.lists g.name q ≡ true) where
+module _ (g : Given) (r : Record) (found : record_in g.before.records g.name ≡ Some r) (q : Path) (owned : has_other_owner g.ways g.before.lists g.name q ≡ true) where
   -- neither the unit nor a script call changes what stands at a place of another package
-  pub configure_keeps : is_below_administration q ≡ false → is_settling_name r q ≡ false → (old now : World) (so_far : List Event) → IsAmidUnit g old so_far now → now q ≡ old q
+  pub configure_keeps : is_below_administration q ≡ false → is_settling_name g.ways r q ≡ false → (old now : World) (so_far : List Event) → IsAmidUnit g old so_far now → now q ≡ old q
   configure_keeps out none old now so_far (inl looks) = ap (λ (w : World). w q) looks.0
   configure_keeps out none old now so_far (inr amid) =
       configure_paths g r found old now so_far q out none (inr amid)
-      ∙ changed_kept (has_other_owner g.entries g.before.lists g.name) (changes_of so_far) old (others_avoided g.name g.entries amid.stages g.before old so_far now amid.running) q owned
+      ∙ changed_kept (has_other_owner g.ways g.before.lists g.name) (changes_of so_far) old (others_avoided g.name g.ways amid.stages g.before old so_far now amid.running) q owned

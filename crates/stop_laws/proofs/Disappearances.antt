@@ -11,7 +11,7 @@ use Rattle.administration.specs.Places.{diversions_path, list_path}
 use Rattle.control_members.specs.Names.{is_member_name}
 use Rattle.control_members.specs.Stored.{stored_member_path}
 use Rattle.control_members.proofs.Apart.{no_list_temporary, same_stored}
-use Rattle.diversions.specs.declared.entry.Diversion.{Diversion}
+use Rattle.diversions.specs.Ways.{Ways}
 use Rattle.status_db.specs.Held.{HasRecords}
 use Rattle.status_records.specs.Records.{record_in}
 use Rattle.status_records.specs.declared.record.Record.{Record}
@@ -37,7 +37,7 @@ use Rattle.stop_laws.proofs.Places.{beside_list, beside_member, beside_spare}
 use Rattle.stop_laws.proofs.QuietRuns.{RanScripts, no_deeds, quiet_ran}
 use Rattle.stop_laws.proofs.Taken.{IsSet, Sets, stages_set}
 
-module _ (entries : List Diversion) (name : List ℕ) (h : Holding) (row : Row) (call gone : List Stage) (plan : ArePlanned name h row call gone) (s : State) (so_far : List Event) (now : World) where
+module _ (ways : Ways) (name : List ℕ) (h : Holding) (row : Row) (call gone : List Stage) (plan : ArePlanned name h row call gone) (s : State) (so_far : List Event) (now : World) where
   abbrev before : Planned
   before = stage_of [] row
 
@@ -45,7 +45,7 @@ module _ (entries : List Diversion) (name : List ℕ) (h : Holding) (row : Row) 
   behind = gone_stage plan.entry
 
   -- the call has been made by a run of one stage without parts
-  call_ran : (kept : Path → Bool) → ((q : Path) → kept q ≡ true → kept_by entries h q ≡ true) → (is : IsBehindCall name entries call gone h s so_far now) → RanScripts kept s is.mid
+  call_ran : (kept : Path → Bool) → ((q : Path) → kept q ≡ true → kept_by ways h q ≡ true) → (is : IsBehindCall name ways call gone h s so_far now) → RanScripts kept s is.mid
   call_ran kept keeps is = by call plan.calls is.called
     where
       not_none : {X : Type 0} → [] ≡ before ∷ [] → X
@@ -58,20 +58,20 @@ module _ (entries : List Diversion) (name : List ℕ) (h : Holding) (row : Row) 
       first_of_two d [] = d
       first_of_two d (p ∷ ps) = p
 
-      by : (stages : List Stage) → map planned stages ≡ before ∷ [] → HaveRun name entries stages is.failed h h s is.mid is.told is.more → RanScripts kept s is.mid
+      by : (stages : List Stage) → map planned stages ≡ before ∷ [] → HaveRun name ways stages is.failed h h s is.mid is.told is.more → RanScripts kept s is.mid
       by [] are run = not_none are
       by (stage ∷ []) are run =
           let one : planned stage ≡ before = ap (first_of_two before) are in
-          quiet_ran name entries kept h keeps stage (no_deeds stage.parts.items (ap (λ (p : Planned). p.parts) one)) (no_deeds stage.restore.items (ap (λ (p : Planned). p.restore) one)) is.failed h s is.mid is.told is.more run is.honest
+          quiet_ran name ways kept h keeps stage (no_deeds stage.parts.items (ap (λ (p : Planned). p.parts) one)) (no_deeds stage.restore.items (ap (λ (p : Planned). p.restore) one)) is.failed h s is.mid is.told is.more run is.honest
       by (stage ∷ other ∷ more) are run = not_two (planned stage) (planned other) (map planned more) are
 
-  calling_at : AreRunning name entries call h s.world so_far now → AmidStages name (IsDeniedIn so_far) (before ∷ []) h.records s.world (changes_of so_far) now
-  calling_at running = subst (λ (ps : List Planned). AmidStages name (IsDeniedIn so_far) ps h.records s.world (changes_of so_far) now) plan.calls (stages_amid name (IsDeniedIn so_far) entries call h s.world so_far now (λ p is. is) running)
+  calling_at : AreRunning name ways call h s.world so_far now → AmidStages name (IsDeniedIn so_far) (before ∷ []) h.records s.world (changes_of so_far) now
+  calling_at running = subst (λ (ps : List Planned). AmidStages name (IsDeniedIn so_far) ps h.records s.world (changes_of so_far) now) plan.calls (stages_amid name (IsDeniedIn so_far) ways call h s.world so_far now (λ p is. is) running)
 
-  behind_at : (is : IsBehindCall name entries call gone h s so_far now) → AmidStages name (IsDeniedIn is.rest) (behind ∷ []) h.records is.mid.world (changes_of is.rest) now
-  behind_at is = subst (λ (ps : List Planned). AmidStages name (IsDeniedIn is.rest) ps h.records is.mid.world (changes_of is.rest) now) plan.goes (stages_amid name (IsDeniedIn is.rest) entries gone h is.mid.world is.rest now (λ p has. has) is.running)
+  behind_at : (is : IsBehindCall name ways call gone h s so_far now) → AmidStages name (IsDeniedIn is.rest) (behind ∷ []) h.records is.mid.world (changes_of is.rest) now
+  behind_at is = subst (λ (ps : List Planned). AmidStages name (IsDeniedIn is.rest) ps h.records is.mid.world (changes_of is.rest) now) plan.goes (stages_amid name (IsDeniedIn is.rest) ways gone h is.mid.world is.rest now (λ p has. has) is.running)
 
-  front_is : (kept : Path → Bool) (is : IsBehindCall name entries call gone h s so_far now) (ran : RanScripts kept s is.mid) → ran.added ≡ is.front
+  front_is : (kept : Path → Bool) (is : IsBehindCall name ways call gone h s so_far now) (ran : RanScripts kept s is.mid) → ran.added ≡ is.front
   front_is kept is ran = append_cancel_left s.events ran.added is.front (sym ran.events ∙ is.events)
 
   -- a path at which nothing but the package's own list and control files is written
@@ -84,10 +84,10 @@ module _ (entries : List Diversion) (name : List ℕ) (h : Holding) (row : Row) 
     scripted_rest mid change (IsSet.stood is) = is
     scripted_rest mid change (IsSet.left early late are m has is) = absurd has
 
-    path_amid : IsRunningBoth name entries call gone h s so_far now → now q ≡ changed (changes_of so_far) s.world q
+    path_amid : IsRunningBoth name ways call gone h s so_far now → now q ≡ changed (changes_of so_far) s.world q
     path_amid (IsRunningBoth.calling running) = scripted (stages_set name q Never (IsDeniedIn so_far) (before ∷ []) h.records s.world (changes_of so_far) now ((tt, tt), tt) (calling_at running))
     path_amid (IsRunningBoth.behind is) =
-        let ran = call_ran is_own (λ p own. own_kept entries h.lists p own) is in
+        let ran = call_ran is_own (λ p own. own_kept ways h.lists p own) is in
         let first : is.mid.world q ≡ changed (changes_of is.front) s.world q = ap (λ (w : World). w q) ran.world ∙ ap (λ (l : List Event). changed (changes_of l) s.world q) (front_is is_own is ran) in
         scripted_rest is.mid.world (changes_of is.rest) (stages_set name q Never (IsDeniedIn is.rest) (behind ∷ []) h.records is.mid.world (changes_of is.rest) now ((sets, tt), tt) (behind_at is))
         ∙ changed_at (changes_of is.rest) is.mid.world (changed (changes_of is.front) s.world) q first
@@ -95,25 +95,25 @@ module _ (entries : List Diversion) (name : List ℕ) (h : Holding) (row : Row) 
         ∙ ap (λ (c : Change). changed c s.world q) (sym (ap changes_of is.split ∙ changes_of-append is.front is.rest))
 
     -- that the calls leave alone
-    module _ (kept : Path → Bool) (mine : kept q ≡ true) (keeps : (p : Path) → kept p ≡ true → kept_by entries h p ≡ true)
-        (avoids : (stages : List Stage) (old : World) (events : List Event) (world : World) → AreRunning name entries stages h old events world → Avoids kept (changes_of events)) where
-      avoided : IsRunningBoth name entries call gone h s so_far now → Avoids kept (changes_of so_far)
+    module _ (kept : Path → Bool) (mine : kept q ≡ true) (keeps : (p : Path) → kept p ≡ true → kept_by ways h p ≡ true)
+        (avoids : (stages : List Stage) (old : World) (events : List Event) (world : World) → AreRunning name ways stages h old events world → Avoids kept (changes_of events)) where
+      avoided : IsRunningBoth name ways call gone h s so_far now → Avoids kept (changes_of so_far)
       avoided (IsRunningBoth.calling running) = avoids call s.world so_far now running
       avoided (IsRunningBoth.behind is) =
           let ran = call_ran kept keeps is in
           subst (Avoids kept) (sym (ap changes_of is.split ∙ changes_of-append is.front is.rest))
           (Avoids-append kept (changes_of is.front) (changes_of is.rest) (subst (λ (l : List Event). Avoids kept (changes_of l)) (front_is kept is ran) ran.avoids) (avoids gone is.mid.world is.rest now is.running))
 
-      kept_amid : IsRunningBoth name entries call gone h s so_far now → now q ≡ s.world q
+      kept_amid : IsRunningBoth name ways call gone h s so_far now → now q ≡ s.world q
       kept_amid running = path_amid running ∙ changed_kept kept (changes_of so_far) s.world (avoided running) q mine
 
-  own_amid : (q : Path) → All (Sets name q Never) behind.parts → is_own q ≡ true → IsRunningBoth name entries call gone h s so_far now → now q ≡ s.world q
+  own_amid : (q : Path) → All (Sets name q Never) behind.parts → is_own q ≡ true → IsRunningBoth name ways call gone h s so_far now → now q ≡ s.world q
   own_amid q sets mine running =
-      kept_amid q sets is_own mine (λ p own. own_kept entries h.lists p own) (λ stages old events world are. own_avoided name entries stages h old events world are) running
+      kept_amid q sets is_own mine (λ p own. own_kept ways h.lists p own) (λ stages old events world are. own_avoided name ways stages h old events world are) running
 
-  owned_amid : (q : Path) → All (Sets name q Never) behind.parts → has_other_owner entries h.lists name q ≡ true → IsRunningBoth name entries call gone h s so_far now → now q ≡ s.world q
+  owned_amid : (q : Path) → All (Sets name q Never) behind.parts → has_other_owner ways h.lists name q ≡ true → IsRunningBoth name ways call gone h s so_far now → now q ≡ s.world q
   owned_amid q sets mine running =
-      kept_amid q sets (has_other_owner entries h.lists name) mine (λ p owned. owner_kept entries name p h.lists owned) (λ stages old events world are. others_avoided name entries stages h old events world are) running
+      kept_amid q sets (has_other_owner ways h.lists name) mine (λ p owned. owner_kept ways name p h.lists owned) (λ stages old events world are. others_avoided name ways stages h old events world are) running
 
   -- what the deeds do where
 
@@ -150,18 +150,18 @@ module _ (entries : List Diversion) (name : List ℕ) (h : Holding) (row : Row) 
   good_first : IsGood name h.records Own h.records
   good_first = record { own = inl refl; others = λ q other. refl }
 
-  standing : IsRunningBoth name entries call gone h s so_far now → StandGood name h.records Own now
+  standing : IsRunningBoth name ways call gone h s so_far now → StandGood name h.records Own now
   standing (IsRunningBoth.calling running) = stages_good name h.records Own (IsDeniedIn so_far) (before ∷ []) h.records s.world (changes_of so_far) now ((tt, tt), tt) good_first (calling_at running)
   standing (IsRunningBoth.behind is) =
       stages_good name h.records Own (IsDeniedIn is.rest) (behind ∷ []) h.records is.mid.world (changes_of is.rest) now ((((tt, tt), ((tt, tt), ((tt, tt), ((tt, inr refl), tt)))), tt), tt) good_first (behind_at is)
 
 -- at each moment of one package
 
-module _ (incoming version : List ℕ) (entries : List Diversion) (l : Losing) (h : Holding) (s : State) (so_far : List Event) (now : World) where
-  pub records_then : IsInOrderWith h s.world → IsAmidUnit incoming version entries l h s so_far now → HasRecordsAmid l.name h.records now
+module _ (incoming version : List ℕ) (ways : Ways) (l : Losing) (h : Holding) (s : State) (so_far : List Event) (now : World) where
+  pub records_then : IsInOrderWith h s.world → IsAmidUnit incoming version ways l h s so_far now → HasRecordsAmid l.name h.records now
   records_then order amid = by amid.unit
     where
-      by : IsAmidOne incoming version entries l h s so_far now → HasRecordsAmid l.name h.records now
+      by : IsAmidOne incoming version ways l h s so_far now → HasRecordsAmid l.name h.records now
       by (IsAmidOne.looking same none) = record {
         table = h.records;
         records = subst (λ (w : World). HasRecords w h.records) (sym same) (subst (HasRecords s.world) order.are order.order.kept.holds);
@@ -170,35 +170,35 @@ module _ (incoming version : List ℕ) (entries : List Diversion) (l : Losing) (
         others = λ q other. refl;
       }
       by (IsAmidOne.going going) =
-          let stands = standing entries l.name h (disappear_row l.name incoming version going.plan.stored) going.call going.gone going.plan.stages s so_far now going.running in
+          let stands = standing ways l.name h (disappear_row l.name incoming version going.plan.stored) going.call going.gone going.plan.stages s so_far now going.running in
           record { table = stands.table; records = stands.records; opens = amid.opens.1.opens; own = stands.good.own; others = stands.good.others }
 
-  pub list_then : (q : List ℕ) → q ≢ l.name → IsAmidOne incoming version entries l h s so_far now → now (list_path q) ≡ s.world (list_path q)
+  pub list_then : (q : List ℕ) → q ≢ l.name → IsAmidOne incoming version ways l h s so_far now → now (list_path q) ≡ s.world (list_path q)
   list_then q other (IsAmidOne.looking same none) = ap (λ (w : World). w (list_path q)) same
   list_then q other (IsAmidOne.going going) =
       let row = disappear_row l.name incoming version going.plan.stored in
-      own_amid entries l.name h row going.call going.gone going.plan.stages s so_far now (list_path q) (list_sets entries l.name h row going.call going.gone going.plan.stages s so_far now q other) refl going.running
+      own_amid ways l.name h row going.call going.gone going.plan.stages s so_far now (list_path q) (list_sets ways l.name h row going.call going.gone going.plan.stages s so_far now q other) refl going.running
 
-  pub member_then : (q : List ℕ) (member : Path) → q ≢ l.name → is_member_name member ≡ true → IsAmidOne incoming version entries l h s so_far now → now (stored_member_path q member) ≡ s.world (stored_member_path q member)
+  pub member_then : (q : List ℕ) (member : Path) → q ≢ l.name → is_member_name member ≡ true → IsAmidOne incoming version ways l h s so_far now → now (stored_member_path q member) ≡ s.world (stored_member_path q member)
   member_then q member other is (IsAmidOne.looking same none) = ap (λ (w : World). w (stored_member_path q member)) same
   member_then q member other is (IsAmidOne.going going) =
       let row = disappear_row l.name incoming version going.plan.stored in
-      own_amid entries l.name h row going.call going.gone going.plan.stages s so_far now (stored_member_path q member) (member_sets entries l.name h row going.call going.gone going.plan.stages s so_far now q member other is) refl going.running
+      own_amid ways l.name h row going.call going.gone going.plan.stages s so_far now (stored_member_path q member) (member_sets ways l.name h row going.call going.gone going.plan.stages s so_far now q member other is) refl going.running
 
-  pub diversions_then : IsAmidOne incoming version entries l h s so_far now → now diversions_path ≡ s.world diversions_path
+  pub diversions_then : IsAmidOne incoming version ways l h s so_far now → now diversions_path ≡ s.world diversions_path
   diversions_then (IsAmidOne.looking same none) = ap (λ (w : World). w diversions_path) same
   diversions_then (IsAmidOne.going going) =
       let row = disappear_row l.name incoming version going.plan.stored in
-      own_amid entries l.name h row going.call going.gone going.plan.stages s so_far now diversions_path (diversions_sets entries l.name h row going.call going.gone going.plan.stages s so_far now) refl going.running
+      own_amid ways l.name h row going.call going.gone going.plan.stages s so_far now diversions_path (diversions_sets ways l.name h row going.call going.gone going.plan.stages s so_far now) refl going.running
 
-  pub path_then : (q : Path) → is_below_administration q ≡ false → IsAmidOne incoming version entries l h s so_far now → now q ≡ changed (changes_of so_far) s.world q
+  pub path_then : (q : Path) → is_below_administration q ≡ false → IsAmidOne incoming version ways l h s so_far now → now q ≡ changed (changes_of so_far) s.world q
   path_then q out (IsAmidOne.looking same none) = ap (λ (w : World). w q) same ∙ ap (λ (c : Change). changed c s.world q) (sym (no_change so_far none))
   path_then q out (IsAmidOne.going going) =
       let row = disappear_row l.name incoming version going.plan.stored in
-      path_amid entries l.name h row going.call going.gone going.plan.stages s so_far now q (elsewhere_sets entries l.name h row going.call going.gone going.plan.stages s so_far now q out) going.running
+      path_amid ways l.name h row going.call going.gone going.plan.stages s so_far now q (elsewhere_sets ways l.name h row going.call going.gone going.plan.stages s so_far now q out) going.running
 
-  pub owned_then : (q : Path) → is_below_administration q ≡ false → has_other_owner entries h.lists l.name q ≡ true → IsAmidOne incoming version entries l h s so_far now → now q ≡ s.world q
+  pub owned_then : (q : Path) → is_below_administration q ≡ false → has_other_owner ways h.lists l.name q ≡ true → IsAmidOne incoming version ways l h s so_far now → now q ≡ s.world q
   owned_then q out owned (IsAmidOne.looking same none) = ap (λ (w : World). w q) same
   owned_then q out owned (IsAmidOne.going going) =
       let row = disappear_row l.name incoming version going.plan.stored in
-      owned_amid entries l.name h row going.call going.gone going.plan.stages s so_far now q (elsewhere_sets entries l.name h row going.call going.gone going.plan.stages s so_far now q out) owned going.running
+      owned_amid ways l.name h row going.call going.gone going.plan.stages s so_far now q (elsewhere_sets ways l.name h row going.call going.gone going.plan.stages s so_far now q out) owned going.running

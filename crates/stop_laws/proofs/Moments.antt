@@ -9,7 +9,7 @@ use Rattle.host_core.proofs.Scripts.{changes_of-append, no_change}
 use Rattle.administration.specs.Files.{IsDropped, IsDropping, IsReplaced, IsReplacing}
 use Rattle.administration.specs.Places.{list_path}
 use Rattle.conffiles.specs.Settling.{AreSettled, AreSettling}
-use Rattle.diversions.specs.declared.entry.Diversion.{Diversion}
+use Rattle.diversions.specs.Ways.{Ways}
 use Rattle.file_lists.specs.Writing.{list_file}
 use Rattle.file_removal.specs.Clearing.{Cleared, IsClearing}
 use Rattle.file_removal.specs.Removal.{IsRemoving, IsRemovingDirectories, Removed, RemovedDirectories}
@@ -168,7 +168,7 @@ module _ (name : List ℕ) (declined : Path → Type 0) where
       subst (λ (l : List Part). Amid (map deed l) rs v w) (sym doing.are) (parts_amid doing.front doing.back rs v doing.mid w doing.done doing.next)
 
   -- and of stages
-  module _ (entries : List Diversion) where
+  module _ (ways : Ways) where
     -- steps at these paths were declined among these events
     abbrev pub AreDeclined : List Event → Type 0
     AreDeclined so_far = (p : Path) → IsDeniedIn so_far p → declined p
@@ -180,7 +180,7 @@ module _ (name : List ℕ) (declined : Path → Type 0) where
     later_denied own more since before p are so is =
         so p (subst (λ (es : List Event). IsDeniedIn (es ++ since) p) (sym are) (subst (λ es. IsDeniedIn es p) (sym (append_assoc own more since)) (denied_behind own (more ++ since) p is)))
 
-    calling_amid : (restore : List Part) (h : Holding) (old : World) (so_far : List Event) (now : World) (table : List Record) → AreDeclined so_far → IsCalling name entries restore h old so_far now table → IsOpenable table now
+    calling_amid : (restore : List Part) (h : Holding) (old : World) (so_far : List Event) (now : World) (table : List Record) → AreDeclined so_far → IsCalling name ways restore h old so_far now table → IsOpenable table now
         → IsCalled (map deed restore) h.records old (changes_of so_far) now
     calling_amid restore h old so_far now table so (IsCalling.calling scripts is) opens = IsCalled.on_calls scripts.world (subst (HasRecords now) is opens.records)
     calling_amid restore h old so_far now table so (IsCalling.restoring calls after called are scripts quiet doing noted) opens =
@@ -190,7 +190,7 @@ module _ (name : List ℕ) (declined : Path → Type 0) where
         (doing_amid restore h.records called now
         (doing_wider name (IsDeniedIn after) declined (λ p is. so p (subst (λ es. IsDeniedIn es p) (sym are) (denied_behind calls after p is))) restore h.records called now doing))
 
-    inside_amid : (stage : Stage) (h : Holding) (old : World) (so_far : List Event) (now : World) (table : List Record) → AreDeclined so_far → IsInStage name entries stage h old so_far now table → IsOpenable table now
+    inside_amid : (stage : Stage) (h : Holding) (old : World) (so_far : List Event) (now : World) (table : List Record) → AreDeclined so_far → IsInStage name ways stage h old so_far now table → IsOpenable table now
         → IsInside (planned stage) h.records old (changes_of so_far) now
     inside_amid stage h old so_far now table so (IsInStage.doing quiet doing noted) opens =
         IsInside.in_parts (no_change so_far quiet) (doing_amid stage.parts.items h.records old now (doing_wider name (IsDeniedIn so_far) declined so stage.parts.items h.records old now doing))
@@ -206,7 +206,7 @@ module _ (name : List ℕ) (declined : Path → Type 0) where
     not_none : {X : Type 0} (stage : Stage) (rest : List Stage) → [] ≡ stage ∷ rest → X
     not_none stage rest e = absurd (let same : ◌≡◌ {A = List Stage} [] (stage ∷ rest) = e in cc)
 
-    next_amid : (back : List Stage) (h : Holding) (old : World) (so_far : List Event) (now : World) (table : List Record) → AreDeclined so_far → IsInNext name entries back h old so_far now table → IsOpenable table now
+    next_amid : (back : List Stage) (h : Holding) (old : World) (so_far : List Event) (now : World) (table : List Record) → AreDeclined so_far → IsInNext name ways back h old so_far now table → IsOpenable table now
         → AmidStages (map planned back) h.records old (changes_of so_far) now
     next_amid [] h old so_far now table so (IsInNext.between none same is) opens = record { none = ap changes_of none; same = same; records = subst (HasRecords now) is opens.records }
     next_amid [] h old so_far now table so (IsInNext.inside stage rest is amid) opens = not_none stage rest is
@@ -214,11 +214,11 @@ module _ (name : List ℕ) (declined : Path → Type 0) where
     next_amid (s ∷ back) h old so_far now table so (IsInNext.inside stage rest is amid) opens =
         subst (λ (l : List Stage). AmidStages (map planned l) h.records old (changes_of so_far) now) (sym is) (inr (inl (inside_amid stage h old so_far now table so amid opens)))
 
-    run_amid : (front back : List Stage) (h : Holding) (old : World) (before since : List Event) (reached now : World) (table : List Record) → AreDeclined (before ++ since) → ArePast name entries front h old before reached
-        → IsInNext name entries back (after_stages name front h) reached since now table → IsOpenable table now → AmidStages (map planned (front ++ back)) h.records old (changes_of (before ++ since)) now
+    run_amid : (front back : List Stage) (h : Holding) (old : World) (before since : List Event) (reached now : World) (table : List Record) → AreDeclined (before ++ since) → ArePast name ways front h old before reached
+        → IsInNext name ways back (after_stages name front h) reached since now table → IsOpenable table now → AmidStages (map planned (front ++ back)) h.records old (changes_of (before ++ since)) now
     run_amid [] back h old before since reached now table so past next opens =
         subst (λ (c : List Event). AmidStages (map planned back) h.records old (changes_of (c ++ since)) now) (sym past.0)
-        (next_amid back h old since now table (λ p is. so p (denied_behind before since p is)) (subst (λ (x : World). IsInNext name entries back h x since now table) past.1 next) opens)
+        (next_amid back h old since now table (λ p is. so p (denied_behind before since p is)) (subst (λ (x : World). IsInNext name ways back h x since now table) past.1 next) opens)
     run_amid (s ∷ front) back h old before since reached now table so past next opens =
         let one = past.past in
         inr (inr (record {
@@ -239,7 +239,7 @@ module _ (name : List ℕ) (declined : Path → Type 0) where
         }))
 
     -- at each moment of a run
-    pub stages_amid : (stages : List Stage) (h : Holding) (old : World) (so_far : List Event) (now : World) → AreDeclined so_far → AreRunning name entries stages h old so_far now → AmidStages (map planned stages) h.records old (changes_of so_far) now
+    pub stages_amid : (stages : List Stage) (h : Holding) (old : World) (so_far : List Event) (now : World) → AreDeclined so_far → AreRunning name ways stages h old so_far now → AmidStages (map planned stages) h.records old (changes_of so_far) now
     stages_amid stages h old so_far now so running =
         subst (λ (l : List Stage). AmidStages (map planned l) h.records old (changes_of so_far) now) (sym running.are)
         (subst (λ (l : List Event). AmidStages (map planned (running.front ++ running.back)) h.records old (changes_of l) now) (sym running.events)

@@ -13,8 +13,7 @@ use Rattle.host_core.specs.Suffixes.{suffix_text}
 use Rattle.host_core.specs.declared.suffix.Suffix.TheVariants.{New, Tmp, Inst}
 use Rattle.host_core.proofs.ShipNames.{plain_other}
 use Rattle.administration.specs.Places.{home_path, is_within}
-use Rattle.diversions.specs.Places.{place}
-use Rattle.diversions.specs.declared.entry.Diversion.{Diversion}
+use Rattle.diversions.specs.Ways.{is_led_to, place, Ways}
 use Rattle.file_lists.specs.Owners.{paths_of, has_other_owner}
 use Rattle.file_lists.specs.declared.paths.PackageList.{PackageList}
 use Rattle.file_removal.specs.Clearing.{is_among}
@@ -70,7 +69,7 @@ module _ (q : Path) where
   none_unless false xs none = none
 
   -- a name without a reserved ending is none beside a place
-  module _ (plain : has_reserved_suffix q ≡ false) (entries : List Diversion) where
+  module _ (plain : has_reserved_suffix q ≡ false) (ways : Ways) where
     not_beside : (at : Path) → IsNone (clearable (unpack_names at))
     not_beside at = none_filter is_clearable (unpack_names at)
         (none_or (bytes_eq q (at ++ suffix_text Inst)) _ (λ is. plain_other q at Inst plain ((bytes_eq-Decides q (at ++ suffix_text Inst)).0 is))
@@ -80,29 +79,29 @@ module _ (q : Path) where
     not_waiting at = none_filter is_clearable ((at ++ suffix_text New) ∷ [])
         (none_or (bytes_eq q (at ++ suffix_text New)) false (λ is. plain_other q at New plain ((bytes_eq-Decides q (at ++ suffix_text New)).0 is)) (λ is. true≢false (sym is)))
 
-    not_cleared : (lists : List PackageList) (r : Record) → IsNone (cleared_names entries lists r)
+    not_cleared : (lists : List PackageList) (r : Record) → IsNone (cleared_names ways lists r)
     not_cleared lists r =
-        none_flat (λ (path : Path). cond (list_any (bytes_eq path) (entry_paths r.conffiles)) [] (clearable (unpack_names (place entries r.name path))))
-        (λ path. none_unless (list_any (bytes_eq path) (entry_paths r.conffiles)) (clearable (unpack_names (place entries r.name path))) (not_beside (place entries r.name path))) (paths_of lists r.name)
+        none_flat (λ (path : Path). cond (list_any (bytes_eq path) (entry_paths r.conffiles)) [] (clearable (unpack_names (place ways r.name path))))
+        (λ path. none_unless (list_any (bytes_eq path) (entry_paths r.conffiles)) (clearable (unpack_names (place ways r.name path))) (not_beside (place ways r.name path))) (paths_of lists r.name)
 
-    none_waits : (r : Record) → IsNone (waiting_names entries r.name r.pending)
-    none_waits r = none_flat (λ (d : PendingDigest). clearable ((place entries r.name d.path ++ suffix_text New) ∷ [])) (λ d. not_waiting (place entries r.name d.path)) r.pending
+    none_waits : (r : Record) → IsNone (waiting_names ways r.name r.pending)
+    none_waits r = none_flat (λ (d : PendingDigest). clearable ((place ways r.name d.path ++ suffix_text New) ∷ [])) (λ d. not_waiting (place ways r.name d.path)) r.pending
 
   -- nor is a place of another package one that goes
-  module _ (entries : List Diversion) (lists : List PackageList) (name : List ℕ) (owned : has_other_owner entries lists name q ≡ true) where
-    not_kept : (xs : List Path) → IsNone (filter (λ p. not (has_other_owner entries lists name p)) xs)
+  module _ (ways : Ways) (lists : List PackageList) (name : List ℕ) (owned : has_other_owner ways lists name q ≡ true) where
+    not_kept : (xs : List Path) → IsNone (filter (λ p. not (has_other_owner ways lists name p)) xs)
     not_kept [] = λ is. true≢false (sym is)
-    not_kept (x ∷ xs) = by (has_other_owner entries lists name x) refl (not_kept xs)
+    not_kept (x ∷ xs) = by (has_other_owner ways lists name x) refl (not_kept xs)
       where
-        by : (b : Bool) → has_other_owner entries lists name x ≡ b → IsNone (filter (λ p. not (has_other_owner entries lists name p)) xs) → IsNone (cond (not b) (x ∷ filter (λ p. not (has_other_owner entries lists name p)) xs) (filter (λ p. not (has_other_owner entries lists name p)) xs))
+        by : (b : Bool) → has_other_owner ways lists name x ≡ b → IsNone (filter (λ p. not (has_other_owner ways lists name p)) xs) → IsNone (cond (not b) (x ∷ filter (λ p. not (has_other_owner ways lists name p)) xs) (filter (λ p. not (has_other_owner ways lists name p)) xs))
         by true is rest = rest
-        by false is rest = none_or (bytes_eq q x) _ (λ same. true≢false (sym owned ∙ ap (has_other_owner entries lists name) ((bytes_eq-Decides q x).0 same) ∙ is)) rest
+        by false is rest = none_or (bytes_eq q x) _ (λ same. true≢false (sym owned ∙ ap (has_other_owner ways lists name) ((bytes_eq-Decides q x).0 same) ∙ is)) rest
 
-    not_purged : (r : Record) → r.name ≡ name → IsNone (purged_names entries lists r)
+    not_purged : (r : Record) → r.name ≡ name → IsNone (purged_names ways lists r)
     not_purged r named =
-        none_flat (λ (e : ConffileEntry). side_names_at entries lists r.name (place entries r.name e.path))
-        (λ e. none_unless (has_other_owner entries lists r.name (place entries r.name e.path)) (ownerless entries lists r.name (side_names (place entries r.name e.path)))
-        (subst (λ (n : List ℕ). IsNone (ownerless entries lists n (side_names (place entries r.name e.path)))) (sym named) (not_kept (clearable (side_names (place entries r.name e.path)))))) r.conffiles
+        none_flat (λ (e : ConffileEntry). side_names_at ways lists r.name (place ways r.name e.path))
+        (λ e. none_unless (has_other_owner ways lists r.name (place ways r.name e.path)) (ownerless ways lists r.name (side_names (place ways r.name e.path)))
+        (subst (λ (n : List ℕ). IsNone (ownerless ways lists n (side_names (place ways r.name e.path)))) (sym named) (not_kept (clearable (side_names (place ways r.name e.path)))))) r.conffiles
 
     last_true : (a b c d : Bool) → d ≡ true → not (a || (b || (c || d))) ≡ true → ⊥
     last_true true b c d is goes = true≢false (sym goes)
@@ -115,20 +114,20 @@ module _ (q : Path) where
     goes_never true a b c d is goes = true≢false (sym goes)
     goes_never false a b c d is goes = last_true a b c d is goes
 
-    not_leaving : (to_come conffiles xs : List Path) → is_leaving_place (leaving_of entries lists name to_come conffiles xs) q ≡ true → ⊥
+    not_leaving : (to_come conffiles xs : List Path) → is_leaving_place (leaving_of ways lists name to_come conffiles xs) q ≡ true → ⊥
     not_leaving to_come conffiles [] is = true≢false (sym is)
     not_leaving to_come conffiles (x ∷ xs) is =
-        let at = place entries name x in
-        none_or (not (list_any (bytes_eq x) conffiles || (bytes_eq at [] || (is_within home_path at || (is_place_of entries name to_come at || has_other_owner entries lists name at)))) && bytes_eq q at) (is_leaving_place (leaving_of entries lists name to_come conffiles xs) q)
-        (λ here. let parts = and_parts (not (list_any (bytes_eq x) conffiles || (bytes_eq at [] || (is_within home_path at || (is_place_of entries name to_come at || has_other_owner entries lists name at))))) (bytes_eq q at) here in
-        goes_never (list_any (bytes_eq x) conffiles) (bytes_eq at []) (is_within home_path at) (is_place_of entries name to_come at) (has_other_owner entries lists name at)
-        (ap (has_other_owner entries lists name) (sym ((bytes_eq-Decides q at).0 parts.1)) ∙ owned) parts.0)
+        let at = place ways name x in
+        none_or (not (list_any (bytes_eq x) conffiles || (is_led_to ways at || (is_within home_path at || (is_place_of ways name to_come at || has_other_owner ways lists name at)))) && bytes_eq q at) (is_leaving_place (leaving_of ways lists name to_come conffiles xs) q)
+        (λ here. let parts = and_parts (not (list_any (bytes_eq x) conffiles || (is_led_to ways at || (is_within home_path at || (is_place_of ways name to_come at || has_other_owner ways lists name at))))) (bytes_eq q at) here in
+        goes_never (list_any (bytes_eq x) conffiles) (is_led_to ways at) (is_within home_path at) (is_place_of ways name to_come at) (has_other_owner ways lists name at)
+        (ap (has_other_owner ways lists name) (sym ((bytes_eq-Decides q at).0 parts.1)) ∙ owned) parts.0)
         (not_leaving to_come conffiles xs) is
 
-module _ (g : Given) (removable : IsRemovable g.extent g.before.records g.name) (q : Path) (owned : has_other_owner g.entries g.before.lists g.name q ≡ true) (plain : has_reserved_suffix q ≡ false) where
-  not_leaving_of : (r : Record) → r.name ≡ g.name → (to_come conffiles xs : List Path) → is_leaving_place (leaving_of g.entries g.before.lists r.name to_come conffiles xs) q ≡ true → ⊥
+module _ (g : Given) (removable : IsRemovable g.extent g.before.records g.name) (q : Path) (owned : has_other_owner g.ways g.before.lists g.name q ≡ true) (plain : has_reserved_suffix q ≡ false) where
+  not_leaving_of : (r : Record) → r.name ≡ g.name → (to_come conffiles xs : List Path) → is_leaving_place (leaving_of g.ways g.before.lists r.name to_come conffiles xs) q ≡ true → ⊥
   not_leaving_of r named to_come conffiles xs is =
-      not_leaving q g.entries g.before.lists g.name owned to_come conffiles xs (subst (λ (n : List ℕ). is_leaving_place (leaving_of g.entries g.before.lists n to_come conffiles xs) q ≡ true) named is)
+      not_leaving q g.ways g.before.lists g.name owned to_come conffiles xs (subst (λ (n : List ℕ). is_leaving_place (leaving_of g.ways g.before.lists n to_come conffiles xs) q ≡ true) named is)
 
   module _ (stored : Stored) where
     purged_named : (c : Record) (listed : List Path) → IsPurgedFrom g removable.entry stored c listed → c.name ≡ g.name
@@ -137,9 +136,9 @@ module _ (g : Given) (removable : IsRemovable g.extent g.before.records g.name) 
 
     never_goes : MayGo g removable.entry stored q → ⊥
     never_goes (MayGo.with_files (GoesWithFiles.listed to_come comes is)) = not_leaving_of removable.entry (own_named g removable) to_come (entry_paths removable.entry.conffiles) (paths_of g.before.lists removable.entry.name) is
-    never_goes (MayGo.with_files (GoesWithFiles.beside is)) = not_cleared q plain g.entries g.before.lists removable.entry is
-    never_goes (MayGo.with_files (GoesWithFiles.waiting is)) = none_waits q plain g.entries removable.entry is
-    never_goes (MayGo.with_purge purges c listed from (GoesWithPurge.conffile is)) = not_purged q g.entries g.before.lists g.name owned c (purged_named c listed from) is
+    never_goes (MayGo.with_files (GoesWithFiles.beside is)) = not_cleared q plain g.ways g.before.lists removable.entry is
+    never_goes (MayGo.with_files (GoesWithFiles.waiting is)) = none_waits q plain g.ways removable.entry is
+    never_goes (MayGo.with_purge purges c listed from (GoesWithPurge.conffile is)) = not_purged q g.ways g.before.lists g.name owned c (purged_named c listed from) is
     never_goes (MayGo.with_purge purges c listed from (GoesWithPurge.directory is)) = not_leaving_of c (purged_named c listed from) [] (entry_paths c.conffiles) listed is
 
   module _ (out : is_within home_path q ≡ false) (old now : World) (so_far : List Event) where
@@ -152,4 +151,4 @@ module _ (g : Given) (removable : IsRemovable g.extent g.before.records g.name) 
     removal_keeps (inl looks) = ap (λ (w : World). w q) looks.0
     removal_keeps (inr amid) =
         scripted (removal_left g removable old now so_far q out (inr amid))
-        ∙ changed_kept (has_other_owner g.entries g.before.lists g.name) (changes_of so_far) old (others_avoided g.name g.entries amid.stages g.before old so_far now amid.running) q owned
+        ∙ changed_kept (has_other_owner g.ways g.before.lists g.name) (changes_of so_far) old (others_avoided g.name g.ways amid.stages g.before old so_far now amid.running) q owned

@@ -13,8 +13,7 @@ use Rattle.std.proofs.lemmas.Slice.Eq.{bytes_eq-Decides}
 use Rattle.host_core.specs.Paths.{Path, is_named_by, is_own, reserved_suffixes}
 use Rattle.host_core.specs.World.{World, Avoids, is_kept}
 use Rattle.host_core.specs.Events.{Event, changes_of}
-use Rattle.diversions.specs.Places.{place}
-use Rattle.diversions.specs.declared.entry.Diversion.{Diversion}
+use Rattle.diversions.specs.Ways.{place, Ways}
 use Rattle.file_lists.specs.Owners.{listed, owners_of, places_in, has_other_owner}
 use Rattle.file_lists.specs.Writing.{package_list, with_list}
 use Rattle.file_lists.specs.declared.paths.Listed.{Listed}
@@ -28,7 +27,7 @@ both_false : (a b : Bool) → a ≡ false → b ≡ false → a || b ≡ false
 both_false true b first second = absurd (true≢false first)
 both_false false b first second = second
 
-module _ (entries : List Diversion) (name : List ℕ) (at : Path) where
+module _ (ways : Ways) (name : List ℕ) (at : Path) where
   abbrev IsOther : Listed → Bool
   IsOther owner = not (bytes_eq owner.name name)
 
@@ -37,35 +36,35 @@ module _ (entries : List Diversion) (name : List ℕ) (at : Path) where
   own_none n is [] = refl
   own_none n is (p ∷ paths) = both_false (not (bytes_eq n name)) (list_any IsOther (map (listed n) paths)) (ap not is) (own_none n is paths)
 
-  one_more : (l : PackageList) (ls : List PackageList) → has_other_owner entries (l ∷ ls) name at ≡ (list_any IsOther (map (listed l.name) (filter (λ path. bytes_eq (place entries l.name path) at) l.paths)) || has_other_owner entries ls name at)
-  one_more l ls = list_any-append IsOther (map (listed l.name) (filter (λ path. bytes_eq (place entries l.name path) at) l.paths)) (owners_of entries ls at)
+  one_more : (l : PackageList) (ls : List PackageList) → has_other_owner ways (l ∷ ls) name at ≡ (list_any IsOther (map (listed l.name) (filter (λ path. bytes_eq (place ways l.name path) at) l.paths)) || has_other_owner ways ls name at)
+  one_more l ls = list_any-append IsOther (map (listed l.name) (filter (λ path. bytes_eq (place ways l.name path) at) l.paths)) (owners_of ways ls at)
 
-  own_more : (n : List ℕ) (paths : List Path) (ls : List PackageList) → bytes_eq n name ≡ true → has_other_owner entries (package_list n paths ∷ ls) name at ≡ has_other_owner entries ls name at
+  own_more : (n : List ℕ) (paths : List Path) (ls : List PackageList) → bytes_eq n name ≡ true → has_other_owner ways (package_list n paths ∷ ls) name at ≡ has_other_owner ways ls name at
   own_more n paths ls is =
       one_more (package_list n paths) ls
-      ∙ ap (λ b. b || has_other_owner entries ls name at) (own_none n is (filter (λ path. bytes_eq (place entries n path) at) paths))
+      ∙ ap (λ b. b || has_other_owner ways ls name at) (own_none n is (filter (λ path. bytes_eq (place ways n path) at) paths))
 
   -- the other owners are the same, whatever the package itself lists
-  pub with_owner : (paths : List Path) (ls : List PackageList) → has_other_owner entries (with_list name paths ls) name at ≡ has_other_owner entries ls name at
+  pub with_owner : (paths : List Path) (ls : List PackageList) → has_other_owner ways (with_list name paths ls) name at ≡ has_other_owner ways ls name at
   with_owner paths [] = own_more name paths [] ((bytes_eq-Decides name name).1 refl)
   with_owner paths (l ∷ ls) = by (slice_cmp nat_cmp name l.name) refl (with_owner paths ls)
     where
-      by : (o : Ordering) → slice_cmp nat_cmp name l.name ≡ o → has_other_owner entries (with_list name paths ls) name at ≡ has_other_owner entries ls name at
-          → has_other_owner entries (match_ordering o (package_list name paths ∷ l ∷ ls) (package_list name paths ∷ ls) (l ∷ with_list name paths ls)) name at ≡ has_other_owner entries (l ∷ ls) name at
+      by : (o : Ordering) → slice_cmp nat_cmp name l.name ≡ o → has_other_owner ways (with_list name paths ls) name at ≡ has_other_owner ways ls name at
+          → has_other_owner ways (match_ordering o (package_list name paths ∷ l ∷ ls) (package_list name paths ∷ ls) (l ∷ with_list name paths ls)) name at ≡ has_other_owner ways (l ∷ ls) name at
       by Less e rest = own_more name paths (l ∷ ls) ((bytes_eq-Decides name name).1 refl)
       by Equal e rest =
           own_more name paths ls ((bytes_eq-Decides name name).1 refl)
           ∙ sym (own_more l.name l.paths ls ((bytes_eq-Decides l.name name).1 (sym (exact_bytes name l.name e))))
       by Greater e rest =
           one_more l (with_list name paths ls)
-          ∙ ap (λ b. list_any IsOther (map (listed l.name) (filter (λ path. bytes_eq (place entries l.name path) at) l.paths)) || b) rest
+          ∙ ap (λ b. list_any IsOther (map (listed l.name) (filter (λ path. bytes_eq (place ways l.name path) at) l.paths)) || b) rest
           ∙ sym (one_more l ls)
 
   -- a place with an owner is kept
 
-  named_here : (n : List ℕ) (paths : List Path) → list_any IsOther (map (listed n) (filter (λ path. bytes_eq (place entries n path) at) paths)) ≡ true → list_any (is_named_by at) (map (place entries n) paths) ≡ true
+  named_here : (n : List ℕ) (paths : List Path) → list_any IsOther (map (listed n) (filter (λ path. bytes_eq (place ways n path) at) paths)) ≡ true → list_any (is_named_by at) (map (place ways n) paths) ≡ true
   named_here n [] any = any
-  named_here n (p ∷ paths) any = by (bytes_eq (place entries n p) at) refl (named_here n paths) any
+  named_here n (p ∷ paths) any = by (bytes_eq (place ways n p) at) refl (named_here n paths) any
     where
       first : (a b : Bool) → a ≡ true → a || b ≡ true
       first true b is = refl
@@ -75,40 +74,40 @@ module _ (entries : List Diversion) (name : List ℕ) (at : Path) where
       later true b is = refl
       later false b is = is
 
-      by : (b : Bool) → bytes_eq (place entries n p) at ≡ b → (list_any IsOther (map (listed n) (filter (λ path. bytes_eq (place entries n path) at) paths)) ≡ true → list_any (is_named_by at) (map (place entries n) paths) ≡ true) → list_any IsOther (map (listed n) (cond b (p ∷ filter (λ path. bytes_eq (place entries n path) at) paths) (filter (λ path. bytes_eq (place entries n path) at) paths))) ≡ true
-          → is_named_by at (place entries n p) || list_any (is_named_by at) (map (place entries n) paths) ≡ true
+      by : (b : Bool) → bytes_eq (place ways n p) at ≡ b → (list_any IsOther (map (listed n) (filter (λ path. bytes_eq (place ways n path) at) paths)) ≡ true → list_any (is_named_by at) (map (place ways n) paths) ≡ true) → list_any IsOther (map (listed n) (cond b (p ∷ filter (λ path. bytes_eq (place ways n path) at) paths) (filter (λ path. bytes_eq (place ways n path) at) paths))) ≡ true
+          → is_named_by at (place ways n p) || list_any (is_named_by at) (map (place ways n) paths) ≡ true
       by true is rest some =
-          first (is_named_by at (place entries n p)) (list_any (is_named_by at) (map (place entries n) paths))
-          (first (bytes_eq at (place entries n p)) (list_any (λ suffix. bytes_eq at (place entries n p ++ suffix)) reserved_suffixes) ((bytes_eq-Decides at (place entries n p)).1 (sym ((bytes_eq-Decides (place entries n p) at).0 is))))
-      by false is rest some = later (is_named_by at (place entries n p)) (list_any (is_named_by at) (map (place entries n) paths)) (rest some)
+          first (is_named_by at (place ways n p)) (list_any (is_named_by at) (map (place ways n) paths))
+          (first (bytes_eq at (place ways n p)) (list_any (λ suffix. bytes_eq at (place ways n p ++ suffix)) reserved_suffixes) ((bytes_eq-Decides at (place ways n p)).1 (sym ((bytes_eq-Decides (place ways n p) at).0 is))))
+      by false is rest some = later (is_named_by at (place ways n p)) (list_any (is_named_by at) (map (place ways n) paths)) (rest some)
 
-  named_in : (ls : List PackageList) → has_other_owner entries ls name at ≡ true → list_any (is_named_by at) (places_in entries ls) ≡ true
+  named_in : (ls : List PackageList) → has_other_owner ways ls name at ≡ true → list_any (is_named_by at) (places_in ways ls) ≡ true
   named_in [] any = any
   named_in (l ∷ ls) any =
-      list_any-append (is_named_by at) (map (place entries l.name) l.paths) (places_in entries ls)
-      ∙ either (list_any IsOther (map (listed l.name) (filter (λ path. bytes_eq (place entries l.name path) at) l.paths))) (has_other_owner entries ls name at) (sym (one_more l ls) ∙ any) (named_here l.name l.paths) (named_in ls)
+      list_any-append (is_named_by at) (map (place ways l.name) l.paths) (places_in ways ls)
+      ∙ either (list_any IsOther (map (listed l.name) (filter (λ path. bytes_eq (place ways l.name path) at) l.paths))) (has_other_owner ways ls name at) (sym (one_more l ls) ∙ any) (named_here l.name l.paths) (named_in ls)
     where
-      either : (a b : Bool) → a || b ≡ true → (a ≡ true → list_any (is_named_by at) (map (place entries l.name) l.paths) ≡ true) → (b ≡ true → list_any (is_named_by at) (places_in entries ls) ≡ true)
-          → list_any (is_named_by at) (map (place entries l.name) l.paths) || list_any (is_named_by at) (places_in entries ls) ≡ true
-      either true b is first second = ap (λ c. c || list_any (is_named_by at) (places_in entries ls)) (first refl)
-      either false b is first second = by (list_any (is_named_by at) (map (place entries l.name) l.paths)) (second is)
+      either : (a b : Bool) → a || b ≡ true → (a ≡ true → list_any (is_named_by at) (map (place ways l.name) l.paths) ≡ true) → (b ≡ true → list_any (is_named_by at) (places_in ways ls) ≡ true)
+          → list_any (is_named_by at) (map (place ways l.name) l.paths) || list_any (is_named_by at) (places_in ways ls) ≡ true
+      either true b is first second = ap (λ c. c || list_any (is_named_by at) (places_in ways ls)) (first refl)
+      either false b is first second = by (list_any (is_named_by at) (map (place ways l.name) l.paths)) (second is)
         where
-          by : (c : Bool) → list_any (is_named_by at) (places_in entries ls) ≡ true → c || list_any (is_named_by at) (places_in entries ls) ≡ true
+          by : (c : Bool) → list_any (is_named_by at) (places_in ways ls) ≡ true → c || list_any (is_named_by at) (places_in ways ls) ≡ true
           by true there = refl
           by false there = there
 
-  pub owner_kept : (ls : List PackageList) → has_other_owner entries ls name at ≡ true → is_kept (places_in entries ls) at ≡ true
+  pub owner_kept : (ls : List PackageList) → has_other_owner ways ls name at ≡ true → is_kept (places_in ways ls) at ≡ true
   owner_kept ls any = by (is_own at) (named_in ls any)
     where
-      by : (b : Bool) → list_any (is_named_by at) (places_in entries ls) ≡ true → b || list_any (is_named_by at) (places_in entries ls) ≡ true
+      by : (b : Bool) → list_any (is_named_by at) (places_in ways ls) ≡ true → b || list_any (is_named_by at) (places_in ways ls) ≡ true
       by true there = refl
       by false there = there
 
 -- the calls of a run leave such places alone
-pub others_avoided : (name : List ℕ) (entries : List Diversion) (stages : List Stage) (h : Holding) (old : World) (so_far : List Event) (now : World) → AreRunning name entries stages h old so_far now → Avoids (has_other_owner entries h.lists name) (changes_of so_far)
-others_avoided name entries stages h old so_far now running =
-    stages_avoid name entries (has_other_owner entries h.lists name)
-    (λ (ls : List PackageList). (q : Path) → has_other_owner entries ls name q ≡ has_other_owner entries h.lists name q)
-    (λ ls same q is. owner_kept entries name q ls (same q ∙ is))
-    (λ paths ls same q. with_owner entries name q paths ls ∙ same q)
+pub others_avoided : (name : List ℕ) (ways : Ways) (stages : List Stage) (h : Holding) (old : World) (so_far : List Event) (now : World) → AreRunning name ways stages h old so_far now → Avoids (has_other_owner ways h.lists name) (changes_of so_far)
+others_avoided name ways stages h old so_far now running =
+    stages_avoid name ways (has_other_owner ways h.lists name)
+    (λ (ls : List PackageList). (q : Path) → has_other_owner ways ls name q ≡ has_other_owner ways h.lists name q)
+    (λ ls same q is. owner_kept ways name q ls (same q ∙ is))
+    (λ paths ls same q. with_owner ways name q paths ls ∙ same q)
     stages h old so_far now (λ q. refl) running

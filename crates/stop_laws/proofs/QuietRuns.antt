@@ -7,7 +7,7 @@ use Rattle.host_core.specs.Events.{Event, Ran, changes_of}
 use Rattle.host_core.specs.Host.{Calls, State, finished}
 use Rattle.host_core.proofs.Scripts.{Avoids-append, changed-append, changes_of-append, no_change, silent_added}
 use Rattle.host_core.specs.declared.call.Call.{Call}
-use Rattle.diversions.specs.declared.entry.Diversion.{Diversion}
+use Rattle.diversions.specs.Ways.{Ways}
 use Rattle.undo_rows.specs.declared.rows.Called.{Called}
 use Rattle.undo_rows.specs.declared.rows.Owner.{Owner}
 use Rattle.undo_rows.specs.declared.rows.Row.{Row}
@@ -38,13 +38,13 @@ scripts_then kept a b c first second = record {
 no_scripts : (kept : Path → Bool) (s : State) → RanScripts kept s s
 no_scripts kept s = record { added = []; events = sym (append-nil s.events); world = refl; avoids = tt }
 
-module _ (name : List ℕ) (entries : List Diversion) (kept : Path → Bool) (h : Holding) (keeps : (q : Path) → kept q ≡ true → kept_by entries h q ≡ true) where
-  calls_ran : (ts : List Ran) (s t : State) → Calls (kept_by entries h) ts s t → IsTrue t.honest → RanScripts kept s t
+module _ (name : List ℕ) (ways : Ways) (kept : Path → Bool) (h : Holding) (keeps : (q : Path) → kept q ≡ true → kept_by ways h q ≡ true) where
+  calls_ran : (ts : List Ran) (s t : State) → Calls (kept_by ways h) ts s t → IsTrue t.honest → RanScripts kept s t
   calls_ran ts s t made honest = record {
     added = finished ts;
     events = made.goes.events;
     world = made.goes.world ∙ follow_finished ts s.world;
-    avoids = avoids_less kept (kept_by entries h) keeps (changes_of (finished ts)) (made.avoids honest);
+    avoids = avoids_less kept (kept_by ways h) keeps (changes_of (finished ts)) (made.avoids honest);
   }
 
   parts_ran : (parts : List Part) → parts ≡ [] → (s t : State) → DoesParts name parts h s t → IsTrue t.honest → RanScripts kept s t
@@ -57,37 +57,37 @@ module _ (name : List ℕ) (entries : List Diversion) (kept : Path → Bool) (h 
         avoids = subst (Avoids kept) (sym quiet) tt;
       }
 
-  restored_ran : (owners : List Owner) (restore : List Part) → restore ≡ [] → (after : Holding) (s t : State) → HasRestored name entries owners restore h after s t → IsTrue t.honest → RanScripts kept s t
+  restored_ran : (owners : List Owner) (restore : List Part) → restore ≡ [] → (after : Holding) (s t : State) → HasRestored name ways owners restore h after s t → IsTrue t.honest → RanScripts kept s t
   restored_ran owners restore none after s t (HasRestored.restored all does is) honest = parts_ran restore none s t does honest
   restored_ran owners restore none after s t (HasRestored.left some same is) honest = subst (λ (x : State). RanScripts kept s x) (sym same) (no_scripts kept s)
 
-  restored_honest : (owners : List Owner) (restore : List Part) (after : Holding) (s t : State) → HasRestored name entries owners restore h after s t → IsTrue t.honest → IsTrue s.honest
+  restored_honest : (owners : List Owner) (restore : List Part) (after : Holding) (s t : State) → HasRestored name ways owners restore h after s t → IsTrue t.honest → IsTrue s.honest
   restored_honest owners restore after s t (HasRestored.restored all does is) honest = does.silent.honest honest
   restored_honest owners restore after s t (HasRestored.left some same is) honest = subst (λ (x : State). IsTrue x.honest) same honest
 
-  undone_ran : (row : Row) (restore : List Part) → restore ≡ [] → (after : Holding) (s t : State) (told now : List Called) → HasUndone name entries row restore h after s t told now → IsTrue t.honest → RanScripts kept s t
+  undone_ran : (row : Row) (restore : List Part) → restore ≡ [] → (after : Holding) (s t : State) (told now : List Called) → HasUndone name ways row restore h after s t told now → IsTrue t.honest → RanScripts kept s t
   undone_ran row restore none after s t told now undone honest =
       scripts_then kept s undone.undone t
       (calls_ran undone.undo.0 s undone.undone undone.undo.1 (restored_honest undone.owners restore after undone.undone t undone.restored honest))
       (restored_ran undone.owners restore none after undone.undone t undone.restored honest)
 
-  fallen_ran : (row : Row) (restore : List Part) → restore ≡ [] → (failed : Option Call) (after : Holding) (s t : State) (told now : List Called) → HasFallen name entries row restore failed h after s t told now → IsTrue t.honest → RanScripts kept s t
+  fallen_ran : (row : Row) (restore : List Part) → restore ≡ [] → (failed : Option Call) (after : Holding) (s t : State) (told now : List Called) → HasFallen name ways row restore failed h after s t told now → IsTrue t.honest → RanScripts kept s t
   fallen_ran row restore none failed after s t told now fell honest =
       scripts_then kept s fell.tried t
-      (calls_ran fell.calls.0 s fell.tried fell.calls.1 ((undone_later name entries row restore h after fell.tried t fell.so_far now fell.undo).honest honest))
+      (calls_ran fell.calls.0 s fell.tried fell.calls.1 ((undone_later name ways row restore h after fell.tried t fell.so_far now fell.undo).honest honest))
       (undone_ran row restore none after fell.tried t fell.so_far now fell.undo honest)
 
   -- the run of a stage without parts
-  pub quiet_ran : (stage : Stage) → stage.parts.items ≡ [] → stage.restore.items ≡ [] → (failed : Option Call) (after : Holding) (s t : State) (told now : List Called) → HaveRun name entries (stage ∷ []) failed h after s t told now → IsTrue t.honest → RanScripts kept s t
+  pub quiet_ran : (stage : Stage) → stage.parts.items ≡ [] → stage.restore.items ≡ [] → (failed : Option Call) (after : Holding) (s t : State) (told now : List Called) → HaveRun name ways (stage ∷ []) failed h after s t told now → IsTrue t.honest → RanScripts kept s t
   quiet_ran stage no_parts no_restore failed after s t told now (inl passed) honest =
       let one = passed.passed in
       let here = subst (λ (x : State). IsTrue x.honest) passed.further.2 honest in
-      let calls = subst (λ (g : Holding). Calls (kept_by entries g) one.calls.0 one.ready passed.mid) (ap (λ (ps : List Part). after_parts name ps h) no_parts) one.calls.1 in
+      let calls = subst (λ (g : Holding). Calls (kept_by ways g) one.calls.0 one.ready passed.mid) (ap (λ (ps : List Part). after_parts name ps h) no_parts) one.calls.1 in
       subst (λ (x : State). RanScripts kept s x) (sym passed.further.2)
       (scripts_then kept s one.ready passed.mid (parts_ran stage.parts.items no_parts s one.ready one.parts (calls.goes.honest here)) (calls_ran one.calls.0 one.ready passed.mid calls here))
   quiet_ran stage no_parts no_restore failed after s t told now (inr failing) honest =
-      let fell = subst (λ (g : Holding). HasFallen name entries stage.row stage.restore.items failed g after failing.ready t told now) (ap (λ (ps : List Part). after_parts name ps h) no_parts) failing.fell in
-      let tried = (undone_later name entries stage.row stage.restore.items h after fell.tried t fell.so_far now fell.undo).honest honest in
+      let fell = subst (λ (g : Holding). HasFallen name ways stage.row stage.restore.items failed g after failing.ready t told now) (ap (λ (ps : List Part). after_parts name ps h) no_parts) failing.fell in
+      let tried = (undone_later name ways stage.row stage.restore.items h after fell.tried t fell.so_far now fell.undo).honest honest in
       scripts_then kept s failing.ready t
       (parts_ran stage.parts.items no_parts s failing.ready failing.parts (fell.calls.1.goes.honest tried))
       (fallen_ran stage.row stage.restore.items no_restore failed after failing.ready t told now fell honest)

@@ -57,14 +57,14 @@ module _ (g : Given) (removable : IsRemovable g.extent g.before.records g.name) 
 
   -- the stages, where these scripts are stored and this list is to come
   abbrev pub stages_by : Stored → List Path → List Planned
-  stages_by stored to_come = removal_stages g.entries g.before.lists g.extent own stored to_come
+  stages_by stored to_come = removal_stages g.ways g.before.lists g.extent own stored to_come
 
   -- P holds of each deed of them
   module _ (P : Deed → Type 0) (stored : Stored) (to_come : List Path) (comes : IsToCome own stored to_come) where
-    pub of_each : OfEnds P g.entries g.before.lists own stored to_come → OfFiles P g.entries g.before.lists own stored to_come → (g.extent ≢ InFavour → OfPrerm P g.entries g.before.lists own stored to_come)
-        → (g.extent ≡ Purge → (c : Record) (listed : List Path) → IsPurgedFrom g own stored c listed → OfPurge P g.entries g.before.lists own stored to_come c listed) → AllIn P (stages_by stored to_come)
+    pub of_each : OfEnds P g.ways g.before.lists own stored to_come → OfFiles P g.ways g.before.lists own stored to_come → (g.extent ≢ InFavour → OfPrerm P g.ways g.before.lists own stored to_come)
+        → (g.extent ≡ Purge → (c : Record) (listed : List Path) → IsPurgedFrom g own stored c listed → OfPurge P g.ways g.before.lists own stored to_come c listed) → AllIn P (stages_by stored to_come)
     of_each ends files prerm purge =
-        removal_all P g.entries g.before.lists own stored to_come ends files g.extent removable.begins prerm
+        removal_all P g.ways g.before.lists own stored to_come ends files g.extent removable.begins prerm
         (λ is. purge is (config_files own) to_come (IsPurgedFrom.left refl comes))
         (λ is found. purge is own (paths_of g.before.lists own.name) (IsPurgedFrom.found found refl refl))
 
@@ -118,9 +118,9 @@ module _ (g : Given) (removable : IsRemovable g.extent g.before.records g.name) 
 
     -- places of the administration's directory: no path goes from there, no name is cleared
     module _ (q : Path) (V : Option Node → Type 0) (within : is_within home_path q ≡ true) (unnoted : is_record_place q ≡ false) where
-      no_leaving : (X : Type 0) (listed to_stay : List Path) (c : Record) → is_leaving_place (leaving_of g.entries g.before.lists c.name to_stay (entry_paths c.conffiles) listed) q ≡ true → X
+      no_leaving : (X : Type 0) (listed to_stay : List Path) (c : Record) → is_leaving_place (leaving_of g.ways g.before.lists c.name to_stay (entry_paths c.conffiles) listed) q ≡ true → X
       no_leaving X listed to_stay c is =
-          absurd (true≢false (sym is ∙ no_leaving_place (leaving_of g.entries g.before.lists c.name to_stay (entry_paths c.conffiles) listed) q (leaving_spares g.entries g.before.lists c.name to_stay (entry_paths c.conffiles) listed) within))
+          absurd (true≢false (sym is ∙ no_leaving_place (leaving_of g.ways g.before.lists c.name to_stay (entry_paths c.conffiles) listed) q (leaving_spares g.ways g.before.lists c.name to_stay (entry_paths c.conffiles) listed) within))
 
       no_name : (names : List Path) → AreElsewhere names → is_among names q ≡ true → V None
       no_name names elsewhere is = absurd (true≢false (sym is ∙ elsewhere q within))
@@ -131,16 +131,16 @@ module _ (g : Given) (removable : IsRemovable g.extent g.before.records g.name) 
           (record { left = unnoted; members = members; bare = listing [] (inl refl); unlisted = dropping; forgotten = unnoted })
           (record {
             losing = unnoted;
-            waiting = no_name (waiting_names g.entries own.name own.pending) (waiting_elsewhere g.entries own.name own.pending);
+            waiting = no_name (waiting_names g.ways own.name own.pending) (waiting_elsewhere g.ways own.name own.pending);
             files = no_leaving (V None × ⊥) (paths_of g.before.lists own.name) to_come own;
-            names = no_name (cleared_names g.entries g.before.lists own) (cleared_elsewhere g.entries g.before.lists own);
+            names = no_name (cleared_names g.ways g.before.lists own) (cleared_elsewhere g.ways g.before.lists own);
             listed = listing to_come (inr comes);
             lost = unnoted;
           })
           (λ favours. record { half = unnoted; before = unnoted })
           (λ purges c listed from. record {
             noted = unnoted;
-            names = no_name (purged_names g.entries g.before.lists c) (purged_elsewhere g.entries g.before.lists c);
+            names = no_name (purged_names g.ways g.before.lists c) (purged_elsewhere g.ways g.before.lists c);
             directories = no_leaving (V None) listed [] c;
           })
 
@@ -163,12 +163,12 @@ module _ (g : Given) (removable : IsRemovable g.extent g.before.records g.name) 
 
     pub amid_at : AmidStages g.name (IsDeniedIn so_far) (stages_by stored_then list_then) g.before.records old (changes_of so_far) now
     amid_at = subst (λ (ps : List Planned). AmidStages g.name (IsDeniedIn so_far) ps g.before.records old (changes_of so_far) now)
-        (amid.plan.plan.are ∙ ap (λ (e : Record). removal_stages g.entries g.before.lists g.extent e amid.plan.plan.stored list_then) entry_is
+        (amid.plan.plan.are ∙ ap (λ (e : Record). removal_stages g.ways g.before.lists g.extent e amid.plan.plan.stored list_then) entry_is
         ∙ ap (λ (s : Stored). stages_by s list_then) stored_is)
-        (stages_amid g.name (IsDeniedIn so_far) g.entries amid.stages g.before old so_far now (λ p is. is) amid.running)
+        (stages_amid g.name (IsDeniedIn so_far) g.ways amid.stages g.before old so_far now (λ p is. is) amid.running)
 
     pub avoided : Avoids is_own (changes_of so_far)
-    avoided = own_avoided g.name g.entries amid.stages g.before old so_far now amid.running
+    avoided = own_avoided g.name g.ways amid.stages g.before old so_far now amid.running
 
     records_amid : HasRecordsAmid g own stored_then now
     records_amid =

@@ -121,7 +121,7 @@ module _ (g : Given) (r : Record) (named : r.name ≡ g.name) (stored : Stored) 
       listing : (paths : List Path) → Sets g.name q V (Deed.Lists paths)
       listing paths = (outside_spare q out g.name, λ is. absurd (outside_list q out g.name is))
 
-      pub ends_outside : OfEnds (Sets g.name q V) g.entries g.before.lists r stored to_come
+      pub ends_outside : OfEnds (Sets g.name q V) g.ways g.before.lists r stored to_come
       ends_outside = record {
         left = outside_records q out;
         members = λ keep. inl (λ member is. outside_member q out g.name member);
@@ -136,9 +136,9 @@ module _ (g : Given) (r : Record) (named : r.name ≡ g.name) (stored : Stored) 
       abbrev Went : Path → Option Node → Type 0
       Went q there = GoesWithPurge g r stored c listed q × (there ≡ None)
 
-      purge_outside : (q : Path) (out : is_within home_path q ≡ false) → AllIn (Sets g.name q (Went q)) (purge_stages g.entries g.before.lists c stored listed)
+      purge_outside : (q : Path) (out : is_within home_path q ≡ false) → AllIn (Sets g.name q (Went q)) (purge_stages g.ways g.before.lists c stored listed)
       purge_outside q out =
-          purges_all (Sets g.name q (Went q)) g.entries g.before.lists c stored to_come
+          purges_all (Sets g.name q (Went q)) g.ways g.before.lists c stored to_come
           (record {
             left = outside_records q out;
             members = λ keep. inl (λ member is. outside_member q out g.name member);
@@ -153,8 +153,8 @@ module _ (g : Given) (r : Record) (named : r.name ≡ g.name) (stored : Stored) 
             directories = λ is. (GoesWithPurge.directory is, refl);
           })
 
-      purge_left : (rs : List Record) (start : World) (late : Change) (now : World) → AmidStages g.name declined (purge_stages g.entries g.before.lists c stored listed) rs start late now → (q : Path) → is_within home_path q ≡ false → IsLeft q (GoesWithPurge g r stored c listed q) late start now
-      purge_left rs start late now is q out = by (stages_set g.name q (Went q) declined (purge_stages g.entries g.before.lists c stored listed) rs start late now (purge_outside q out) is)
+      purge_left : (rs : List Record) (start : World) (late : Change) (now : World) → AmidStages g.name declined (purge_stages g.ways g.before.lists c stored listed) rs start late now → (q : Path) → is_within home_path q ≡ false → IsLeft q (GoesWithPurge g r stored c listed q) late start now
+      purge_left rs start late now is q out = by (stages_set g.name q (Went q) declined (purge_stages g.ways g.before.lists c stored listed) rs start late now (purge_outside q out) is)
         where
           by : IsSet g.name q (Went q) late start now → IsLeft q (GoesWithPurge g r stored c listed q) late start now
           by (IsSet.stood at) = IsLeft.stood at
@@ -164,10 +164,10 @@ module _ (g : Given) (r : Record) (named : r.name ≡ g.name) (stored : Stored) 
       Purged = IsPurgedRecord c
 
       -- the deeds behind its note
-      purge_notes : (first : List Record) → All (NotesOwn g.name first Purged) (last_stage g.entries g.before.lists c listed).parts
+      purge_notes : (first : List Record) → All (NotesOwn g.name first Purged) (last_stage g.ways g.before.lists c listed).parts
       purge_notes first = ((tt, tt), ((tt, tt), ((tt, tt), ((tt, tt), ((tt, inr refl), tt)))))
 
-      clear_notes : (first : List Record) → All (NotesOwn g.name first Purged) (Deed.Clears (purged_names g.entries g.before.lists c) ∷ [])
+      clear_notes : (first : List Record) → All (NotesOwn g.name first Purged) (Deed.Clears (purged_names g.ways g.before.lists c) ∷ [])
       clear_notes first = ((tt, tt), tt)
 
       noted_purged : (rs : List Record) → IsGood g.name (put_record (purged c) rs) Purged (put_record (purged c) rs)
@@ -177,7 +177,7 @@ module _ (g : Given) (r : Record) (named : r.name ≡ g.name) (stored : Stored) 
       abbrev Noting : List Record → World → Change → World → Type 0
       Noting rs start late now = (HasRecords now rs × IsScripted late start now) ⊎ IsRecorded g.name Purged now
 
-      purge_recorded : (rs : List Record) (start : World) (late : Change) (now : World) → AmidStages g.name declined (purge_stages g.entries g.before.lists c stored listed) rs start late now → Noting rs start late now
+      purge_recorded : (rs : List Record) (start : World) (late : Change) (now : World) → AmidStages g.name declined (purge_stages g.ways g.before.lists c stored listed) rs start late now → Noting rs start late now
       purge_recorded rs start late now (inl before) = inl (before.records, λ q out. ap (λ (x : World). x q) before.same ∙ ap (λ d. changed d start q) (sym before.none))
       purge_recorded rs start late now (inr (inl (IsInside.in_parts none (inl here)))) = elim here.records [
         | inl before ↦ inl (before, λ q out. here.may.rest q (outside_records q out) ∙ ap (λ d. changed d start q) (sym none))
@@ -185,16 +185,16 @@ module _ (g : Given) (r : Record) (named : r.name ≡ g.name) (stored : Stored) 
       ]
       purge_recorded rs start late now (inr (inl (IsInside.in_parts none (inr behind)))) =
           let then = put_record (purged c) rs in
-          inr (recorded Purged then now (amid_good g.name then Purged declined (Deed.Clears (purged_names g.entries g.before.lists c) ∷ []) then behind.mid now (clear_notes then) (noted_purged rs) behind.further))
+          inr (recorded Purged then now (amid_good g.name then Purged declined (Deed.Clears (purged_names g.ways g.before.lists c) ∷ []) then behind.mid now (clear_notes then) (noted_purged rs) behind.further))
       purge_recorded rs start late now (inr (inl (IsInside.in_calls ready done (IsCalled.on_calls same has)))) = inr (recorded_by Purged (put_record (purged c) rs) now has (inl (put_own (purged c) rs g.name c_named)))
       purge_recorded rs start late now (inr (inl (IsInside.in_calls ready done (IsCalled.on_restore called same over)))) = inr (recorded_by Purged (put_record (purged c) rs) now over.records (inl (put_own (purged c) rs g.name c_named)))
       purge_recorded rs start late now (inr (inr passed)) =
           let then = put_record (purged c) rs in
-          inr (recorded Purged then now (stages_good g.name then Purged declined (last_stage g.entries g.before.lists c listed ∷ []) then (changed passed.early passed.ready) passed.late now ((purge_notes then, tt), tt) (noted_purged rs) passed.further))
+          inr (recorded Purged then now (stages_good g.name then Purged declined (last_stage g.ways g.before.lists c listed ∷ []) then (changed passed.early passed.ready) passed.late now ((purge_notes then, tt), tt) (noted_purged rs) passed.further))
 
       -- behind what came before, from where a purge begins
       purge_steps : g.extent ≡ Purge → (early late : Change) (old start now : World) (rs : List Record) → HasBegunPurge g r stored declined old c listed early start → (HasRecords now rs → IsScripted late start now → IsAtStep g r stored declined old (early ++ late) now)
-          → AmidStages g.name declined (purge_stages g.entries g.before.lists c stored listed) rs start late now → IsAtStep g r stored declined old (early ++ late) now
+          → AmidStages g.name declined (purge_stages g.ways g.before.lists c stored listed) rs start late now → IsAtStep g r stored declined old (early ++ late) now
       purge_steps purges early late old start now rs begun still is = elim (purge_recorded rs start late now is) [
         | inl before ↦ still before.0 before.1
         | inr noted ↦ IsAtStep.purging purges c listed noted early late refl start begun (purge_left rs start late now is)
@@ -231,10 +231,10 @@ module _ (g : Given) (r : Record) (named : r.name ≡ g.name) (stored : Stored) 
           by (inr none) = absurd none
 
       gone_outside : (q : Path) (out : is_within home_path q ≡ false) → All (Sets g.name q (λ (there : Option Node). ⊥)) (gone_stage r).parts
-      gone_outside q out = gone_all (Sets g.name q (λ (there : Option Node). ⊥)) g.entries g.before.lists r stored to_come (ends_outside q out (λ (there : Option Node). ⊥))
+      gone_outside q out = gone_all (Sets g.name q (λ (there : Option Node). ⊥)) g.ways g.before.lists r stored to_come (ends_outside q out (λ (there : Option Node). ⊥))
 
       left_outside : (q : Path) (out : is_within home_path q ≡ false) → All (Sets g.name q (λ (there : Option Node). ⊥)) (left_stage r).parts
-      left_outside q out = left_all (Sets g.name q (λ (there : Option Node). ⊥)) g.entries g.before.lists r stored to_come (ends_outside q out (λ (there : Option Node). ⊥))
+      left_outside q out = left_all (Sets g.name q (λ (there : Option Node). ⊥)) g.ways g.before.lists r stored to_come (ends_outside q out (λ (there : Option Node). ⊥))
 
       gone_notes : (first : List Record) → All (NotesOwn g.name first Lost) (gone_stage r).parts
       gone_notes first = ((tt, tt), ((tt, tt), ((tt, tt), ((tt, inr (inr refl)), tt))))
@@ -271,14 +271,14 @@ module _ (g : Given) (r : Record) (named : r.name ≡ g.name) (stored : Stored) 
 
         -- from where its conffiles are all that is left
         behind_steps : (purge : Bool) → (purge ≡ true → g.extent ≡ Purge) → (rs : List Record) (late : Change) (now : World) → record_in rs g.name ≡ Some (config_files r)
-            → AmidStages g.name declined (cond purge (purge_stages g.entries g.before.lists (config_files r) stored to_come) []) rs start late now → IsAtStep g r stored declined old (early ++ late) now
+            → AmidStages g.name declined (cond purge (purge_stages g.ways g.before.lists (config_files r) stored to_come) []) rs start late now → IsAtStep g r stored declined old (early ++ late) now
         behind_steps true purges rs late now own is =
             purge_steps (config_files r) to_come named (purges refl) early late old start now rs (HasBegunPurge.left refl comes lost)
             (λ has scripted. still_lost late now (recorded_by Lost rs now has (inr (inl own))) scripted) is
         behind_steps false purges rs late now own before = before_lost rs late now (inr (inl own)) before
 
       left_steps : (purge : Bool) → (purge ≡ true → g.extent ≡ Purge) → (early : Change) (old start : World) → HasLost g r stored declined old early start → (rs : List Record) (late : Change) (now : World) → Lost (record_in rs g.name)
-          → AmidStages g.name declined (left_stage r ∷ cond purge (purge_stages g.entries g.before.lists (config_files r) stored to_come) []) rs start late now → IsAtStep g r stored declined old (early ++ late) now
+          → AmidStages g.name declined (left_stage r ∷ cond purge (purge_stages g.ways g.before.lists (config_files r) stored to_come) []) rs start late now → IsAtStep g r stored declined old (early ++ late) now
       left_steps purge purges early old start lost rs late now own (inl before) = before_lost early old start lost rs late now own before
       left_steps purge purges early old start lost rs late now own (inr (inl inside)) = inside_lost early old start lost (left_stage r) rs late now own (left_notes rs) refl left_outside inside
       left_steps purge purges early old start lost rs late now own (inr (inr passed)) =
@@ -289,14 +289,14 @@ module _ (g : Given) (r : Record) (named : r.name ≡ g.name) (stored : Stored) 
           (behind_steps (early ++ passed.early) old mid (lost_then early passed.early old start mid lost before) purge purges (deeds_records g.name (left_stage r).parts rs) passed.late now (put_own (config_files r) rs g.name named) passed.further)
 
       ends_steps : (at_once purge : Bool) → (purge ≡ true → g.extent ≡ Purge) → (early : Change) (old start : World) → HasLost g r stored declined old early start → (rs : List Record) (late : Change) (now : World) → Lost (record_in rs g.name)
-          → AmidStages g.name declined (cond at_once (gone_stage r ∷ []) (left_stage r ∷ cond purge (purge_stages g.entries g.before.lists (config_files r) stored to_come) [])) rs start late now → IsAtStep g r stored declined old (early ++ late) now
+          → AmidStages g.name declined (cond at_once (gone_stage r ∷ []) (left_stage r ∷ cond purge (purge_stages g.ways g.before.lists (config_files r) stored to_come) [])) rs start late now → IsAtStep g r stored declined old (early ++ late) now
       ends_steps true purge purges early old start lost rs late now own is = gone_steps early old start lost rs late now own is
       ends_steps false purge purges early old start lost rs late now own is = left_steps purge purges early old start lost rs late now own is
 
       -- with its files
 
       abbrev tail : List Deed
-      tail = Deed.Clears (waiting_names g.entries r.name r.pending) ∷ Deed.Removes (leaving_files g.entries g.before.lists r to_come) ∷ Deed.Clears (cleared_names g.entries g.before.lists r) ∷ Deed.Lists to_come ∷ Deed.Notes (without_files r) ∷ []
+      tail = Deed.Clears (waiting_names g.ways r.name r.pending) ∷ Deed.Removes (leaving_files g.ways g.before.lists r to_come) ∷ Deed.Clears (cleared_names g.ways g.before.lists r) ∷ Deed.Lists to_come ∷ Deed.Notes (without_files r) ∷ []
 
       abbrev With : Path → Option Node → Type 0
       With q there = GoesWithFiles g r stored q × (there ≡ None)
@@ -326,11 +326,11 @@ module _ (g : Given) (r : Record) (named : r.name ≡ g.name) (stored : Stored) 
         -- what waits went first, and then the paths
         record Removing (mid : World) : Type 0 where
           first : World
-          waiting : Done g.name declined (Deed.Clears (waiting_names g.entries r.name r.pending)) rs v first
-          paths : Done g.name declined (Deed.Removes (leaving_files g.entries g.before.lists r to_come)) rs first mid
+          waiting : Done g.name declined (Deed.Clears (waiting_names g.ways r.name r.pending)) rs v first
+          paths : Done g.name declined (Deed.Removes (leaving_files g.ways g.before.lists r to_come)) rs first mid
 
         abbrev Clearing : World → World → Type 0
-        Clearing mid gone = Done g.name declined (Deed.Clears (cleared_names g.entries g.before.lists r)) rs mid gone
+        Clearing mid gone = Done g.name declined (Deed.Clears (cleared_names g.ways g.before.lists r)) rs mid gone
 
         gone_by : (mid gone w : World) → Removing mid → Clearing mid gone → IsSame gone w → IsGoneBy v w
         gone_by mid gone w removed cleared since = record { gone = gone; files = record { to_come = to_come; comes = comes; first = removed.first; waiting = removed.waiting; mid = mid; removed = removed.paths; cleared = cleared }; since = since }
@@ -357,12 +357,12 @@ module _ (g : Given) (r : Record) (named : r.name ≡ g.name) (stored : Stored) 
         behind_names mid gone now removed cleared (inl here) = elim here.records [ inl is ↦ inl is | inr is ↦ inl is ]
         behind_names mid gone now removed cleared (inr behind) = behind_list mid gone behind.mid now removed cleared behind.done behind.further
 
-        behind_paths : (mid now : World) → Removing mid → Amid g.name declined (Deed.Clears (cleared_names g.entries g.before.lists r) ∷ Deed.Lists to_come ∷ Deed.Notes (without_files r) ∷ []) rs mid now → GoneBefore rs v now
+        behind_paths : (mid now : World) → Removing mid → Amid g.name declined (Deed.Clears (cleared_names g.ways g.before.lists r) ∷ Deed.Lists to_come ∷ Deed.Notes (without_files r) ∷ []) rs mid now → GoneBefore rs v now
         behind_paths mid now removed (inl here) = elim here.records [ inl is ↦ inl is | inr is ↦ inl is ]
         behind_paths mid now removed (inr behind) = behind_names mid behind.mid now removed behind.done behind.further
 
-        behind_waiting : (first now : World) → Done g.name declined (Deed.Clears (waiting_names g.entries r.name r.pending)) rs v first
-            → Amid g.name declined (Deed.Removes (leaving_files g.entries g.before.lists r to_come) ∷ Deed.Clears (cleared_names g.entries g.before.lists r) ∷ Deed.Lists to_come ∷ Deed.Notes (without_files r) ∷ []) rs first now → GoneBefore rs v now
+        behind_waiting : (first now : World) → Done g.name declined (Deed.Clears (waiting_names g.ways r.name r.pending)) rs v first
+            → Amid g.name declined (Deed.Removes (leaving_files g.ways g.before.lists r to_come) ∷ Deed.Clears (cleared_names g.ways g.before.lists r) ∷ Deed.Lists to_come ∷ Deed.Notes (without_files r) ∷ []) rs first now → GoneBefore rs v now
         behind_waiting first now waiting (inl here) = elim here.records [ inl is ↦ inl is | inr is ↦ inl is ]
         behind_waiting first now waiting (inr behind) = behind_paths behind.mid now (record { first = first; waiting = waiting; paths = behind.done }) behind.further
 
@@ -429,14 +429,14 @@ module _ (g : Given) (r : Record) (named : r.name ≡ g.name) (stored : Stored) 
         files_done : (ready : World) → AllDone g.name declined (Deed.Notes (losing_files r) ∷ tail) rs start ready → (now : World) (change : Change) → IsScripted change ready now → HasLost g r stored declined start change now
         files_done ready done now change then = lost_since start done.0 now change ready (noted_same (losing_files r) rs start done.0 done.1) (tail_done marked done.0 ready done.2) then
 
-        files_inside : (change : Change) (now : World) → Unmarked → IsInside g.name declined (files_stage g.entries g.before.lists r stored to_come) rs start change now → IsAtStep g r stored declined start change now
+        files_inside : (change : Change) (now : World) → Unmarked → IsInside g.name declined (files_stage g.ways g.before.lists r stored to_come) rs start change now → IsAtStep g r stored declined start change now
         files_inside change now own (IsInside.in_parts none amid) = subst (λ (c : Change). IsAtStep g r stored declined start c now) (sym none) (files_amid now own amid)
         files_inside change now own (IsInside.in_calls ready done (IsCalled.on_calls same has)) =
             IsAtStep.lost (recorded_by Lost (put_record (without_files r) marked) now has own_lost) (files_done ready done now change (λ q out. ap (λ (x : World). x q) same))
         files_inside change now own (IsInside.in_calls ready done (IsCalled.on_restore called same over)) =
             IsAtStep.lost (recorded_by Lost (put_record (without_files r) marked) now over.records own_lost) (files_done ready done now change (λ q out. ap (λ (x : World). x q) (over.same ∙ same)))
 
-        files_steps : (purge : Bool) → (purge ≡ true → g.extent ≡ Purge) → (change : Change) (now : World) → Unmarked → AmidStages g.name declined (files_stages g.entries g.before.lists r stored purge to_come) rs start change now → IsAtStep g r stored declined start change now
+        files_steps : (purge : Bool) → (purge ≡ true → g.extent ≡ Purge) → (change : Change) (now : World) → Unmarked → AmidStages g.name declined (files_stages g.ways g.before.lists r stored purge to_come) rs start change now → IsAtStep g r stored declined start change now
         files_steps purge purges change now own (inl before) =
             IsAtStep.begun (recorded_by (IsFirstRecord r) rs now before.records own) (λ q out. ap (λ (x : World). x q) before.same ∙ ap (λ d. changed d start q) (sym before.none))
         files_steps purge purges change now own (inr (inl inside)) = files_inside change now own inside
@@ -463,7 +463,7 @@ module _ (g : Given) (r : Record) (named : r.name ≡ g.name) (stored : Stored) 
           by (IsSet.left early late are mid has is) = absurd has
 
       prerm_steps : (rs : List Record) (old : World) (purge : Bool) → (purge ≡ true → g.extent ≡ Purge) → (change : Change) (now : World) → record_in rs g.name ≡ Some r
-          → AmidStages g.name declined (prerm_stage r stored ∷ files_stages g.entries g.before.lists r stored purge to_come) rs old change now → IsAtStep g r stored declined old change now
+          → AmidStages g.name declined (prerm_stage r stored ∷ files_stages g.ways g.before.lists r stored purge to_come) rs old change now → IsAtStep g r stored declined old change now
       prerm_steps rs old purge purges change now own (inl before) =
           IsAtStep.begun (recorded_by (IsFirstRecord r) rs now before.records (inl own)) (λ q out. ap (λ (x : World). x q) before.same ∙ ap (λ d. changed d old q) (sym before.none))
       prerm_steps rs old purge purges change now own (inr (inl inside)) =
@@ -479,13 +479,13 @@ module _ (g : Given) (r : Record) (named : r.name ≡ g.name) (stored : Stored) 
           (files_steps (put_record (half_configured r) rs) mid purge purges passed.late now (inr (put_own (half_configured r) rs g.name named)) passed.further))
 
       found_steps : g.extent ≡ Purge → r.state ≡ state.ConfigFiles → (rs : List Record) (old : World) (change : Change) (now : World) → record_in rs g.name ≡ Some r
-          → AmidStages g.name declined (purge_stages g.entries g.before.lists r stored (paths_of g.before.lists r.name)) rs old change now → IsAtStep g r stored declined old change now
+          → AmidStages g.name declined (purge_stages g.ways g.before.lists r stored (paths_of g.before.lists r.name)) rs old change now → IsAtStep g r stored declined old change now
       found_steps purges removed rs old change now own is =
           purge_steps r (paths_of g.before.lists r.name) named purges [] change old old now rs (HasBegunPurge.found removed refl refl (λ q out. refl))
           (λ has scripted. IsAtStep.begun (recorded_by (IsFirstRecord r) rs now has (inl own)) scripted) is
 
       module _ (rs : List Record) (old : World) (change : Change) (now : World) (found : record_in rs g.name ≡ Some r) where
-        from_steps : (s : State) → r.state ≡ s → (purge : Bool) → (purge ≡ true → g.extent ≡ Purge) → (r.state ≡ state.ConfigFiles → g.extent ≡ Purge) → AmidStages g.name declined (stages_from g.entries g.before.lists s r stored purge to_come) rs old change now → IsAtStep g r stored declined old change now
+        from_steps : (s : State) → r.state ≡ s → (purge : Bool) → (purge ≡ true → g.extent ≡ Purge) → (r.state ≡ state.ConfigFiles → g.extent ≡ Purge) → AmidStages g.name declined (stages_from g.ways g.before.lists s r stored purge to_come) rs old change now → IsAtStep g r stored declined old change now
         from_steps state.NotInstalled at purge purges removed is = files_steps rs old purge purges change now (inl found) is
         from_steps state.ConfigFiles at purge purges removed is = found_steps (removed at) at rs old change now found is
         from_steps state.HalfInstalled at purge purges removed is = files_steps rs old purge purges change now (inl found) is
@@ -496,7 +496,7 @@ module _ (g : Given) (r : Record) (named : r.name ≡ g.name) (stored : Stored) 
         never : {X : Type 0} → false ≡ true → X
         never e = absurd (true≢false (sym e))
 
-        pub extent_steps : (extent : Extent) → g.extent ≡ extent → BeginsFrom extent r.state → AmidStages g.name declined (removal_stages g.entries g.before.lists extent r stored to_come) rs old change now → IsAtStep g r stored declined old change now
+        pub extent_steps : (extent : Extent) → g.extent ≡ extent → BeginsFrom extent r.state → AmidStages g.name declined (removal_stages g.ways g.before.lists extent r stored to_come) rs old change now → IsAtStep g r stored declined old change now
         extent_steps Remove at begins is = from_steps r.state refl false (λ e. never e) (λ e. absurd (begins e)) is
         extent_steps Purge at begins is = from_steps r.state refl true (λ e. at) (λ e. at) is
         extent_steps InFavour at begins is = files_steps rs old false (λ e. never e) change now (inl found) is

@@ -42,10 +42,10 @@ module _ (g : Given) (r : Record) (stored : Stored) (declined : Path → Type 0)
     pub to_come : List Path
     pub comes : IsToCome r stored to_come
     pub first : World
-    pub waiting : Cleared (waiting_names g.entries r.name r.pending) before first
+    pub waiting : Cleared (waiting_names g.ways r.name r.pending) before first
     pub mid : World
-    pub removed : Removed declined (leaving_files g.entries g.before.lists r to_come) first mid
-    pub cleared : Cleared (cleared_names g.entries g.before.lists r) mid gone
+    pub removed : Removed declined (leaving_files g.ways g.before.lists r to_come) first mid
+    pub cleared : Cleared (cleared_names g.ways g.before.lists r) mid gone
 
   module _ (old : World) where
     -- outside the administration's directory its files went at some time, and script calls alone changed what stands there before and

@@ -24,13 +24,13 @@ module _ (g : Given) (r : Record) (stored : Stored) where
   -- what goes with the files: a listed path, unless it is a conffile or its place is one to come or another package's; and what is left
   -- beside such paths, or waits to be settled
   pub data GoesWithFiles (q : Path) : Type 0 where
-    listed : (to_come : List Path) → IsToCome r stored to_come → is_leaving_place (leaving_files g.entries g.before.lists r to_come) q ≡ true → GoesWithFiles q
-    beside : is_among (cleared_names g.entries g.before.lists r) q ≡ true → GoesWithFiles q
-    waiting : is_among (waiting_names g.entries r.name r.pending) q ≡ true → GoesWithFiles q
+    listed : (to_come : List Path) → IsToCome r stored to_come → is_leaving_place (leaving_files g.ways g.before.lists r to_come) q ≡ true → GoesWithFiles q
+    beside : is_among (cleared_names g.ways g.before.lists r) q ≡ true → GoesWithFiles q
+    waiting : is_among (waiting_names g.ways r.name r.pending) q ≡ true → GoesWithFiles q
 
   -- a listed path that goes with the files
   abbrev pub IsListed : Path → Type 0
-  IsListed q = (to_come : List Path) × IsToCome r stored to_come × (is_leaving_place (leaving_files g.entries g.before.lists r to_come) q ≡ true)
+  IsListed q = (to_come : List Path) × IsToCome r stored to_come × (is_leaving_place (leaving_files g.ways g.before.lists r to_come) q ≡ true)
 
   -- with which record and list a purge begins: those that it finds of a removed package, or those that the removal left
   pub data IsPurgedFrom (c : Record) (listed : List Path) : Type 0 where
@@ -39,8 +39,8 @@ module _ (g : Given) (r : Record) (stored : Stored) where
 
   -- what goes with a purge from there: conffiles and the names beside them, and listed directories
   pub data GoesWithPurge (c : Record) (listed : List Path) (q : Path) : Type 0 where
-    conffile : is_among (purged_names g.entries g.before.lists c) q ≡ true → GoesWithPurge c listed q
-    directory : is_leaving_place (leaving_directories g.entries g.before.lists c listed) q ≡ true → GoesWithPurge c listed q
+    conffile : is_among (purged_names g.ways g.before.lists c) q ≡ true → GoesWithPurge c listed q
+    directory : is_leaving_place (leaving_directories g.ways g.before.lists c listed) q ≡ true → GoesWithPurge c listed q
 
   -- the unit may take away what stands there
   pub data MayGo (q : Path) : Type 0 where

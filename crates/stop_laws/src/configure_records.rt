@@ -44,7 +44,7 @@ pub fn what_configuring_leaves_at_each_moment()
     ensures paths { (g : Given) (r : ARecord) (old now : World) (so_far : List Event) (q : Path)
         → record_in g.before.records g.name ≡ Some r
         → is_below_administration q ≡ false
-        → is_settling_name r q ≡ false
+        → is_settling_name g.ways r q ≡ false
         → IsAmidUnit g old so_far now
         → now q ≡ changed (changes_of so_far) old q }
 {}

@@ -11,7 +11,7 @@ ghost use Rattle.status_records.specs.Records.{record_in};
 ghost use Rattle.status_records.specs.declared.record.Record.{Record as ARecord};
 ghost use Rattle.held_administration.specs.Order.{IsInOrder};
 ghost use Rattle.configure_engine.specs.Units.{Given, IsAmidUnit};
-ghost use Rattle.configure_engine.specs.Waiting.{pending_digest, settling_paths};
+ghost use Rattle.configure_engine.specs.Waiting.{pending_digest, place_of, settling_paths};
 ghost use Rattle.stop_laws.specs.Configuring.{IsAtStep};
 
 use conffiles::settling_again_ends_alike;
@@ -31,14 +31,15 @@ pub fn what_each_step_of_configuring_leaves()
         (first again : ADecision)
         → record_in g.before.records g.name ≡ Some r
         → changes_of so_far ≡ []
-        → Contains (settling_paths r) x
-        → IsShippedAs (pending_digest r.pending x) (files_at old x)
+        → Contains (settling_paths g.ways r) x
+        → IsShippedAs (pending_digest r.pending x) (files_at old (place_of g.ways x))
         → IsDecided (recorded_digest r.conffiles x) (pending_digest r.pending x) g.policy
-        (files_at old x) first
+        (files_at old (place_of g.ways x)) first
         → IsDecided (recorded_digest r.conffiles x) (pending_digest r.pending x) g.policy
-        (files_at now x) again
+        (files_at now (place_of g.ways x)) again
         → IsAmidUnit g old so_far now
-        → settled_files again (files_at now x) ≡ settled_files first (files_at old x) }
+        → settled_files again (files_at now (place_of g.ways x))
+        ≡ settled_files first (files_at old (place_of g.ways x)) }
 {
     settling_again_ends_alike();
 }

@@ -17,7 +17,7 @@ ghost use Rattle.stop_laws.specs.Configuring.{is_settling_name};
 pub fn what_stands_at_places_of_other_packages()
     ensures removing { (g : Removing) (removable : IsRemovable g.extent g.before.records g.name)
         (old now : World) (so_far : List Event) (q : Path)
-        → has_other_owner g.entries g.before.lists g.name q ≡ true
+        → has_other_owner g.ways g.before.lists g.name q ≡ true
         → has_reserved_suffix q ≡ false
         → is_within home_path q ≡ false
         → IsAmidRemoving g old so_far now
@@ -25,8 +25,8 @@ pub fn what_stands_at_places_of_other_packages()
     ensures configuring { (g : Configuring) (r : ARecord) (old now : World) (so_far : List Event)
         (q : Path)
         → record_in g.before.records g.name ≡ Some r
-        → has_other_owner g.entries g.before.lists g.name q ≡ true
-        → is_settling_name r q ≡ false
+        → has_other_owner g.ways g.before.lists g.name q ≡ true
+        → is_settling_name g.ways r q ≡ false
         → is_below_administration q ≡ false
         → IsAmidConfiguring g old so_far now
         → now q ≡ old q }

@@ -31,7 +31,7 @@ run_stages-requires-clause-fit g c =
     let ls = c.args.administration.now.lists.lists in
     let found : record_in rs name ≡ Some r = sym c.get.ensures ∙ ap option_copied c.unwrap-entry.ensures in
     let plan = c.in-Ok.ensures.planned in
-    stages_fit r name (is_named rs name r found) plan.decisions plan.paths plan.stored c.in-Ok.stages.items rs ls found c.law.ensures c.settling_order.ensures
+    stages_fit r name (is_named rs name r found) c.args.diversions.now.ways plan.decisions plan.paths plan.stored c.in-Ok.stages.items rs ls found c.law.ensures
     (subst (λ (l : List Path). AreConfigureStages r l plan.decisions plan.stored c.in-Ok.stages.items) c.list_of.ensures plan.stages_are)
 
 pub run_stages-requires-clause-settleable : goal.run_stages-requires-clause-settleable
@@ -43,30 +43,30 @@ run_stages-requires-clause-settleable g c = λ h.
     let plan = c.in-Ok.ensures.planned in
     let old = g.H.Host.state c.args.host.now in
     subst (λ (w : World). AreStagesSettleable c.in-Ok.stages.items w) (sym c.plan.ensures.reads.world)
-    (stages_settleable r name (is_named rs name r found) plan.decisions plan.paths plan.stored c.in-Ok.stages.items c.list_of.result.now plan.stages_are old.world (c.requires.clear (c.plan.ensures.silent.honest h) r found))
+    (stages_settleable r name (is_named rs name r found) c.args.diversions.now.ways plan.decisions plan.paths plan.stored c.in-Ok.stages.items c.list_of.result.now plan.stages_are old.world (c.requires.clear (c.plan.ensures.silent.honest h) r found))
 
 pub returns-in-Ok-clause-unit : goal.returns-in-Ok-clause-unit
 returns-in-Ok-clause-unit g c =
     let r = c.unwrap-entry.result.now in
     let name = c.args.name.now in
-    let entries = c.args.diversions.now.entries in
+    let ways = c.args.diversions.now.ways in
     let before = holding_of c.args.administration.now in
     let after = holding_of c.run_stages.new.administration in
-    let G = given name c.args.policy entries before in
+    let G = given name c.args.policy ways before in
     let old = g.H.Host.state c.args.host.now in
     let mid = g.H.Host.state c.plan.new.host in
     let new = g.H.Host.state c.run_stages.new.host in
     let stages = c.in-Ok.stages.items in
     let found : record_in c.args.administration.now.database.records name ≡ Some r = sym c.get.ensures ∙ ap option_copied c.unwrap-entry.ensures in
-    let plan : IsPlanOf G old.world mid.honest stages = record { entry = r; found = found; plan = subst (λ (l : List Path). IsPlanFor r c.args.policy l old.world mid.honest stages) c.list_of.ensures c.in-Ok.ensures.planned } in
-    if_ok_one c.run_stages.result (λ failed. HaveRun name entries stages failed before after mid new c.args.told.now.items c.run_stages.new.told.items) (λ failed. HasConfigured G failed after old new c.args.told.now.items c.run_stages.new.told.items)
+    let plan : IsPlanOf G old.world mid.honest stages = record { entry = r; found = found; plan = subst (λ (l : List Path). IsPlanFor r c.args.policy c.args.diversions.now.ways l old.world mid.honest stages) c.list_of.ensures c.in-Ok.ensures.planned } in
+    if_ok_one c.run_stages.result (λ failed. HaveRun name ways stages failed before after mid new c.args.told.now.items c.run_stages.new.told.items) (λ failed. HasConfigured G failed after old new c.args.told.now.items c.run_stages.new.told.items)
     (λ failed run. configured_by old mid c.plan.ensures.reads c.plan.ensures.silent G stages plan new c.run_stages.ensures.any_moment.honest c.args.told.now.items c.run_stages.new.told.items failed after run) c.run_stages.ensures.ran
 
 pub returns-in-Ok-clause-end : goal.returns-in-Ok-clause-end
 returns-in-Ok-clause-end g c =
     let r = c.unwrap-entry.result.now in
     let name = c.args.name.now in
-    let entries = c.args.diversions.now.entries in
+    let ways = c.args.diversions.now.ways in
     let before = holding_of c.args.administration.now in
     let after = holding_of c.run_stages.new.administration in
     let mid = g.H.Host.state c.plan.new.host in
@@ -74,43 +74,43 @@ returns-in-Ok-clause-end g c =
     let stages = c.in-Ok.stages.items in
     let found : record_in c.args.administration.now.database.records name ≡ Some r = sym c.get.ensures ∙ ap option_copied c.unwrap-entry.ensures in
     let plan = c.in-Ok.ensures.planned in
-    if_ok_one c.run_stages.result (λ failed. HaveRun name entries stages failed before after mid new c.args.told.now.items c.run_stages.new.told.items) (λ failed. HasEnded name failed c.args.administration.now.database.records c.run_stages.new.administration.database.records)
-    (λ failed run. has_ended r name (is_named c.args.administration.now.database.records name r found) plan.decisions plan.paths plan.stored stages c.list_of.result.now plan.stages_are before found entries failed after mid new c.args.told.now.items c.run_stages.new.told.items run)
+    if_ok_one c.run_stages.result (λ failed. HaveRun name ways stages failed before after mid new c.args.told.now.items c.run_stages.new.told.items) (λ failed. HasEnded name failed c.args.administration.now.database.records c.run_stages.new.administration.database.records)
+    (λ failed run. has_ended r name (is_named c.args.administration.now.database.records name r found) ways plan.decisions plan.paths plan.stored stages c.list_of.result.now plan.stages_are before found failed after mid new c.args.told.now.items c.run_stages.new.told.items run)
     c.run_stages.ensures.ran
 
 pub returns-in-Ok-clause-told : goal.returns-in-Ok-clause-told
 returns-in-Ok-clause-told g c =
     let r = c.unwrap-entry.result.now in
     let name = c.args.name.now in
-    let entries = c.args.diversions.now.entries in
+    let ways = c.args.diversions.now.ways in
     let before = holding_of c.args.administration.now in
-    let G = given name c.args.policy entries before in
+    let G = given name c.args.policy ways before in
     let old = g.H.Host.state c.args.host.now in
     let mid = g.H.Host.state c.plan.new.host in
     let new = g.H.Host.state c.run_stages.new.host in
     let stages = c.in-Ok.stages.items in
     let found : record_in c.args.administration.now.database.records name ≡ Some r = sym c.get.ensures ∙ ap option_copied c.unwrap-entry.ensures in
-    let plan : IsPlanOf G old.world mid.honest stages = record { entry = r; found = found; plan = subst (λ (l : List Path). IsPlanFor r c.args.policy l old.world mid.honest stages) c.list_of.ensures c.in-Ok.ensures.planned } in
+    let plan : IsPlanOf G old.world mid.honest stages = record { entry = r; found = found; plan = subst (λ (l : List Path). IsPlanFor r c.args.policy c.args.diversions.now.ways l old.world mid.honest stages) c.list_of.ensures c.in-Ok.ensures.planned } in
     called_by old mid c.plan.ensures.reads c.plan.ensures.silent G stages plan new c.run_stages.ensures.any_moment.honest c.args.told.now.items c.run_stages.new.told.items c.run_stages.ensures.told
 
 pub returns-in-Ok-clause-any_moment : goal.returns-in-Ok-clause-any_moment
 returns-in-Ok-clause-any_moment g c =
     let r = c.unwrap-entry.result.now in
     let name = c.args.name.now in
-    let entries = c.args.diversions.now.entries in
+    let ways = c.args.diversions.now.ways in
     let before = holding_of c.args.administration.now in
-    let G = given name c.args.policy entries before in
+    let G = given name c.args.policy ways before in
     let old = g.H.Host.state c.args.host.now in
     let mid = g.H.Host.state c.plan.new.host in
     let new = g.H.Host.state c.run_stages.new.host in
     let stages = c.in-Ok.stages.items in
     let found : record_in c.args.administration.now.database.records name ≡ Some r = sym c.get.ensures ∙ ap option_copied c.unwrap-entry.ensures in
-    let plan : IsPlanOf G old.world mid.honest stages = record { entry = r; found = found; plan = subst (λ (l : List Path). IsPlanFor r c.args.policy l old.world mid.honest stages) c.list_of.ensures c.in-Ok.ensures.planned } in
+    let plan : IsPlanOf G old.world mid.honest stages = record { entry = r; found = found; plan = subst (λ (l : List Path). IsPlanFor r c.args.policy c.args.diversions.now.ways l old.world mid.honest stages) c.list_of.ensures c.in-Ok.ensures.planned } in
     unit_moments old mid c.plan.ensures.reads c.plan.ensures.silent G stages plan new c.run_stages.ensures.any_moment.honest c.in-Ok.ensures.counts.faults c.run_stages.ensures.any_moment
 
 pub returns-in-Err-clause-any_moment : goal.returns-in-Err-clause-any_moment
 returns-in-Err-clause-any_moment g c =
-    only_looked (g.H.Host.state c.args.host.now) (g.H.Host.state c.plan.new.host) c.plan.ensures.reads c.plan.ensures.silent (given c.args.name.now c.args.policy c.args.diversions.now.entries (holding_of c.args.administration.now))
+    only_looked (g.H.Host.state c.args.host.now) (g.H.Host.state c.plan.new.host) c.plan.ensures.reads c.plan.ensures.silent (given c.args.name.now c.args.policy c.args.diversions.now.ways (holding_of c.args.administration.now))
 
 pub returns-in-Ok-clause-apart : goal.returns-in-Ok-clause-apart
 returns-in-Ok-clause-apart g c =

@@ -15,7 +15,7 @@ returns-in-Ok-clause-unit g c =
       configured = disk_as _ _ _ _ _ _ _ _ c.new-calls.ensures.items c.answered.ensures.told c.in-Ok.ensures.unit;
       ended = c.in-Ok.ensures.end;
       order = c.in-Ok.ensures.order;
-      entries = refl;
+      ways = refl;
       answers = answers;
     }) c.answered.ensures.answer
 

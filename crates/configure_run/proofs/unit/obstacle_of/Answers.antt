@@ -3,7 +3,7 @@ use Rattle.std.specs.List.{All}
 use Rattle.conffiles.specs.Settling.{CanSettle}
 use Rattle.configure_engine.specs.Obstacles.{IsObstacle, names_of_all}
 use Rattle.configure_engine.specs.Units.{CanConfigure}
-use Rattle.configure_engine.specs.Waiting.{settling_paths}
+use Rattle.configure_engine.specs.Waiting.{settling_places}
 use Rattle.status_records.specs.Records.{record_in}
 use Rattle.configure_run.specs.Turns.{HasObstacle}
 use Rattle.configure_run.proofs.Units.{clear_is, obstacle_is, ok_so}
@@ -18,10 +18,11 @@ unreachable-requires g c =
 pub returns-clause-looks : goal.returns-clause-looks
 returns-clause-looks g c = record {
   found = λ honest.
+      let ways = c.args.diversions.now.ways in
       let w = (g.H.Host.state c.args.host.now).world in
       let entry = c.in-Some.entry.now in
-      ok_so c.obstacle.result (λ (found : Option (List ℕ)). IsObstacle w (names_of_all (settling_paths entry)) found) (λ found. HasObstacle c.args.database.now.records c.args.name.now w found)
-      (λ found is. obstacle_is c.args.database.now.records c.args.name.now w entry found c.in-Some.ensures is) (c.obstacle.ensures.looks.found honest);
+      ok_so c.obstacle.result (λ (found : Option (List ℕ)). IsObstacle w (names_of_all (settling_places ways entry)) found) (λ found. HasObstacle ways c.args.database.now.records c.args.name.now w found)
+      (λ found is. obstacle_is ways c.args.database.now.records c.args.name.now w entry found c.in-Some.ensures is) (c.obstacle.ensures.looks.found honest);
   reads = search rules;
   silent = search rules;
   counts = search rules;
@@ -29,7 +30,8 @@ returns-clause-looks g c = record {
 
 pub returns-clause-clear : goal.returns-clause-clear
 returns-clause-clear g c honest =
+    let ways = c.args.diversions.now.ways in
     let w = (g.H.Host.state c.args.host.now).world in
     let entry = c.in-Some.entry.now in
-    ok_so c.obstacle.result (λ (found : Option (List ℕ)). found ≡ None → All (λ x. CanSettle x w) (settling_paths entry)) (λ found. found ≡ None → CanConfigure c.args.database.now.records c.args.name.now w)
-    (λ found is none. clear_is c.args.database.now.records c.args.name.now w entry c.in-Some.ensures (is none)) (c.obstacle.ensures.clear honest)
+    ok_so c.obstacle.result (λ (found : Option (List ℕ)). found ≡ None → All (λ x. CanSettle x w) (settling_places ways entry)) (λ found. found ≡ None → CanConfigure ways c.args.database.now.records c.args.name.now w)
+    (λ found is none. clear_is ways c.args.database.now.records c.args.name.now w entry c.in-Some.ensures (is none)) (c.obstacle.ensures.clear honest)

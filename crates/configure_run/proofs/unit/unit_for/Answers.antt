@@ -15,12 +15,12 @@ pub configured_unit-requires-clause-order : goal.configured_unit-requires-clause
 configured_unit-requires-clause-order g c = order_read (held_by c.args.administration.now c.args.diversions.now) (g.H.Host.state c.args.host.now) (g.H.Host.state c.obstacle_of.new.host) c.obstacle_of.ensures.looks.reads c.requires.order
 
 pub configured_unit-requires-clause-clear : goal.configured_unit-requires-clause-clear
-configured_unit-requires-clause-clear g c = λ honest. subst (CanConfigure c.args.administration.now.database.records c.args.name.now) (sym c.obstacle_of.ensures.looks.reads.world) (c.in-Ok-None.ensures.clear honest c.in-Ok-None.field-0-is)
+configured_unit-requires-clause-clear g c = λ honest. subst (CanConfigure c.args.diversions.now.ways c.args.administration.now.database.records c.args.name.now) (sym c.obstacle_of.ensures.looks.reads.world) (c.in-Ok-None.ensures.clear honest c.in-Ok-None.field-0-is)
 
 pub returns-in-Ok-None-clause-unit : goal.returns-in-Ok-None-clause-unit
 returns-in-Ok-None-clause-unit g c =
     either_so (λ is. IsUnitFor.configured (g.H.Host.state c.obstacle_of.new.host) c.obstacle_of.ensures.looks.reads c.obstacle_of.ensures.looks.silent
-    (λ honest. subst (λ (o : Option (List ℕ)). HasObstacle c.args.administration.now.database.records c.args.name.now (g.H.Host.state c.args.host.now).world o) c.in-Ok-None.field-0-is (c.in-Ok-None.ensures.looks.found honest)) is) c.configured_unit.ensures.unit
+    (λ honest. subst (λ (o : Option (List ℕ)). HasObstacle c.args.diversions.now.ways c.args.administration.now.database.records c.args.name.now (g.H.Host.state c.args.host.now).world o) c.in-Ok-None.field-0-is (c.in-Ok-None.ensures.looks.found honest)) is) c.configured_unit.ensures.unit
 
 pub returns-in-Ok-None-clause-order : goal.returns-in-Ok-None-clause-order
 returns-in-Ok-None-clause-order g c = either_so (λ is. is.order) c.configured_unit.ensures.unit
@@ -40,7 +40,7 @@ returns-in-Ok-None-clause-counts g c = counts_from c.configured_unit.result.repl
 pub returns-in-Ok-Some-clause-unit : goal.returns-in-Ok-Some-clause-unit
 returns-in-Ok-Some-clause-unit g c =
     broken_or NoMemory c.refused_named.result.reply (λ refused. IsUnitFor.obstructed c.in-Ok-Some.path
-    (λ honest. subst (λ (o : Option (List ℕ)). HasObstacle c.args.administration.now.database.records c.args.name.now (g.H.Host.state c.args.host.now).world o) c.in-Ok-Some.field-0-is (c.in-Ok-Some.ensures.looks.found honest))
+    (λ honest. subst (λ (o : Option (List ℕ)). HasObstacle c.args.diversions.now.ways c.args.administration.now.database.records c.args.name.now (g.H.Host.state c.args.host.now).world o) c.in-Ok-Some.field-0-is (c.in-Ok-Some.ensures.looks.found honest))
     (record { refused = refused; held = refl; silent = c.obstacle_of.ensures.looks.silent; world = λ honest. c.obstacle_of.ensures.looks.reads.world })) c.refused_named.ensures.unit
 
 pub returns-in-Ok-Some-clause-order : goal.returns-in-Ok-Some-clause-order
