@@ -3,7 +3,7 @@ use Rattle.std.specs.Prelude.{OnOk}
 use Rattle.std.proofs.Common.{◌≡◌, ◌⊎◌, inl, inr, true, false, ℕ, nat_eq, arith, length, List, [], ◌∷◌, ◌++◌, Option, Result, Ok, Err, refl, sym, subst, ◌∙◌}
 use Rattle.std.proofs.lemmas.Bool.{and_parts, eqb-true, true≢false}
 use Rattle.disappearance.specs.declared.losing.Losing.{Losing}
-use Rattle.diversions.specs.declared.entry.Diversion.{Diversion}
+use Rattle.diversions.specs.Ways.{Ways}
 use Rattle.file_lists.specs.declared.paths.PackageList.{PackageList}
 use Rattle.host_core.specs.World.{World, Barrier}
 use Rattle.host_core.specs.Events.{Event, Did, scripts_of}
@@ -49,11 +49,11 @@ disk_answered : (s m t : State) → Happens (Did Barrier ∷ []) m t → IsAnswe
 disk_answered s m t goes = inl (m.events, [], goes.events, tt)
 
 -- all of it is on the disk, or nothing was done
-pub displaced_answered : (incoming version : List ℕ) (entries : List Diversion) (losing : List Losing) (conflicting names : List (List ℕ)) (failed : Option Call) (before after : Holding) (s t : State) (told now : List Called)
-    → HaveBeenDisplaced incoming version entries losing conflicting names failed before after s t told now → IsAnswered s t
-displaced_answered incoming version entries [] [] names failed before after s t told now is =
+pub displaced_answered : (incoming version : List ℕ) (ways : Ways) (losing : List Losing) (conflicting names : List (List ℕ)) (failed : Option Call) (before after : Holding) (s t : State) (told now : List Called)
+    → HaveBeenDisplaced incoming version ways losing conflicting names failed before after s t told now → IsAnswered s t
+displaced_answered incoming version ways [] [] names failed before after s t told now is =
     let gone = is.gone.disappeared in
     let removed = is.gone.removed.removed in
     subst (λ (x : State). IsAnswered s x) (sym (is.disk ∙ removed.2 ∙ gone.3)) (answered_here s)
-displaced_answered incoming version entries [] (one ∷ more) names failed before after s t told now is = disk_answered s is.end t is.disk
-displaced_answered incoming version entries (one ∷ more) conflicting names failed before after s t told now is = disk_answered s is.end t is.disk
+displaced_answered incoming version ways [] (one ∷ more) names failed before after s t told now is = disk_answered s is.end t is.disk
+displaced_answered incoming version ways (one ∷ more) conflicting names failed before after s t told now is = disk_answered s is.end t is.disk

@@ -6,7 +6,7 @@ use Rattle.std.proofs.lemmas.List.Elements.{Contains-append_left, Contains-appen
 use Rattle.conflict_removal.specs.Removals.{HaveCalled as HaveCalledRemoving, IsAmidRemovals}
 use Rattle.disappearance.specs.Runs.{HaveCalled as HaveCalledDisappearing, HaveDisappeared, IsAmidDisappearances}
 use Rattle.disappearance.specs.declared.losing.Losing.{Losing}
-use Rattle.diversions.specs.declared.entry.Diversion.{Diversion}
+use Rattle.diversions.specs.Ways.{Ways}
 use Rattle.host_core.specs.Events.{Event, scripts_of}
 use Rattle.host_core.specs.Host.{Does, Silent, Since, State}
 use Rattle.host_core.proofs.Moments.{scripts_of-append, since_then, since_weaker, since_weaker_if}
@@ -20,18 +20,18 @@ use Rattle.undo_rows.specs.declared.rows.Called.{Called}
 use Rattle.displaced_packages.specs.Displacing.{AreGoing, HasCalled, HasCalledFirst, HaveBeenRemovedBehind, HaveGone, IsAmidDisplacing}
 use Rattle.displaced_packages.proofs.Barriers.{since_brought}
 
-module _ (incoming version : List ℕ) (entries : List Diversion) (losing : List Losing) (conflicting : List (List ℕ)) (before : Holding) where
+module _ (incoming version : List ℕ) (ways : Ways) (losing : List Losing) (conflicting : List (List ℕ)) (before : Holding) where
   -- the moments
 
-  pub since_disappearing : (s m : State) → Since (IsAmidDisappearances incoming version entries losing before s) s m → Since (AreGoing incoming version entries losing conflicting before s) s m
-  since_disappearing s m since = since_weaker (IsAmidDisappearances incoming version entries losing before s) (AreGoing incoming version entries losing conflicting before s) s m (λ so_far w is. inl is) since
+  pub since_disappearing : (s m : State) → Since (IsAmidDisappearances incoming version ways losing before s) s m → Since (AreGoing incoming version ways losing conflicting before s) s m
+  since_disappearing s m since = since_weaker (IsAmidDisappearances incoming version ways losing before s) (AreGoing incoming version ways losing conflicting before s) s m (λ so_far w is. inl is) since
 
-  module _ (gone : List (List ℕ)) (lost : Option Call) (mid : Holding) (s m t : State) (told between : List Called) (disappeared : HaveDisappeared incoming version entries losing gone lost before mid s m told between) where
-    pub since_removing : Since (IsAmidDisappearances incoming version entries losing before s) s m → Since (IsAmidRemovals entries conflicting mid m) m t → Since (AreGoing incoming version entries losing conflicting before s) s t
+  module _ (gone : List (List ℕ)) (lost : Option Call) (mid : Holding) (s m t : State) (told between : List Called) (disappeared : HaveDisappeared incoming version ways losing gone lost before mid s m told between) where
+    pub since_removing : Since (IsAmidDisappearances incoming version ways losing before s) s m → Since (IsAmidRemovals ways conflicting mid m) m t → Since (AreGoing incoming version ways losing conflicting before s) s t
     since_removing since behind =
         let first = since_disappearing s m since in
-        since_then (AreGoing incoming version entries losing conflicting before s) s m t first
-        (since_weaker_if (IsAmidRemovals entries conflicting mid m) (λ so_far w. AreGoing incoming version entries losing conflicting before s (first.added ++ so_far) w) m t
+        since_then (AreGoing incoming version ways losing conflicting before s) s m t first
+        (since_weaker_if (IsAmidRemovals ways conflicting mid m) (λ so_far w. AreGoing incoming version ways losing conflicting before s (first.added ++ so_far) w) m t
         (λ honest so_far w is. inr (record {
           gone = gone;
           lost = lost;
@@ -48,20 +48,20 @@ module _ (incoming version : List ℕ) (entries : List Diversion) (losing : List
           removing = is;
         })) behind)
 
-    pub called_behind : (now : List Called) → HaveCalledRemoving entries conflicting mid m t between now → HasCalledFirst incoming version entries losing conflicting before s t told now
+    pub called_behind : (now : List Called) → HaveCalledRemoving ways conflicting mid m t between now → HasCalledFirst incoming version ways losing conflicting before s t told now
     called_behind now called = inr (record { gone = gone; lost = lost; mid = mid; m = m; between = between; disappeared = disappeared; called = called })
 
-    pub gone_behind : (names : List (List ℕ)) (failed : Option Call) (after : Holding) (now : List Called) → HaveBeenRemovedBehind entries conflicting gone lost names failed mid after m t between now
-        → HaveGone incoming version entries losing conflicting names failed before after s t told now
+    pub gone_behind : (names : List (List ℕ)) (failed : Option Call) (after : Holding) (now : List Called) → HaveBeenRemovedBehind ways conflicting gone lost names failed mid after m t between now
+        → HaveGone incoming version ways losing conflicting names failed before after s t told now
     gone_behind names failed after now removed = record { gone = gone; lost = lost; mid = mid; m = m; between = between; disappeared = disappeared; removed = removed }
 
-  pub called_first : (s m : State) (told now : List Called) → HaveCalledDisappearing incoming version entries losing before s m told now → HasCalledFirst incoming version entries losing conflicting before s m told now
+  pub called_first : (s m : State) (told now : List Called) → HaveCalledDisappearing incoming version ways losing before s m told now → HasCalledFirst incoming version ways losing conflicting before s m told now
   called_first s m told now called = inl called
 
-  amid_of : (s : State) (so_far : List Event) (now : World) → AreGoing incoming version entries losing conflicting before s so_far now → IsAmidDisplacing incoming version entries losing conflicting before s so_far now
+  amid_of : (s : State) (so_far : List Event) (now : World) → AreGoing incoming version ways losing conflicting before s so_far now → IsAmidDisplacing incoming version ways losing conflicting before s so_far now
   amid_of s so_far now amid = record { front = so_far; quiet = []; split = sym (append-nil so_far); silent = refl; amid = amid }
 
-  amid_still : (s : State) (x quiet : List Event) (now : World) → scripts_of quiet ≡ [] → IsAmidDisplacing incoming version entries losing conflicting before s x now → IsAmidDisplacing incoming version entries losing conflicting before s (x ++ quiet) now
+  amid_still : (s : State) (x quiet : List Event) (now : World) → scripts_of quiet ≡ [] → IsAmidDisplacing incoming version ways losing conflicting before s x now → IsAmidDisplacing incoming version ways losing conflicting before s (x ++ quiet) now
   amid_still s x quiet now none amid = record {
     front = amid.front;
     quiet = amid.quiet ++ quiet;
@@ -70,13 +70,13 @@ module _ (incoming version : List ℕ) (entries : List Diversion) (losing : List
     amid = amid.amid;
   }
 
-  pub since_displacing : (s t : State) → Since (AreGoing incoming version entries losing conflicting before s) s t → Since (IsAmidDisplacing incoming version entries losing conflicting before s) s t
-  since_displacing s t since = since_weaker (AreGoing incoming version entries losing conflicting before s) (IsAmidDisplacing incoming version entries losing conflicting before s) s t (λ so_far w is. amid_of s so_far w is) since
+  pub since_displacing : (s t : State) → Since (AreGoing incoming version ways losing conflicting before s) s t → Since (IsAmidDisplacing incoming version ways losing conflicting before s) s t
+  since_displacing s t since = since_weaker (AreGoing incoming version ways losing conflicting before s) (IsAmidDisplacing incoming version ways losing conflicting before s) s t (λ so_far w is. amid_of s so_far w is) since
 
-  pub since_displaced : (result : Result Unit HostFault) (s m t : State) → Since (AreGoing incoming version entries losing conflicting before s) s m → (t ≡ m) ⊎ Does Barrier m t result → Since (IsAmidDisplacing incoming version entries losing conflicting before s) s t
-  since_displaced result s m t since does = since_brought (IsAmidDisplacing incoming version entries losing conflicting before s) result s m t (λ x quiet w none amid. amid_still s x quiet w none amid) (since_displacing s m since) does
+  pub since_displaced : (result : Result Unit HostFault) (s m t : State) → Since (AreGoing incoming version ways losing conflicting before s) s m → (t ≡ m) ⊎ Does Barrier m t result → Since (IsAmidDisplacing incoming version ways losing conflicting before s) s t
+  since_displaced result s m t since does = since_brought (IsAmidDisplacing incoming version ways losing conflicting before s) result s m t (λ x quiet w none amid. amid_still s x quiet w none amid) (since_displacing s m since) does
 
-  pub called_to_disk : (s m t : State) (told now : List Called) → HasCalledFirst incoming version entries losing conflicting before s m told now → Silent m t → HasCalled incoming version entries losing conflicting before s t told now
+  pub called_to_disk : (s m t : State) (told now : List Called) → HasCalledFirst incoming version ways losing conflicting before s m told now → Silent m t → HasCalled incoming version ways losing conflicting before s t told now
   called_to_disk s m t told now called silent = record { m = m; called = called; silent = silent }
 
 pub silent_here : (s : State) → Silent s s

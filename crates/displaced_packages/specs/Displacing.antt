@@ -4,7 +4,7 @@ use Rattle.std.specs.Prelude.{◌≡◌, ◌⊎◌, ◌&&◌, ℕ, nat_eq, Bool,
 use Rattle.conflict_removal.specs.Removals.{HaveBeenRemoved, HaveCalled as HaveCalledRemoving, IsAmidRemovals, first_failed}
 use Rattle.disappearance.specs.Runs.{HaveCalled as HaveCalledDisappearing, HaveDisappeared, IsAmidDisappearances}
 use Rattle.disappearance.specs.declared.losing.Losing.{Losing}
-use Rattle.diversions.specs.declared.entry.Diversion.{Diversion}
+use Rattle.diversions.specs.Ways.{Ways}
 use Rattle.host_core.specs.Events.{Did, Event, scripts_of}
 use Rattle.host_core.specs.Host.{Happens, Silent, State}
 use Rattle.host_core.specs.World.{World, Barrier}
@@ -23,14 +23,14 @@ IsBroughtToDisk [] (name ∷ names) s t = Happens (Did Barrier ∷ []) s t
 IsBroughtToDisk (one ∷ more) names s t = Happens (Did Barrier ∷ []) s t
 
 -- All conflicting packages were removed that weren't gone already, and their names are told behind those of others.
-pub record HaveBeenRemovedBehind (entries : List Diversion) (conflicting : List (List ℕ)) (gone : List (List ℕ)) (lost : Option Call) (names : List (List ℕ)) (failed : Option Call) (before after : Holding) (s t : State) (told now : List Called) : Type 0 where
+pub record HaveBeenRemovedBehind (ways : Ways) (conflicting : List (List ℕ)) (gone : List (List ℕ)) (lost : Option Call) (names : List (List ℕ)) (failed : Option Call) (before after : Holding) (s t : State) (told now : List Called) : Type 0 where
   pub later : Option Call
-  pub removed : HaveBeenRemoved entries conflicting later before after s t told now
+  pub removed : HaveBeenRemoved ways conflicting later before after s t told now
   pub names_are : names ≡ gone ++ conflicting
   pub first : failed ≡ first_failed lost later
 
 -- of the unpack of the package of this name and version, by these diversions
-module _ (incoming version : List ℕ) (entries : List Diversion) where
+module _ (incoming version : List ℕ) (ways : Ways) where
   -- Those of which nothing is left disappeared, and then all conflicting ones were removed that weren't gone already.
   pub record HaveGone (losing : List Losing) (conflicting names : List (List ℕ)) (failed : Option Call) (before after : Holding) (s t : State) (told now : List Called) : Type 0 where
     pub gone : List (List ℕ)
@@ -38,8 +38,8 @@ module _ (incoming version : List ℕ) (entries : List Diversion) where
     pub mid : Holding
     pub m : State
     pub between : List Called
-    pub disappeared : HaveDisappeared incoming version entries losing gone lost before mid s m told between
-    pub removed : HaveBeenRemovedBehind entries conflicting gone lost names failed mid after m t between now
+    pub disappeared : HaveDisappeared incoming version ways losing gone lost before mid s m told between
+    pub removed : HaveBeenRemovedBehind ways conflicting gone lost names failed mid after m t between now
 
   -- and then it was brought to the disk
   pub record HaveBeenDisplaced (losing : List Losing) (conflicting names : List (List ℕ)) (failed : Option Call) (before after : Holding) (s t : State) (told now : List Called) : Type 0 where
@@ -57,15 +57,15 @@ module _ (incoming version : List ℕ) (entries : List Diversion) where
       pub honest : IsTrue m.honest
       pub told : List Called
       pub between : List Called
-      pub disappeared : HaveDisappeared incoming version entries losing gone lost before mid s m told between
+      pub disappeared : HaveDisappeared incoming version ways losing gone lost before mid s m told between
       pub front : List Event
       pub rest : List Event
       pub split : so_far ≡ front ++ rest
       pub events : m.events ≡ s.events ++ front
-      pub removing : IsAmidRemovals entries conflicting mid m rest now
+      pub removing : IsAmidRemovals ways conflicting mid m rest now
 
     abbrev pub AreGoing : State → List Event → World → Type 0
-    AreGoing s so_far now = IsAmidDisappearances incoming version entries losing before s so_far now ⊎ IsAmidRemoving s so_far now
+    AreGoing s so_far now = IsAmidDisappearances incoming version ways losing before s so_far now ⊎ IsAmidRemoving s so_far now
 
     -- at each moment of it; behind that nothing but the disk was called
     pub record IsAmidDisplacing (s : State) (so_far : List Event) (now : World) : Type 0 where
@@ -82,11 +82,11 @@ module _ (incoming version : List ℕ) (entries : List Diversion) where
       pub mid : Holding
       pub m : State
       pub between : List Called
-      pub disappeared : HaveDisappeared incoming version entries losing gone lost before mid s m told between
-      pub called : HaveCalledRemoving entries conflicting mid m t between now
+      pub disappeared : HaveDisappeared incoming version ways losing gone lost before mid s m told between
+      pub called : HaveCalledRemoving ways conflicting mid m t between now
 
     abbrev pub HasCalledFirst : State → State → List Called → List Called → Type 0
-    HasCalledFirst s t told now = HaveCalledDisappearing incoming version entries losing before s t told now ⊎ HasCalledBehind s t told now
+    HasCalledFirst s t told now = HaveCalledDisappearing incoming version ways losing before s t told now ⊎ HasCalledBehind s t told now
 
     -- the calls, whatever the answer
     pub record HasCalled (s t : State) (told now : List Called) : Type 0 where

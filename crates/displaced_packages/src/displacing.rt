@@ -77,9 +77,9 @@ fn remove_conflicting<H: Host>(
 ) -> Result<Option<Call>, HostFault>
     requires order { Needs (H.state host.old)
         (IsInOrder administration.old.database administration.old.lists.lists) }
-    requires open { IsOpen diversions.now.entries administration.old }
+    requires open { IsOpen diversions.now.ways administration.old }
     requires indexed { ArePackagesOf administration.old.database.records packages.old }
-    ensures removed { IfOk result (λ failed. HaveBeenRemoved diversions.now.entries conflicting.now
+    ensures removed { IfOk result (λ failed. HaveBeenRemoved diversions.now.ways conflicting.now
         failed (holding_of administration.old) (holding_of administration.new) (H.state host.old)
         (H.state host.new) told.old.items told.new.items) }
     ensures others { OnOk result ((q : List ℕ) → (Contains conflicting.now q → ⊥)
@@ -88,12 +88,12 @@ fn remove_conflicting<H: Host>(
     ensures order { OnOk result
         (Needs (H.state host.new)
         (IsInOrder administration.new.database administration.new.lists.lists)) }
-    ensures open { OnOk result (IsOpen diversions.now.entries administration.new) }
+    ensures open { OnOk result (IsOpen diversions.now.ways administration.new) }
     ensures indexed { OnOk result (ArePackagesOf administration.new.database.records packages.new) }
-    ensures told { HaveCalledRemoving diversions.now.entries conflicting.now
+    ensures told { HaveCalledRemoving diversions.now.ways conflicting.now
         (holding_of administration.old) (H.state host.old) (H.state host.new) told.old.items
         told.new.items }
-    ensures any_moment { Since (IsAmidRemovals diversions.now.entries conflicting.now
+    ensures any_moment { Since (IsAmidRemovals diversions.now.ways conflicting.now
         (holding_of administration.old) (H.state host.old)) (H.state host.old) (H.state host.new) }
     ensures counts { Counts (H.state host.old) (H.state host.new) result }
 {
@@ -116,9 +116,9 @@ fn remove_behind<H: Host>(
 ) -> Result<Displaced, HostFault>
     requires order { Needs (H.state host.old)
         (IsInOrder administration.old.database administration.old.lists.lists) }
-    requires open { IsOpen diversions.now.entries administration.old }
+    requires open { IsOpen diversions.now.ways administration.old }
     requires indexed { ArePackagesOf administration.old.database.records packages.old }
-    ensures removed { IfOk result (λ d. HaveBeenRemovedBehind diversions.now.entries conflicting.now
+    ensures removed { IfOk result (λ d. HaveBeenRemovedBehind diversions.now.ways conflicting.now
         disappeared.names disappeared.failed d.names d.failed (holding_of administration.old)
         (holding_of administration.new) (H.state host.old) (H.state host.new) told.old.items
         told.new.items) }
@@ -128,12 +128,12 @@ fn remove_behind<H: Host>(
     ensures order { OnOk result
         (Needs (H.state host.new)
         (IsInOrder administration.new.database administration.new.lists.lists)) }
-    ensures open { OnOk result (IsOpen diversions.now.entries administration.new) }
+    ensures open { OnOk result (IsOpen diversions.now.ways administration.new) }
     ensures indexed { OnOk result (ArePackagesOf administration.new.database.records packages.new) }
-    ensures told { HaveCalledRemoving diversions.now.entries conflicting.now
+    ensures told { HaveCalledRemoving diversions.now.ways conflicting.now
         (holding_of administration.old) (H.state host.old) (H.state host.new) told.old.items
         told.new.items }
-    ensures any_moment { Since (IsAmidRemovals diversions.now.entries conflicting.now
+    ensures any_moment { Since (IsAmidRemovals diversions.now.ways conflicting.now
         (holding_of administration.old) (H.state host.old)) (H.state host.old) (H.state host.new) }
     ensures counts { Counts (H.state host.old) (H.state host.new) result }
 {
@@ -167,9 +167,9 @@ fn displace_all<H: Host>(
 ) -> Result<Displaced, HostFault>
     requires order { Needs (H.state host.old)
         (IsInOrder administration.old.database administration.old.lists.lists) }
-    requires open { IsOpen diversions.now.entries administration.old }
+    requires open { IsOpen diversions.now.ways administration.old }
     requires indexed { ArePackagesOf administration.old.database.records packages.old }
-    ensures gone { IfOk result (λ d. HaveGone incoming.now version.now diversions.now.entries
+    ensures gone { IfOk result (λ d. HaveGone incoming.now version.now diversions.now.ways
         losing.now conflicting.now d.names d.failed (holding_of administration.old)
         (holding_of administration.new) (H.state host.old) (H.state host.new) told.old.items
         told.new.items) }
@@ -179,12 +179,12 @@ fn displace_all<H: Host>(
     ensures order { OnOk result
         (Needs (H.state host.new)
         (IsInOrder administration.new.database administration.new.lists.lists)) }
-    ensures open { OnOk result (IsOpen diversions.now.entries administration.new) }
+    ensures open { OnOk result (IsOpen diversions.now.ways administration.new) }
     ensures indexed { OnOk result (ArePackagesOf administration.new.database.records packages.new) }
-    ensures told { HasCalledFirst incoming.now version.now diversions.now.entries losing.now
+    ensures told { HasCalledFirst incoming.now version.now diversions.now.ways losing.now
         conflicting.now (holding_of administration.old) (H.state host.old) (H.state host.new)
         told.old.items told.new.items }
-    ensures any_moment { Since (AreGoing incoming.now version.now diversions.now.entries losing.now
+    ensures any_moment { Since (AreGoing incoming.now version.now diversions.now.ways losing.now
         conflicting.now (holding_of administration.old) (H.state host.old)) (H.state host.old)
         (H.state host.new) }
     ensures counts { Counts (H.state host.old) (H.state host.new) result }
@@ -253,10 +253,10 @@ pub fn displace<H: Host>(
 ) -> Result<Displaced, HostFault>
     requires order { Needs (H.state host.old)
         (IsInOrder administration.old.database administration.old.lists.lists) }
-    requires open { IsOpen diversions.now.entries administration.old }
+    requires open { IsOpen diversions.now.ways administration.old }
     requires indexed { ArePackagesOf administration.old.database.records packages.old }
     ensures displaced { IfOk result (λ d. HaveBeenDisplaced incoming.now version.now
-        diversions.now.entries losing.now conflicting.now d.names d.failed
+        diversions.now.ways losing.now conflicting.now d.names d.failed
         (holding_of administration.old) (holding_of administration.new) (H.state host.old)
         (H.state host.new) told.old.items told.new.items) }
     ensures others { IfOk result (λ d. (q : List ℕ) → (Contains d.names q → ⊥)
@@ -265,13 +265,13 @@ pub fn displace<H: Host>(
     ensures order { OnOk result
         (Needs (H.state host.new)
         (IsInOrder administration.new.database administration.new.lists.lists)) }
-    ensures open { OnOk result (IsOpen diversions.now.entries administration.new) }
+    ensures open { OnOk result (IsOpen diversions.now.ways administration.new) }
     ensures indexed { OnOk result (ArePackagesOf administration.new.database.records packages.new) }
     ensures answered { OnOk result (IsAnswered (H.state host.old) (H.state host.new)) }
-    ensures told { HasCalled incoming.now version.now diversions.now.entries losing.now
+    ensures told { HasCalled incoming.now version.now diversions.now.ways losing.now
         conflicting.now (holding_of administration.old) (H.state host.old) (H.state host.new)
         told.old.items told.new.items }
-    ensures any_moment { Since (IsAmidDisplacing incoming.now version.now diversions.now.entries
+    ensures any_moment { Since (IsAmidDisplacing incoming.now version.now diversions.now.ways
         losing.now conflicting.now (holding_of administration.old) (H.state host.old))
         (H.state host.old) (H.state host.new) }
     ensures counts { Counts (H.state host.old) (H.state host.new) result }

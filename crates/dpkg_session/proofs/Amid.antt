@@ -99,13 +99,13 @@ since_under_way p beside before places s t are since =
 -- the unpack is committed, and packages are displaced behind it
 pub since_behind : (p : Package) (beside : Beside) (before : Held) (records : Recorded) (lists : List PackageList) (places : List Path) (told between : List Called) (s m t : State) → places ≡ places_of before → told ≡ []
     → HasUnpackedBeside p beside before places None records lists s m told between → Since (IsAmidBeside p beside before places s.world) s m
-    → Since (IsAmidDisplacing p.name p.version before.entries (losing_beside before.lists beside) beside.conflicting (holding_of (held_with before records lists)) m) m t → Since (IsAmidUnpack p beside before s.world) s t
+    → Since (IsAmidDisplacing p.name p.version before.ways (losing_beside before.lists beside) beside.conflicting (holding_of (held_with before records lists)) m) m t → Since (IsAmidUnpack p beside before s.world) s t
 since_behind p beside before records lists places told between s m t are none unpacked since behind =
     let first = since_under_way p beside before places s m are since in
     let done : HasUnpackedBeside p beside before (places_of before) None records lists s m [] between =
     subst (λ l. HasUnpackedBeside p beside before (places_of before) None records lists s m l between) none (subst (λ ps. HasUnpackedBeside p beside before ps None records lists s m told between) are unpacked) in
     since_then (IsAmidUnpack p beside before s.world) s m t first
-    (since_weaker_if (IsAmidDisplacing p.name p.version before.entries (losing_beside before.lists beside) beside.conflicting (holding_of (held_with before records lists)) m) (λ so_far w. IsAmidUnpack p beside before s.world (first.added ++ so_far) w) m t
+    (since_weaker_if (IsAmidDisplacing p.name p.version before.ways (losing_beside before.lists beside) beside.conflicting (holding_of (held_with before records lists)) m) (λ so_far w. IsAmidUnpack p beside before s.world (first.added ++ so_far) w) m t
     (λ honest so_far w is. inr (record {
       s = s;
       from = refl;

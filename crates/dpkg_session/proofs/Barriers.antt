@@ -46,9 +46,9 @@ carried_behind g p ended after lists s m t told now is goes silent later =
       ran = is.ran;
       since = silent_then is.last m t is.since silent;
       later = since_then _ is.last m t is.later later;
-      leaves = λ h. subst (HasLeft (changes g p works listed) (commit_records g p works listed table) g.entries listed table (length p.others) ended is.last.world) (sym goes.world) (is.leaves (goes.honest h));
-      stays = λ h. subst (HasLeftUnless (changes g p works listed) (commit_records g p works listed table) g.entries listed table (length p.others) (WasDenied is.last t) ended is.last.world) (sym goes.world)
-          (left_wider (changes g p works listed) (commit_records g p works listed table) g.entries listed table (length p.others) (WasDenied is.last m) (WasDenied is.last t) (λ q denied. denied_first is.last m t q denied later) ended is.last.world m.world (is.stays (goes.honest h)));
+      leaves = λ h. subst (HasLeft (changes g p works listed) (commit_records g p works listed table) g.ways listed table (length p.others) ended is.last.world) (sym goes.world) (is.leaves (goes.honest h));
+      stays = λ h. subst (HasLeftUnless (changes g p works listed) (commit_records g p works listed table) g.ways listed table (length p.others) (WasDenied is.last t) ended is.last.world) (sym goes.world)
+          (left_wider (changes g p works listed) (commit_records g p works listed table) g.ways listed table (length p.others) (WasDenied is.last m) (WasDenied is.last t) (λ q denied. denied_first is.last m t q denied later) ended is.last.world m.world (is.stays (goes.honest h)));
       records = is.records;
       lists_are = is.lists_are;
     }

@@ -24,7 +24,7 @@ use Rattle.listed_files.proofs.Closings.{below_within, removed_stays}
 use Rattle.unpack_steps.specs.Clearing.{IsBesideOwn}
 use Rattle.unpack_steps.specs.Task.{name, state_on}
 use Rattle.undo_rows.specs.declared.rows.Called.{Called}
-use Rattle.diversions.specs.declared.entry.Diversion.{Diversion}
+use Rattle.diversions.specs.Ways.{Ways}
 use Rattle.package_tree.specs.declared.package.Package.{Package}
 use Rattle.package_tree.specs.declared.fault.TreeFault.{TreeFault}
 use Rattle.unpack_relations.specs.declared.checking.Checked.{Checked}
@@ -38,21 +38,21 @@ use Rattle.dpkg_session.proofs.Displaced.{behind_leaves}
 use Rattle.dpkg_session.proofs.Keeping.{IsUnnamed}
 use Rattle.dpkg_session.proofs.Runs.{falls_run}
 
--- the diversions of a run
+-- the ways of a run
 
-entries_by : (p : Package) (decision : Checked) (before after : Held) (u : AUnit) (s t : State) → IsUnitBy p decision before after u s t → after.entries ≡ before.entries
-entries_by p (Refused rule) before after u s t is = ap (λ (h : Held). h.entries) is.held
-entries_by p (Planned beside) before after u s t is = is.entries
+ways_by : (p : Package) (decision : Checked) (before after : Held) (u : AUnit) (s t : State) → IsUnitBy p decision before after u s t → after.ways ≡ before.ways
+ways_by p (Refused rule) before after u s t is = ap (λ (h : Held). h.ways) is.held
+ways_by p (Planned beside) before after u s t is = is.ways
 
-entries_unit : (auto : Bool) (label : List ℕ) (tree : Result Package TreeFault) (before after : Held) (u : AUnit) (s t : State) → IsUnitOf auto label tree before after u s t → after.entries ≡ before.entries
-entries_unit auto label (Err fault) before after u s t is = ap (λ (h : Held). h.entries) is.held
-entries_unit auto label (Ok p) before after u s t is = entries_by p is.0 before after u s t is.2
+ways_unit : (auto : Bool) (label : List ℕ) (tree : Result Package TreeFault) (before after : Held) (u : AUnit) (s t : State) → IsUnitOf auto label tree before after u s t → after.ways ≡ before.ways
+ways_unit auto label (Err fault) before after u s t is = ap (λ (h : Held). h.ways) is.held
+ways_unit auto label (Ok p) before after u s t is = ways_by p is.0 before after u s t is.2
 
-pub entries_run : (auto : Bool) (cs : List Candidate) (us : List AUnit) (before after : Held) (s t : State) → IsRun auto cs us before after s t → after.entries ≡ before.entries
-entries_run auto [] [] before after s t run = ap (λ (h : Held). h.entries) run.1
-entries_run auto [] (u ∷ us) before after s t run = absurd run
-entries_run auto (c ∷ cs) [] before after s t run = absurd run
-entries_run auto (c ∷ cs) (u ∷ us) before after s t run = entries_run auto cs us run.1 after run.0 t run.3 ∙ entries_unit auto c.label c.tree before run.1 u s run.0 run.2.is
+pub ways_run : (auto : Bool) (cs : List Candidate) (us : List AUnit) (before after : Held) (s t : State) → IsRun auto cs us before after s t → after.ways ≡ before.ways
+ways_run auto [] [] before after s t run = ap (λ (h : Held). h.ways) run.1
+ways_run auto [] (u ∷ us) before after s t run = absurd run
+ways_run auto (c ∷ cs) [] before after s t run = absurd run
+ways_run auto (c ∷ cs) (u ∷ us) before after s t run = ways_run auto cs us run.1 after run.0 t run.3 ∙ ways_unit auto c.label c.tree before run.1 u s run.0 run.2.is
 
 -- a path of the program's own that is neither in `info` nor in `tmp.ci`, and at which no record is written
 record IsFar (q : Path) : Type 0 where
@@ -88,8 +88,8 @@ module _ (q : Path) (far : IsFar q) where
   own_apart : (name : List ℕ) → IsBesideOwn name q
   own_apart name = record { list = (no_list name).0; members = λ member named. (no_member name member).0 }
 
-  committed_stays : (c : Changes) (entries : List Diversion) (lists : List PackageList) (after : List Record) (old new : World) → SparesAdministration c.leaving → AreElsewhere c.names → HasCommitted c entries lists after old new → new q ≡ old q
-  committed_stays c entries lists after old new spares elsewhere is =
+  committed_stays : (c : Changes) (ways : Ways) (lists : List PackageList) (after : List Record) (old new : World) → SparesAdministration c.leaving → AreElsewhere c.names → HasCommitted c ways lists after old new → new q ≡ old q
+  committed_stays c ways lists after old new spares elsewhere is =
       is.noted.rest q far.unnoted
       ∙ is.release.cleared.each q ∙ ap (λ b. cond b (cleared (is.release.mid q)) (is.release.mid q)) (elsewhere q (below_within q far.below))
       ∙ is.release.taken.rest q (λ name has. no_list name)
@@ -97,9 +97,9 @@ module _ (q : Path) (far : IsFar q) where
       ∙ is.renewal.replaced.rest q (no_list c.name).0 (no_list c.name).1
       ∙ removed_stays any_path c.leaving old is.renewal.mid q spares is.renewal.removed far.below
 
-  followed_stays : (c : Changes) (records : List Record) (entries : List Diversion) (lists : List PackageList) (table : List Record) (others : ℕ) (ended : Ended) (old new : World) → SparesAdministration c.leaving → AreElsewhere c.names → HasFollowed c records entries lists table others ended old new → new q ≡ old q
-  followed_stays c records entries lists table others Committed old new spares elsewhere is = committed_stays c entries lists _ old new spares elsewhere is
-  followed_stays c records entries lists table others (Unwound fall failed) old new spares elsewhere is = dropped_same (nat_le others fall.row) (record_in table c.name) c.name old new q is (no_list c.name).0
+  followed_stays : (c : Changes) (records : List Record) (ways : Ways) (lists : List PackageList) (table : List Record) (others : ℕ) (ended : Ended) (old new : World) → SparesAdministration c.leaving → AreElsewhere c.names → HasFollowed c records ways lists table others ended old new → new q ≡ old q
+  followed_stays c records ways lists table others Committed old new spares elsewhere is = committed_stays c ways lists _ old new spares elsewhere is
+  followed_stays c records ways lists table others (Unwound fall failed) old new spares elsewhere is = dropped_same (nat_le others fall.row) (record_in table c.name) c.name old new q is (no_list c.name).0
 
   unpacked_stays : (g : Given) (places : List Path) (ended : Ended) (after : Recorded) (lists : List PackageList) (s t : State) (told now : List Called) → HasUnpacked g places ended after lists s t told now → IsTrue t.honest → t.world q ≡ s.world q
   unpacked_stays g places ended after lists s t told now is h =
@@ -113,7 +113,7 @@ module _ (q : Path) (far : IsFar q) where
       let task = task_from ground p (state_on out.ran.begun base) in
       let honest = out.since.honest h in
       left.removed.rest q far.tmp
-      ∙ followed_stays (changes ground p out.mid.works out.mid.lists) (commit_records ground p out.mid.works out.mid.lists out.mid.database.records) g.entries out.mid.lists out.mid.database.records (length p.others) ended out.last.world left.followed planned.lists_are.spares planned.names_are.elsewhere left.has_followed
+      ∙ followed_stays (changes ground p out.mid.works out.mid.lists) (commit_records ground p out.mid.works out.mid.lists out.mid.database.records) g.ways out.mid.lists out.mid.database.records (length p.others) ended out.last.world left.followed planned.lists_are.spares planned.names_are.elsewhere left.has_followed
       ∙ come_same task q (beside_list (name task)) planned.works_are.named place _ out.mid.works (works_on ground p place out.ran.begun base out.mid.works out.ran.rows_end.works) _ out.last.world (out.ran.rows_end.world honest).came
       ∙ begun_beside ground p place s.world base (begun_at ground p place s.world out.ran.begun out.mid out.last (out.ran.begins_so honest) out.ran.rows_end honest) q far.tmp (own_apart (package_name ground p))
 

@@ -8,7 +8,7 @@ use Rattle.host_core.specs.World.{Barrier}
 use Rattle.host_core.specs.declared.call.Call.{Call}
 use Rattle.administration.specs.Places.{diversions_path, info_path, temporary}
 use Rattle.administration.proofs.WholeFiles.{no_directory_at}
-use Rattle.diversions.specs.declared.entry.Diversion.{Diversion}
+use Rattle.diversions.specs.Ways.{Ways}
 use Rattle.diversions.specs.Lines.{HasEntries}
 use Rattle.opening.specs.Parts.{names_of}
 use Rattle.removal_run.specs.Units.{holding_of}
@@ -38,19 +38,19 @@ InOrder h s = Needs s (IsInOrder h.records h.lists)
 pub record Carries (before after : Held) (s t : State) : Type 0 where
   pub falls : IsTrue t.honest → IsTrue s.honest
   pub order : InOrder before s → InOrder after t
-  pub entries : after.entries ≡ before.entries
+  pub ways : after.ways ≡ before.ways
   pub file : IsTrue t.honest → t.world diversions_path ≡ s.world diversions_path
   pub spare : IsTrue t.honest → t.world (temporary diversions_path) ≡ s.world (temporary diversions_path)
   pub info : IsTrue t.honest → InOrder before s → HasInfo before s.world → HasInfo after t.world
 
 pub carries_here : (h : Held) (s : State) → Carries h h s s
-carries_here h s = record { falls = λ honest. honest; order = λ ready. ready; entries = refl; file = λ honest. refl; spare = λ honest. refl; info = λ honest ready info. info }
+carries_here h s = record { falls = λ honest. honest; order = λ ready. ready; ways = refl; file = λ honest. refl; spare = λ honest. refl; info = λ honest ready info. info }
 
 pub carries_then : (before mid after : Held) (s m t : State) → Carries before mid s m → Carries mid after m t → Carries before after s t
 carries_then before mid after s m t first second = record {
   falls = λ h. first.falls (second.falls h);
   order = λ ready. second.order (first.order ready);
-  entries = second.entries ∙ first.entries;
+  ways = second.ways ∙ first.ways;
   file = λ h. second.file h ∙ first.file (second.falls h);
   spare = λ h. second.spare h ∙ first.spare (second.falls h);
   info = λ h ready info. second.info h (first.order ready) (first.info (second.falls h) ready info);
@@ -61,7 +61,7 @@ pub carries_still : (before after : Held) (s t : State) → after ≡ before →
 carries_still before after s t held falls same = subst (λ (h : Held). Carries before h s t) (sym held) (record {
   falls = falls;
   order = λ ready h. subst (IsInOrder before.records before.lists) (sym (same h)) (ready (falls h));
-  entries = refl;
+  ways = refl;
   file = λ h. ap (λ w. w diversions_path) (same h);
   spare = λ h. ap (λ w. w (temporary diversions_path)) (same h);
   info = λ h ready info. subst (HasInfo before) (sym (same h)) info;
@@ -85,15 +85,15 @@ leaves_info before after s t leaves order h info = info_left before after s.worl
 -- behind its stages a unit brings all to the disk, which changes nothing
 pub carries_stages : (name : List ℕ) (stages : List Stage) (failed : Option Call) (before after : Held) (s left t : State) (told now : List Called) → is_some (record_in before.records.records name) ≡ true
     → AreOwnStages name stages
-    → HaveRun name before.entries stages failed (record { records = before.records.records; lists = before.lists }) (record { records = after.records.records; lists = after.lists }) s left told now
-    → Happens (Did Barrier ∷ []) left t → InOrder after t → after.entries ≡ before.entries → Carries before after s t
-carries_stages name stages failed before after s left t told now recorded_there fit run behind order entries =
+    → HaveRun name before.ways stages failed (record { records = before.records.records; lists = before.lists }) (record { records = after.records.records; lists = after.lists }) s left told now
+    → Happens (Did Barrier ∷ []) left t → InOrder after t → after.ways ≡ before.ways → Carries before after s t
+carries_stages name stages failed before after s left t told now recorded_there fit run behind order ways =
     let names = names_of before.records.records in
-    let leaves = leaves_barrier names before.records.records after.records.records s left t (stages_leave names name before.entries stages failed (holding_of before) (holding_of after) s left told now recorded_there fit run) behind in
+    let leaves = leaves_barrier names before.records.records after.records.records s left t (stages_leave names name before.ways stages failed (holding_of before) (holding_of after) s left told now recorded_there fit run) behind in
     record {
       falls = leaves.falls;
       order = λ ready. order;
-      entries = entries;
+      ways = ways;
       file = λ h. (leaves.keeps h).stays diversions_path (λ other named. diversions_others other);
       spare = λ h. (leaves.keeps h).stays (temporary diversions_path) (λ other named. diversions_spare_others other);
       info = λ h ready info. leaves_info before after s t leaves order h info;
@@ -114,7 +114,7 @@ carries_standing before after s t carries h standing =
       no_directory_at (t.world (temporary diversions_path)) (s.world (temporary diversions_path)) (carries.spare h) standing.4,
       order.tmp,
       order.listed,
-      ∥∥₁_map standing.7 (λ has. subst (λ (l : List Diversion). HasEntries (t.world diversions_path) l) (sym carries.entries) (subst (λ n. HasEntries n before.entries) (sym (carries.file h)) has)),
+      ∥∥₁_map standing.7 (λ has. subst (λ (l : Ways). HasEntries (t.world diversions_path) l.entries) (sym carries.ways) (subst (λ n. HasEntries n before.ways.entries) (sym (carries.file h)) has)),
     )
 
 pub carries_found : (before after : Held) (s t : State) → Carries before after s t → IsTrue t.honest → Stands before s.world → Stands after t.world
@@ -127,7 +127,7 @@ carries_found before after s t carries h found =
       info = directory_there (t.world info_path) order.info;
       updates = order.kept.unblocked.updates;
       text = info.text;
-      diversions = subst (λ (l : List Diversion). HasEntries (t.world diversions_path) l) (sym carries.entries) (subst (λ n. HasEntries n before.entries) (sym (carries.file h)) found.diversions);
+      diversions = subst (λ (l : Ways). HasEntries (t.world diversions_path) l.entries) (sym carries.ways) (subst (λ n. HasEntries n before.ways.entries) (sym (carries.file h)) found.diversions);
       diversions_spare = no_directory_at (t.world (temporary diversions_path)) (s.world (temporary diversions_path)) (carries.spare h) found.diversions_spare;
       tmp = order.tmp;
       records = order.kept;

@@ -40,7 +40,7 @@ stands_behind P (Ok x) s t since answered = answered_stands P s t since answered
 stands_behind P (Err e) s t since answered = tt
 
 -- what a session knows of its administration it knows behind it
-standing_noted : (h : Held) (d : Recorded) (u v : World) → d.records ≡ h.records.records → AreKept d.records d.notes v → AreNoted h.records.records 0 u v → IsStanding h u → IsStanding (record { records = d; lists = h.lists; entries = h.entries }) v
+standing_noted : (h : Held) (d : Recorded) (u v : World) → d.records ≡ h.records.records → AreKept d.records d.notes v → AreNoted h.records.records 0 u v → IsStanding h u → IsStanding (record { records = d; lists = h.lists; ways = h.ways }) v
 standing_noted h d u v same kept noted standing = (
   recorded d v kept,
   subst (λ n. is_directory n ≡ true) (sym (noted.rest info_path refl)) standing.1,
@@ -49,9 +49,9 @@ standing_noted h d u v same kept noted standing = (
   no_directory_at _ _ (noted.rest (temporary diversions_path) refl) standing.4,
   noted.rest tmp_path refl ∙ standing.5,
   ∥∥₁_map standing.6 (λ has. subst (λ (rs : List Record). HasLists v (names_of rs) h.lists) (sym same) (has_lists_kept u v (names_of h.records.records) h.lists (λ name known. noted.rest (list_path name) refl) has)),
-  ∥∥₁_map standing.7 (λ has. subst (λ n. HasEntries n h.entries) (sym (noted.rest diversions_path refl)) has),
+  ∥∥₁_map standing.7 (λ has. subst (λ n. HasEntries n h.ways.entries) (sym (noted.rest diversions_path refl)) has),
 )
 
-pub standing_left : (h : Held) (d : Recorded) (u v : World) → d.records ≡ h.records.records → d.notes ≡ 0 → AreNoted h.records.records 0 u v → IsStanding h u → IsStanding (record { records = d; lists = h.lists; entries = h.entries }) v
+pub standing_left : (h : Held) (d : Recorded) (u v : World) → d.records ≡ h.records.records → d.notes ≡ 0 → AreNoted h.records.records 0 u v → IsStanding h u → IsStanding (record { records = d; lists = h.lists; ways = h.ways }) v
 standing_left h d u v same none noted standing =
     standing_noted h d u v same (subst (λ n. AreKept d.records n v) (sym none) (subst (λ rs. AreKept rs 0 v) (sym same) noted.kept)) noted standing

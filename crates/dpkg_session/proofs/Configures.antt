@@ -85,7 +85,7 @@ configured_carries policy name before after u s t is =
     let whole = is.configured.unit in
     let plan = whole.plan in
     carries_stages name whole.stages is.failed before after s is.configured.left t [] u.calls.items (ap is_some plan.found)
-    (plan_own plan.entry name (is_named before.records.records name plan.entry plan.found) _ plan.plan.decisions plan.plan.stored whole.stages plan.plan.stages_are) whole.run is.configured.flushed is.order is.entries
+    (plan_own plan.entry name (is_named before.records.records name plan.entry plan.found) _ plan.plan.decisions plan.plan.stored whole.stages plan.plan.stages_are) whole.run is.configured.flushed is.order is.ways
 
 for_carries : (policy : ConfPolicy) (name : List ℕ) (before after : Held) (u : AUnit) (s t : State) → IsUnitFor policy name before after u s t → Carries before after s t
 for_carries policy name before after u s t (IsUnitFor.obstructed path there refused) = carries_refused _ name before after u s t refused

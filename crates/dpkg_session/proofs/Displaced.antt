@@ -7,7 +7,7 @@ use Rattle.disappearance.specs.Runs.{HaveDisappeared}
 use Rattle.disappearance.specs.Units.{IsDecided}
 use Rattle.disappearance.specs.declared.losing.Losing.{Losing}
 use Rattle.displaced_packages.specs.Displacing.{HaveBeenDisplaced, HaveGone, IsBroughtToDisk}
-use Rattle.diversions.specs.declared.entry.Diversion.{Diversion}
+use Rattle.diversions.specs.Ways.{Ways}
 use Rattle.host_core.specs.Events.{Did}
 use Rattle.host_core.specs.Host.{Happens, State}
 use Rattle.host_core.specs.World.{Barrier}
@@ -68,23 +68,23 @@ module _ (names : List (List ℕ)) where
   leaves_barrier before after s m t first goes = leaves_then before after after s m t first (leaves_still after after m t refl goes.honest (λ h. goes.world))
 
   -- the stages of a package that is recorded
-  pub stages_leave : (name : List ℕ) (entries : List Diversion) (stages : List Stage) (failed : Option Call) (before after : Holding) (s t : State) (told now : List Called) → is_some (record_in before.records name) ≡ true
-      → AreOwnStages name stages → HaveRun name entries stages failed before after s t told now → Leaves names before.records after.records s t
-  stages_leave name entries stages failed before after s t told now there own run = record {
-    falls = stages_fall name entries stages failed before after s t told now run;
-    keeps = λ h. unnamed_of name s.world t.world (found_named name before.records there) (stages_keep name entries stages failed before after s t told now own run h);
-    named = λ all. stages_named names name (name_among names before.records all name (found_among name before.records there)) entries stages failed before after s t told now own run all;
+  pub stages_leave : (name : List ℕ) (ways : Ways) (stages : List Stage) (failed : Option Call) (before after : Holding) (s t : State) (told now : List Called) → is_some (record_in before.records name) ≡ true
+      → AreOwnStages name stages → HaveRun name ways stages failed before after s t told now → Leaves names before.records after.records s t
+  stages_leave name ways stages failed before after s t told now there own run = record {
+    falls = stages_fall name ways stages failed before after s t told now run;
+    keeps = λ h. unnamed_of name s.world t.world (found_named name before.records there) (stages_keep name ways stages failed before after s t told now own run h);
+    named = λ all. stages_named names name (name_among names before.records all name (found_among name before.records there)) ways stages failed before after s t told now own run all;
   }
 
-  module _ (entries : List Diversion) where
+  module _ (ways : Ways) where
     -- those that are removed
 
-    removed_leaves : (name : List ℕ) (failed : Option Call) (before after : Holding) (s t : State) (told now : List Called) → IsRemovedOrGone entries name failed before after s t told now → Leaves names before.records after.records s t
+    removed_leaves : (name : List ℕ) (failed : Option Call) (before after : Holding) (s t : State) (told now : List Called) → IsRemovedOrGone ways name failed before after s t told now → Leaves names before.records after.records s t
     removed_leaves name failed before after s t told now (IsRemovedOrGone.removed is ended order) =
-        stages_leave name entries is.stages failed before after s t told now (ap is_some is.plan.found) (stages_own name is.stages before.records before.lists is.fit) is.run
+        stages_leave name ways is.stages failed before after s t told now (ap is_some is.plan.found) (stages_own name is.stages before.records before.lists is.fit) is.run
     removed_leaves name failed before after s t told now (IsRemovedOrGone.passed gone none held same silent) = leaves_same before.records after.records s t (ap (λ (h : Holding). h.records) held) same
 
-    removals_leave : (list : List (List ℕ)) (failed : Option Call) (before after : Holding) (s t : State) (told now : List Called) → HaveBeenRemoved entries list failed before after s t told now → Leaves names before.records after.records s t
+    removals_leave : (list : List (List ℕ)) (failed : Option Call) (before after : Holding) (s t : State) (told now : List Called) → HaveBeenRemoved ways list failed before after s t told now → Leaves names before.records after.records s t
     removals_leave [] failed before after s t told now none = leaves_same before.records after.records s t (ap (λ (h : Holding). h.records) none.1) none.2
     removals_leave (name ∷ list) failed before after s t told now some =
         leaves_then before.records some.2.records after.records s some.3 t (removed_leaves name some.0 before some.2 s some.3 told some.4 some.6)
@@ -93,17 +93,17 @@ module _ (names : List (List ℕ)) where
     module _ (incoming version : List ℕ) where
       -- those that disappear
 
-      decided_leaves : (l : Losing) (gone : List (List ℕ)) (failed : Option Call) (before after : Holding) (s t : State) (told now : List Called) → IsDecided incoming version entries l gone failed before after s t told now → Leaves names before.records after.records s t
+      decided_leaves : (l : Losing) (gone : List (List ℕ)) (failed : Option Call) (before after : Holding) (s t : State) (told now : List Called) → IsDecided incoming version ways l gone failed before after s t told now → Leaves names before.records after.records s t
       decided_leaves l gone failed before after s t told now (IsDecided.disappeared are is) =
           let planned = is.plan.stages in
           let there = ap is_some planned.found in
           leaves_then before.records before.records after.records s is.run.mid t
-          (stages_leave l.name entries is.call failed before before s is.run.mid told now there (stages_own l.name is.call before.records before.lists planned.call_fits) is.run.called)
-          (stages_leave l.name entries is.gone None before after is.run.mid t now now there (stages_own l.name is.gone before.records before.lists planned.gone_fits) is.run.taken)
+          (stages_leave l.name ways is.call failed before before s is.run.mid told now there (stages_own l.name is.call before.records before.lists planned.call_fits) is.run.called)
+          (stages_leave l.name ways is.gone None before after is.run.mid t now now there (stages_own l.name is.gone before.records before.lists planned.gone_fits) is.run.taken)
       decided_leaves l gone failed before after s t told now (IsDecided.stayed are none is) =
           leaves_still before.records after.records s t (ap (λ (h : Holding). h.records) is.same) is.reads.honest (λ h. is.reads.world)
 
-      disappeared_leave : (losing : List Losing) (gone : List (List ℕ)) (failed : Option Call) (before after : Holding) (s t : State) (told now : List Called) → HaveDisappeared incoming version entries losing gone failed before after s t told now → Leaves names before.records after.records s t
+      disappeared_leave : (losing : List Losing) (gone : List (List ℕ)) (failed : Option Call) (before after : Holding) (s t : State) (told now : List Called) → HaveDisappeared incoming version ways losing gone failed before after s t told now → Leaves names before.records after.records s t
       disappeared_leave [] gone failed before after s t told now none = leaves_same before.records after.records s t (ap (λ (h : Holding). h.records) none.2) none.3
       disappeared_leave (l ∷ ls) gone failed before after s t told now is =
           leaves_then before.records is.mid.records after.records s is.m t (decided_leaves l is.own is.first before is.mid s is.m told is.between is.decided)
@@ -114,12 +114,12 @@ module _ (names : List (List ℕ)) where
       disk_leaves [] (name ∷ list) rs s t goes = leaves_barrier rs rs s s t (leaves_here rs s) goes
       disk_leaves (l ∷ ls) list rs s t goes = leaves_barrier rs rs s s t (leaves_here rs s) goes
 
-      gone_leaves : (losing : List Losing) (conflicting list : List (List ℕ)) (failed : Option Call) (before after : Holding) (s t : State) (told now : List Called) → HaveGone incoming version entries losing conflicting list failed before after s t told now → Leaves names before.records after.records s t
+      gone_leaves : (losing : List Losing) (conflicting list : List (List ℕ)) (failed : Option Call) (before after : Holding) (s t : State) (told now : List Called) → HaveGone incoming version ways losing conflicting list failed before after s t told now → Leaves names before.records after.records s t
       gone_leaves losing conflicting list failed before after s t told now is =
           leaves_then before.records is.mid.records after.records s is.m t (disappeared_leave losing is.gone is.lost before is.mid s is.m told is.between is.disappeared)
           (removals_leave conflicting is.removed.later is.mid after is.m t is.between now is.removed.removed)
 
-      displaced_leave : (losing : List Losing) (conflicting list : List (List ℕ)) (failed : Option Call) (before after : Holding) (s t : State) (told now : List Called) → HaveBeenDisplaced incoming version entries losing conflicting list failed before after s t told now → Leaves names before.records after.records s t
+      displaced_leave : (losing : List Losing) (conflicting list : List (List ℕ)) (failed : Option Call) (before after : Holding) (s t : State) (told now : List Called) → HaveBeenDisplaced incoming version ways losing conflicting list failed before after s t told now → Leaves names before.records after.records s t
       displaced_leave losing conflicting list failed before after s t told now is =
           leaves_then before.records after.records after.records s is.end t (gone_leaves losing conflicting list failed before after s is.end told now is.gone)
           (disk_leaves losing conflicting after.records is.end t is.disk)
@@ -129,4 +129,4 @@ module _ (names : List (List ℕ)) where
       → HasDisplaced unwinding d displaced failed mid after m t told now → Leaves names mid.records.records after.records.records m t
   behind_leaves (Some u) d displaced failed mid after m t told now is = leaves_same mid.records.records after.records.records m t (ap (λ (h : Held). h.records.records) is.held) is.here
   behind_leaves None d displaced failed mid after m t told now is =
-      displaced_leave mid.entries d.name d.version d.losing d.conflicting displaced failed (holding_of mid) (holding_of after) m t told now is
+      displaced_leave mid.ways d.name d.version d.losing d.conflicting displaced failed (holding_of mid) (holding_of after) m t told now is

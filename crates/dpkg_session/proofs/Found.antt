@@ -9,7 +9,7 @@ use Rattle.administration.specs.Places.{diversions_path, info_path, temporary}
 use Rattle.administration.proofs.WholeFiles.{no_directory_at}
 use Rattle.undo_rows.specs.Place.{Place}
 use Rattle.undo_rows.specs.Transcripts.{Ended, Committed, Unwound}
-use Rattle.diversions.specs.declared.entry.Diversion.{Diversion}
+use Rattle.diversions.specs.Ways.{Ways}
 use Rattle.diversions.specs.Lines.{HasEntries}
 use Rattle.file_lists.specs.Info.{AreLoose, AreSound}
 use Rattle.file_lists.specs.Lists.{HasLists}
@@ -45,7 +45,7 @@ use Rattle.unit_reports.specs.Held.{Held, places_of}
 use Rattle.dpkg_session.specs.History.{Stands}
 use Rattle.dpkg_session.specs.Run.{IsRun}
 use Rattle.dpkg_session.specs.Units.{HasUnpackedBeside, IsUnitBy, IsUnitOf, IsUnpacked, displacing_by, given_by, held_with, yielding}
-use Rattle.dpkg_session.proofs.Beside.{diverted_run, diverted_spare_run, entries_run}
+use Rattle.dpkg_session.proofs.Beside.{diverted_run, diverted_spare_run, ways_run}
 use Rattle.dpkg_session.proofs.Certain.{lists_had}
 use Rattle.dpkg_session.proofs.Displaced.{behind_leaves}
 use Rattle.dpkg_session.proofs.Keeping.{KeepsUnnamed}
@@ -90,7 +90,7 @@ module _ (j : Job) (g : Ground) (p : Planned) (planned : IsPlanned j p) (same : 
   fresh_known = record { stands = ap is_not_installed planned.records_are.fresh_is.is.state_is; named = inr (planned.records_are.fresh_is.is.name_is ∙ sym own_is) }
 
   end_known : (ended : Ended) (works : List Work) (lists : List PackageList) (table : List Record) → AllByRecursion (IsKnown (record_names g.records) (package_name g p)) table → AllByRecursion (IsKnown (record_names g.records) (package_name g p)) (end_table g p ended works lists table)
-  end_known Committed works lists table all = committed_known (record_names g.records) (package_name g p) g.entries (taken_places works) (unit_losers g p works lists) table p.fresh all fresh_known
+  end_known Committed works lists table all = committed_known (record_names g.records) (package_name g p) g.ways (taken_places works) (unit_losers g p works lists) table p.fresh all fresh_known
   end_known (Unwound fall failed) works lists table all = all
 
 -- a unit
@@ -169,8 +169,8 @@ found_run auto cs us before after s t run h order found =
       info = directory_there (t.world info_path) order.info;
       updates = order.kept.unblocked.updates;
       text = info.text;
-      diversions = subst (λ (l : List Diversion). HasEntries (t.world diversions_path) l) (sym (entries_run auto cs us before after s t run))
-          (subst (λ n. HasEntries n before.entries) (sym (diverted_run auto cs us before after s t run h)) found.diversions);
+      diversions = subst (λ (l : Ways). HasEntries (t.world diversions_path) l.entries) (sym (ways_run auto cs us before after s t run))
+          (subst (λ n. HasEntries n before.ways.entries) (sym (diverted_run auto cs us before after s t run h)) found.diversions);
       diversions_spare = no_directory_at (t.world (temporary diversions_path)) (s.world (temporary diversions_path)) (diverted_spare_run auto cs us before after s t run h) found.diversions_spare;
       tmp = order.tmp;
       records = order.kept;

@@ -63,26 +63,26 @@ found_outside table notes lists entries old new same found = record {
 }
 
 pub stands_outside : (h : Held) (old new : World) → SameOn is_own old new → Stands h old → Stands h new
-stands_outside h old new same found = found_outside h.records.records h.records.notes h.lists h.entries old new same found
+stands_outside h old new same found = found_outside h.records.records h.records.notes h.lists h.ways.entries old new same found
 
 -- one command
 
-kept_rest : (before after : Held) (w : World) → KeepsRest before after → Stands (record { records = before.records; lists = before.lists; entries = after.entries }) w → Stands after w
+kept_rest : (before after : Held) (w : World) → KeepsRest before after → Stands (record { records = before.records; lists = before.lists; ways = after.ways }) w → Stands after w
 kept_rest before after w keeps found =
-    subst (λ (d : Recorded). Stands (record { records = d; lists = after.lists; entries = after.entries }) w) (sym keeps.records)
-    (subst (λ (l : List PackageList). Stands (record { records = before.records; lists = l; entries = after.entries }) w) (sym keeps.lists) found)
+    subst (λ (d : Recorded). Stands (record { records = d; lists = after.lists; ways = after.ways }) w) (sym keeps.records)
+    (subst (λ (l : List PackageList). Stands (record { records = before.records; lists = l; ways = after.ways }) w) (sym keeps.lists) found)
 
 done_stands : (ran : Ran) (before after : Held) (s t : State) → HasDone ran before after s t → IsTrue t.honest → Stands before s.world → Stands after t.world
 done_stands (Unpacked auto candidates units) before after s t done h found =
     found_run auto candidates units before after s t done h (ready_run auto candidates units before after s t done (λ honest. order_standing before s.world (standing_found before s.world found)) h) found
 done_stands (Diverted asked unit) before after s t done h found =
-    kept_rest before after t.world done.1 (found_diverted before.records before.lists asked _ before.entries after.entries unit s t done.0 h found)
+    kept_rest before after t.world done.1 (found_diverted before.records before.lists asked _ before.ways after.ways unit s t done.0 h found)
 done_stands (Undiverted asked unit) before after s t done h found =
-    kept_rest before after t.world done.1 (found_undiverted before.records before.lists asked before.entries after.entries unit s t done.0 h found)
+    kept_rest before after t.world done.1 (found_undiverted before.records before.lists asked before.ways after.ways unit s t done.0 h found)
 done_stands (Configured names policy units) before after s t done h found = carries_found before after s t (configure_carries names policy units before after s t done) h found
 done_stands (Removed names purge units) before after s t done h found = carries_found before after s t (removal_carries names purge units before after s t done) h found
 done_stands Merged before after s t done h found =
-    subst (λ (x : Held). Stands x t.world) (sym done.0) (found_noted before.records.records before.records.notes before.lists before.entries s.world t.world found (done.1 h))
+    subst (λ (x : Held). Stands x t.world) (sym done.0) (found_noted before.records.records before.records.notes before.lists before.ways.entries s.world t.world found (done.1 h))
 done_stands (Installed auto candidates policy unpacked configured) before after s t done h found = install_found auto candidates policy unpacked configured before after s t done h found
 
 stands_command : (ran : Ran) (before after : Held) (old new : World) → IsCommand ran before after old new → Stands after new

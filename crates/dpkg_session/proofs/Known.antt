@@ -6,7 +6,7 @@ use Rattle.std.specs.Cmp.Lexicographic.{slice_cmp}
 use Rattle.std.specs.Ordering.{is_lt, nat_cmp}
 use Rattle.host_core.specs.Host.{State}
 use Rattle.host_core.specs.declared.call.Call.{Call}
-use Rattle.diversions.specs.declared.entry.Diversion.{Diversion}
+use Rattle.diversions.specs.Ways.{Ways}
 use Rattle.status_records.specs.Records.{AreStanding, drop_record, place_record, put_record}
 use Rattle.status_records.specs.Words.{is_not_installed}
 use Rattle.status_records.specs.declared.record.Record.{Record}
@@ -87,15 +87,15 @@ module _ (names : List (List ℕ)) (name : List ℕ) (has : Contains names name)
   parts_named [] rs own all = all
   parts_named (part ∷ parts) rs own all = parts_named parts (part_records name part rs) own.1 (part_named part rs own.0 all)
 
-  module _ (entries : List Diversion) where
-    restored_named : (owners : List Owner) (restore : List Part) (before after : Holding) (s t : State) → AreOwn name restore → HasRestored name entries owners restore before after s t
+  module _ (ways : Ways) where
+    restored_named : (owners : List Owner) (restore : List Part) (before after : Holding) (s t : State) → AreOwn name restore → HasRestored name ways owners restore before after s t
         → AllByRecursion (IsOneOf names) before.records → AllByRecursion (IsOneOf names) after.records
     restored_named owners restore before after s t fit (HasRestored.restored none does is) all =
         subst (λ (h : Holding). AllByRecursion (IsOneOf names) h.records) (sym is) (parts_named restore before.records fit all)
     restored_named owners restore before after s t fit (HasRestored.left some same is) all = subst (λ (h : Holding). AllByRecursion (IsOneOf names) h.records) (sym is) all
 
     pub stages_named : (stages : List Stage) (failed : Option Call) (before after : Holding) (s t : State) (told now : List Called) → AreOwnStages name stages
-        → HaveRun name entries stages failed before after s t told now → AllByRecursion (IsOneOf names) before.records → AllByRecursion (IsOneOf names) after.records
+        → HaveRun name ways stages failed before after s t told now → AllByRecursion (IsOneOf names) before.records → AllByRecursion (IsOneOf names) after.records
     stages_named [] failed before after s t told now fit run all = subst (λ (h : Holding). AllByRecursion (IsOneOf names) h.records) (sym run.1) all
     stages_named (stage ∷ stages) failed before after s t told now fit (inl gone) all =
         stages_named stages failed (after_parts name stage.parts.items before) after gone.mid t gone.more now fit.1 gone.further (parts_named stage.parts.items before.records fit.0.parts all)

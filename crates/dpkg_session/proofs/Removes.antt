@@ -16,7 +16,7 @@ use Rattle.dpkg_session.proofs.Staying.{stages_own}
 removal_carries_one : (purge : Bool) (name : List ℕ) (before after : Held) (u : AUnit) (s t : State) → IsRemoval purge name before after u s t → Carries before after s t
 removal_carries_one purge name before after u s t is =
     let whole = is.removed.removed in
-    carries_stages name whole.stages is.failed before after s is.removed.m t [] u.calls.items (ap is_some whole.plan.found) (stages_own name whole.stages before.records.records before.lists whole.fit) whole.run is.removed.disk is.order is.entries
+    carries_stages name whole.stages is.failed before after s is.removed.m t [] u.calls.items (ap is_some whole.plan.found) (stages_own name whole.stages before.records.records before.lists whole.fit) whole.run is.removed.disk is.order is.ways
 
 turns_carry : (purge : Bool) (packages : List Package) (waiting : List (List ℕ)) (before : Held) (s : State) (us : List AUnit) (left : List (List ℕ)) (after : Held) (t : State) → RemovesTo purge packages waiting before s us left after t → Carries before after s t
 turns_carry purge packages waiting before s us left after t TurnsTo.begun = carries_here before s

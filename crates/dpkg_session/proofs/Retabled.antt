@@ -12,11 +12,12 @@ use Rattle.administration.specs.Directories.{HasBadName}
 use Rattle.administration.specs.Files.{NoDirectory}
 use Rattle.administration.specs.Places.{home_path, info_path, status_path, updates_path, tmp_path, temporary}
 use Rattle.administration.proofs.WholeFiles.{no_directory_at}
+use Rattle.aliases.specs.Aliases.{resolved}
 use Rattle.diversions.specs.Changes.{HasAdded, HasRemoved, IsRecorded, moved_if}
 use Rattle.diversions.specs.Entries.{without}
-use Rattle.diversions.specs.Places.{truename}
+use Rattle.diversions.specs.Ways.{truename, Ways}
 use Rattle.diversions.specs.Refusals.{has_same}
-use Rattle.diversions.specs.Sights.{moves_node, sight_of}
+use Rattle.diversions.specs.Sights.{moves_back, moves_node, sight_of}
 use Rattle.diversions.specs.declared.entry.Diversion.{Diversion}
 use Rattle.diversions.specs.declared.refusal.Answer.{Answer}
 use Rattle.diversions.specs.declared.refusal.Answer.TheVariants as answered
@@ -36,13 +37,14 @@ use Rattle.status_records.specs.declared.record.Record.{Record}
 use Rattle.dpkg_session.specs.declared.asked.Diverting.{Diverting}
 use Rattle.dpkg_session.specs.declared.asked.Undiverting.{Undiverting}
 use Rattle.unit_reports.specs.declared.report.Unit.{Unit as AUnit}
-use Rattle.dpkg_session.specs.Diversions.{IsDiverted, IsUndiverted, LeavesAnswer, asked_entry, by_answer}
+use Rattle.dpkg_session.specs.Diversions.{IsDiverted, IsUndiverted, LeavesAnswer, asked_entry, by_answer, with_entries}
 use Rattle.unit_reports.specs.Held.{Held}
 use Rattle.dpkg_session.specs.Standing.{IsStanding}
+use Rattle.dpkg_session.proofs.Shipped.{resolved_shipped}
 
 -- with these diversions
-abbrev with_entries : Recorded → List PackageList → List Diversion → Held
-with_entries d lists entries = record { records = d; lists = lists; entries = entries }
+abbrev with_ways : Recorded → List PackageList → Ways → Held
+with_ways d lists ways = record { records = d; lists = lists; ways = ways }
 
 -- no shipped path is below the administration's directory
 
@@ -62,7 +64,7 @@ record IsRetabled (entries : List Diversion) (old new : World) : Type 0 where
   pub ship_to : is_ship_text to ≡ true
   pub recorded : IsRecorded entries (moved_if moves from to old) new
 
-module _ (d : Recorded) (lists : List PackageList) (before after : List Diversion) (old new : World) (is : IsRetabled after old new) where
+module _ (d : Recorded) (lists : List PackageList) (before after : Ways) (old new : World) (is : IsRetabled after.entries old new) where
   same : (q : Path) → is_below_administration q ≡ true → get_or q 14 0 ≢ 100 → new q ≡ old q
   same q below no_d =
       is.recorded.rest q (λ e. no_d (ap (λ (l : Path). get_or l 14 0) e)) (λ e. no_d (ap (λ (l : Path). get_or l 14 0) e))
@@ -98,7 +100,7 @@ module _ (d : Recorded) (lists : List PackageList) (before after : List Diversio
   still_lists : (names : List (List ℕ)) → HasLists old names lists → HasLists new names lists
   still_lists names has = has_lists_kept old new names lists (λ name known. same_info (47 ∷ name ++ codes ".list")) has
 
-  standing_retabled : IsStanding (with_entries d lists before) old → IsStanding (with_entries d lists after) new
+  standing_retabled : IsStanding (with_ways d lists before) old → IsStanding (with_ways d lists after) new
   standing_retabled standing = (
     (
       directory_is (new home_path) is.recorded.ready.home,
@@ -118,7 +120,7 @@ module _ (d : Recorded) (lists : List PackageList) (before after : List Diversio
     ∣ is.recorded.table ∣₁,
   )
 
-  found_retabled : IsFound d.records d.notes lists before old → IsFound d.records d.notes lists after new
+  found_retabled : IsFound d.records d.notes lists before.entries old → IsFound d.records d.notes lists after.entries new
   found_retabled found = record {
     home = is.recorded.ready.home;
     info = subst IsDirectory (sym (same_info [])) found.info;
@@ -147,37 +149,42 @@ module _ (d : Recorded) (lists : List PackageList) (before after : List Diversio
 
 -- what holds of a table and a world goes on to hold where the table is recorded
 
-module _ (X : List Diversion → World → Type 0) (keep : (before after : List Diversion) (old new : World) → IsRetabled after old new → X before old → X after new) where
-  answered_kept : (answer : Answer) (before more after : List Diversion) (P : World → World → Type 0) (old new : World) → after ≡ by_answer answer before more → LeavesAnswer answer P old new → (P old new → X before old → X more new) → X before old → X after new
+module _ (X : Ways → World → Type 0) (keep : (before after : Ways) (old new : World) → IsRetabled after.entries old new → X before old → X after new) where
+  answered_kept : (answer : Answer) (before more after : Ways) (P : World → World → Type 0) (old new : World) → after ≡ by_answer answer before more → LeavesAnswer answer P old new → (P old new → X before old → X more new) → X before old → X after new
   answered_kept answered.Done before more after P old new e left goes x = subst (λ l. X l new) (sym e) (goes left x)
   answered_kept (answered.Refused refusal) before more after P old new e left goes x = subst (λ l. X l new) (sym e) (subst (X before) (sym left) x)
 
-  added_kept : (there : Bool) (before more : List Diversion) (moves : Bool) (from to : Path) (old new : World) → is_ship_text from ≡ true → is_ship_text to ≡ true → MatchBool there (new ≡ old) (IsRecorded more (moved_if moves from to old) new) → X before old → X (cond there before more) new
+  added_kept : (there : Bool) (before : Ways) (more : List Diversion) (moves : Bool) (from to : Path) (old new : World) → is_ship_text from ≡ true → is_ship_text to ≡ true → MatchBool there (new ≡ old) (IsRecorded more (moved_if moves from to old) new) → X before old → X (with_entries before (cond there before.entries more)) new
   added_kept true before more moves from to old new ship_from ship_to left x = subst (X before) (sym left) x
   added_kept false before more moves from to old new ship_from ship_to left x =
-      keep before more old new (record { moves = moves; from = from; to = to; ship_from = ship_from; ship_to = ship_to; recorded = left }) x
+      keep before (with_entries before more) old new (record { moves = moves; from = from; to = to; ship_from = ship_from; ship_to = ship_to; recorded = left }) x
 
-  diverted_kept : (asked : Diverting) (seen : Seen) (before after : List Diversion) (u : AUnit) (s t : State) → IsDiverted asked seen before after u s t → IsTrue t.honest → X before s.world → X after t.world
+  diverted_kept : (asked : Diverting) (seen : Seen) (before after : Ways) (u : AUnit) (s t : State) → IsDiverted asked seen before after u s t → IsTrue t.honest → X before s.world → X after t.world
   diverted_kept asked seen before after u s t is h =
       let d = asked_entry asked in
-      answered_kept is.answer before (cond (has_same before d) before (before ++ d ∷ [])) after (HasAdded before d asked.rename seen) s.world t.world is.table (is.left h)
-      (added_kept (has_same before d) before (before ++ d ∷ []) (moves_node asked.rename seen.listed (sight_of asked.rename s.world asked.path asked.target)) asked.path asked.target s.world t.world is.shipped.path is.shipped.target)
+      let from = resolved before.aliases asked.path in
+      let to = resolved before.aliases asked.target in
+      answered_kept is.answer before (with_entries before (cond (has_same before.entries d) before.entries (before.entries ++ d ∷ []))) after (HasAdded before d asked.rename seen) s.world t.world is.table (is.left h)
+      (added_kept (has_same before.entries d) before (before.entries ++ d ∷ []) (moves_node asked.rename seen.listed (sight_of asked.rename s.world from to)) from to s.world t.world
+      (resolved_shipped before.aliases asked.path is.shipped.path) (resolved_shipped before.aliases asked.target is.shipped.target))
 
-  undiverted_kept : (asked : Undiverting) (before after : List Diversion) (u : AUnit) (s t : State) → IsUndiverted asked before after u s t → IsTrue t.honest → X before s.world → X after t.world
+  undiverted_kept : (asked : Undiverting) (before after : Ways) (u : AUnit) (s t : State) → IsUndiverted asked before after u s t → IsTrue t.honest → X before s.world → X after t.world
   undiverted_kept asked before after u s t is h =
       let target = truename before asked.path in
-      answered_kept is.answer before (without asked.path before) after (HasRemoved before asked.path asked.rename) s.world t.world is.table (is.left h)
-      (λ left. keep before (without asked.path before) s.world t.world (record { moves = moves_node asked.rename false (sight_of asked.rename s.world target asked.path); from = target; to = asked.path; ship_from = is.shipped.target; ship_to = is.shipped.path; recorded = left }))
+      let place = resolved before.aliases asked.path in
+      let left_entries = with_entries before (without asked.path before.entries) in
+      answered_kept is.answer before left_entries after (HasRemoved before asked.path asked.rename) s.world t.world is.table (is.left h)
+      (λ left. keep before left_entries s.world t.world (record { moves = moves_back asked.rename s.world target place; from = target; to = place; ship_from = is.shipped.target; ship_to = resolved_shipped before.aliases asked.path is.shipped.path; recorded = left }))
 
 module _ (d : Recorded) (lists : List PackageList) where
-  pub standing_diverted : (asked : Diverting) (seen : Seen) (before after : List Diversion) (u : AUnit) (s t : State) → IsDiverted asked seen before after u s t → IsTrue t.honest → IsStanding (with_entries d lists before) s.world → IsStanding (with_entries d lists after) t.world
-  standing_diverted = diverted_kept (λ entries. IsStanding (with_entries d lists entries)) (λ before after old new is. standing_retabled d lists before after old new is)
+  pub standing_diverted : (asked : Diverting) (seen : Seen) (before after : Ways) (u : AUnit) (s t : State) → IsDiverted asked seen before after u s t → IsTrue t.honest → IsStanding (with_ways d lists before) s.world → IsStanding (with_ways d lists after) t.world
+  standing_diverted = diverted_kept (λ ways. IsStanding (with_ways d lists ways)) (λ before after old new is. standing_retabled d lists before after old new is)
 
-  pub standing_undiverted : (asked : Undiverting) (before after : List Diversion) (u : AUnit) (s t : State) → IsUndiverted asked before after u s t → IsTrue t.honest → IsStanding (with_entries d lists before) s.world → IsStanding (with_entries d lists after) t.world
-  standing_undiverted = undiverted_kept (λ entries. IsStanding (with_entries d lists entries)) (λ before after old new is. standing_retabled d lists before after old new is)
+  pub standing_undiverted : (asked : Undiverting) (before after : Ways) (u : AUnit) (s t : State) → IsUndiverted asked before after u s t → IsTrue t.honest → IsStanding (with_ways d lists before) s.world → IsStanding (with_ways d lists after) t.world
+  standing_undiverted = undiverted_kept (λ ways. IsStanding (with_ways d lists ways)) (λ before after old new is. standing_retabled d lists before after old new is)
 
-  pub found_diverted : (asked : Diverting) (seen : Seen) (before after : List Diversion) (u : AUnit) (s t : State) → IsDiverted asked seen before after u s t → IsTrue t.honest → IsFound d.records d.notes lists before s.world → IsFound d.records d.notes lists after t.world
-  found_diverted = diverted_kept (IsFound d.records d.notes lists) (λ before after old new is. found_retabled d lists before after old new is)
+  pub found_diverted : (asked : Diverting) (seen : Seen) (before after : Ways) (u : AUnit) (s t : State) → IsDiverted asked seen before after u s t → IsTrue t.honest → IsFound d.records d.notes lists before.entries s.world → IsFound d.records d.notes lists after.entries t.world
+  found_diverted = diverted_kept (λ ways. IsFound d.records d.notes lists ways.entries) (λ before after old new is. found_retabled d lists before after old new is)
 
-  pub found_undiverted : (asked : Undiverting) (before after : List Diversion) (u : AUnit) (s t : State) → IsUndiverted asked before after u s t → IsTrue t.honest → IsFound d.records d.notes lists before s.world → IsFound d.records d.notes lists after t.world
-  found_undiverted = undiverted_kept (IsFound d.records d.notes lists) (λ before after old new is. found_retabled d lists before after old new is)
+  pub found_undiverted : (asked : Undiverting) (before after : Ways) (u : AUnit) (s t : State) → IsUndiverted asked before after u s t → IsTrue t.honest → IsFound d.records d.notes lists before.entries s.world → IsFound d.records d.notes lists after.entries t.world
+  found_undiverted = undiverted_kept (λ ways. IsFound d.records d.notes lists ways.entries) (λ before after old new is. found_retabled d lists before after old new is)

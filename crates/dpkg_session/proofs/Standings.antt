@@ -11,8 +11,9 @@ use Rattle.administration.specs.Places.{home_path, info_path, updates_path, dive
 use Rattle.administration.specs.Files.{NoDirectory}
 use Rattle.administration.proofs.WholeFiles.{no_directory_at, no_directory_file, no_directory_none}
 use Rattle.diversions.specs.Diverted.{Diverted}
-use Rattle.diversions.specs.declared.entry.Diversion.{Diversion}
+use Rattle.diversions.specs.Ways.{Ways}
 use Rattle.diversions.specs.Lines.{HasEntries}
+use Rattle.diversions.specs.declared.entry.Diversion.{Diversion}
 use Rattle.file_lists.specs.Filed.{Filed}
 use Rattle.opening.specs.Opened.{IsFound, IsOpened}
 use Rattle.status_db.specs.Held.{IsKept}
@@ -23,7 +24,7 @@ use Rattle.unit_reports.specs.declared.report.Unit.{Unit as AUnit}
 use Rattle.unit_reports.specs.Held.{Held, held}
 use Rattle.dpkg_session.specs.Run.{IsRun}
 use Rattle.dpkg_session.specs.Standing.{AreRecorded, IsStanding}
-use Rattle.dpkg_session.proofs.Beside.{diverted_run, diverted_spare_run, entries_run}
+use Rattle.dpkg_session.proofs.Beside.{diverted_run, diverted_spare_run, ways_run}
 
 directory_there : (node : Option Node) → is_directory node ≡ true → IsDirectory node
 directory_there None is = cc
@@ -74,12 +75,12 @@ order_standing h w is = record {
   listed = is.6;
 }
 
-pub standing_found : (h : Held) (w : World) → IsFound h.records.records h.records.notes h.lists h.entries w → IsStanding h w
+pub standing_found : (h : Held) (w : World) → IsFound h.records.records h.records.notes h.lists h.ways.entries w → IsStanding h w
 standing_found h w found = (
   recorded h.records w found.records,
   directory_is (w info_path) found.info,
   (λ name plain. (found.listed.sound name plain).loose),
-  entries_no_directory (w diversions_path) h.entries found.diversions,
+  entries_no_directory (w diversions_path) h.ways.entries found.diversions,
   found.diversions_spare,
   found.tmp,
   ∣ found.listed.lists ∣₁,
@@ -87,8 +88,8 @@ standing_found h w found = (
 )
 
 -- right after the opening no note stands
-pub standing_opened : (d : Recorded) (f : Filed) (v : Diverted) (w : World) → d.notes ≡ 0 → IsOpened d.records f.lists v.entries w → IsStanding (held d f v) w
-standing_opened d f v w none opened = standing_found (held d f v) w (subst (λ n. IsFound d.records n f.lists v.entries w) (sym none) opened)
+pub standing_opened : (d : Recorded) (f : Filed) (v : Diverted) (w : World) → d.notes ≡ 0 → IsOpened d.records f.lists v.ways.entries w → IsStanding (held d f v) w
+standing_opened d f v w none opened = standing_found (held d f v) w (subst (λ n. IsFound d.records n f.lists v.ways.entries w) (sym none) opened)
 
 pub standing_run : (auto : Bool) (cs : List Candidate) (us : List AUnit) (before after : Held) (s t : State) → IsRun auto cs us before after s t → IsTrue t.honest → IsInOrder after.records after.lists t.world → IsStanding before s.world → IsStanding after t.world
 standing_run auto cs us before after s t run h order standing = (
@@ -99,5 +100,5 @@ standing_run auto cs us before after s t run h order standing = (
   no_directory_at (t.world (temporary diversions_path)) (s.world (temporary diversions_path)) (diverted_spare_run auto cs us before after s t run h) standing.4,
   order.tmp,
   order.listed,
-  ∥∥₁_map standing.7 (λ has. subst (λ (l : List Diversion). HasEntries (t.world diversions_path) l) (sym (entries_run auto cs us before after s t run)) (subst (λ n. HasEntries n before.entries) (sym (diverted_run auto cs us before after s t run h)) has)),
+  ∥∥₁_map standing.7 (λ has. subst (λ (l : Ways). HasEntries (t.world diversions_path) l.entries) (sym (ways_run auto cs us before after s t run)) (subst (λ n. HasEntries n before.ways.entries) (sym (diverted_run auto cs us before after s t run h)) has)),
 )

@@ -7,7 +7,7 @@ use Rattle.host_core.specs.Events.{Ran, changes_of, follow_all}
 use Rattle.host_core.specs.Host.{State, CallsSome, WasDenied, finished}
 use Rattle.host_core.proofs.Scripts.{Avoids-front, changed_kept}
 use Rattle.host_core.specs.declared.call.Call.{Call}
-use Rattle.diversions.specs.declared.entry.Diversion.{Diversion}
+use Rattle.diversions.specs.Ways.{Ways}
 use Rattle.file_lists.specs.declared.paths.PackageList.{PackageList}
 use Rattle.status_records.specs.declared.record.Record.{Record}
 use Rattle.unit_stages.specs.declared.part.Part.{Part}
@@ -52,29 +52,29 @@ stages_own name [] rs ls fit = tt
 stages_own name (stage ∷ stages) rs ls fit =
     (record { parts = parts_own name stage.parts.items rs ls fit.0.parts; restore = parts_own name stage.restore.items _ _ fit.0.restore }, stages_own name stages _ _ fit.1)
 
-module _ (name : Path) (entries : List Diversion) where
-  calls_keep : (h : Holding) (P : List Ran → Type 0) (s t : State) → CallsSome (kept_by entries h) P s t → IsTrue t.honest → KeepsOthers name s.world t.world
+module _ (name : Path) (ways : Ways) where
+  calls_keep : (h : Holding) (P : List Ran → Type 0) (s t : State) → CallsSome (kept_by ways h) P s t → IsTrue t.honest → KeepsOthers name s.world t.world
   calls_keep h P s t made honest = keeps_own name s.world t.world (calls_own _ P s t made honest)
 
   does_keep : (parts : List Part) (h : Holding) (s t : State) → AreOwn name parts → DoesParts name parts h s t → IsTrue t.honest → KeepsOthers name s.world t.world
   does_keep parts h s t fit does honest = parts_keep name (WasDenied s t) parts h.records s.world t.world fit (does.done honest)
 
-  passed_keeps : (stage : Stage) (h : Holding) (s t : State) (told now : List Called) → IsOwnStage name stage → HasPassed name entries stage h s t told now → IsTrue t.honest → KeepsOthers name s.world t.world
+  passed_keeps : (stage : Stage) (h : Holding) (s t : State) (told now : List Called) → IsOwnStage name stage → HasPassed name ways stage h s t told now → IsTrue t.honest → KeepsOthers name s.world t.world
   passed_keeps stage h s t told now fit passed honest =
       keeps_then name s.world passed.ready.world t.world
       (does_keep stage.parts.items h s passed.ready fit.parts passed.parts (passed.calls.1.goes.honest honest))
       (calls_keep (after_parts name stage.parts.items h) _ passed.ready t passed.calls honest)
 
-  restored_falls : (owners : List Owner) (restore : List Part) (before after : Holding) (s t : State) → HasRestored name entries owners restore before after s t → IsTrue t.honest → IsTrue s.honest
+  restored_falls : (owners : List Owner) (restore : List Part) (before after : Holding) (s t : State) → HasRestored name ways owners restore before after s t → IsTrue t.honest → IsTrue s.honest
   restored_falls owners restore before after s t (HasRestored.restored none does is) honest = does.silent.honest honest
   restored_falls owners restore before after s t (HasRestored.left some same is) honest = subst (λ (x : State). IsTrue x.honest) same honest
 
-  restored_keeps : (owners : List Owner) (restore : List Part) (before after : Holding) (s t : State) → AreOwn name restore → HasRestored name entries owners restore before after s t
+  restored_keeps : (owners : List Owner) (restore : List Part) (before after : Holding) (s t : State) → AreOwn name restore → HasRestored name ways owners restore before after s t
       → IsTrue t.honest → KeepsOthers name s.world t.world
   restored_keeps owners restore before after s t fit (HasRestored.restored none does is) honest = does_keep restore before s t fit does honest
   restored_keeps owners restore before after s t fit (HasRestored.left some same is) honest = subst (λ (x : State). KeepsOthers name s.world x.world) (sym same) (keeps_here name s.world)
 
-  failed_keeps : (stage : Stage) (failed : Option Call) (before after : Holding) (s t : State) (told now : List Called) → IsOwnStage name stage → HasFailed name entries stage failed before after s t told now
+  failed_keeps : (stage : Stage) (failed : Option Call) (before after : Holding) (s t : State) (told now : List Called) → IsOwnStage name stage → HasFailed name ways stage failed before after s t told now
       → IsTrue t.honest → KeepsOthers name s.world t.world
   failed_keeps stage failed before after s t told now fit is honest =
       let mid = after_parts name stage.parts.items before in
@@ -89,7 +89,7 @@ module _ (name : Path) (entries : List Diversion) where
       (restored_keeps back.owners stage.restore.items mid after back.undone t fit.restore back.restored honest)))
 
   -- no lie is forgotten over stages
-  pub stages_fall : (stages : List Stage) (failed : Option Call) (before after : Holding) (s t : State) (told now : List Called) → HaveRun name entries stages failed before after s t told now → IsTrue t.honest → IsTrue s.honest
+  pub stages_fall : (stages : List Stage) (failed : Option Call) (before after : Holding) (s t : State) (told now : List Called) → HaveRun name ways stages failed before after s t told now → IsTrue t.honest → IsTrue s.honest
   stages_fall [] failed before after s t told now run h = subst (λ (x : State). IsTrue x.honest) run.2 h
   stages_fall (stage ∷ stages) failed before after s t told now (inl gone) h =
       gone.passed.parts.silent.honest (gone.passed.calls.1.goes.honest (stages_fall stages failed (after_parts name stage.parts.items before) after gone.mid t gone.more now gone.further h))
@@ -98,7 +98,7 @@ module _ (name : Path) (entries : List Diversion) where
       is.parts.silent.honest (is.fell.calls.1.goes.honest (back.undo.1.goes.honest (restored_falls back.owners stage.restore.items (after_parts name stage.parts.items before) after back.undone t back.restored h)))
 
   pub stages_keep : (stages : List Stage) (failed : Option Call) (before after : Holding) (s t : State) (told now : List Called) → AreOwnStages name stages
-      → HaveRun name entries stages failed before after s t told now → IsTrue t.honest → KeepsOthers name s.world t.world
+      → HaveRun name ways stages failed before after s t told now → IsTrue t.honest → KeepsOthers name s.world t.world
   stages_keep [] failed before after s t told now fit run h = subst (λ (x : State). KeepsOthers name s.world x.world) (sym run.2) (keeps_here name s.world)
   stages_keep (stage ∷ stages) failed before after s t told now fit (inl gone) h =
       let mid = after_parts name stage.parts.items before in

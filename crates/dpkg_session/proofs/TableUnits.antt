@@ -1,8 +1,6 @@
 -- Units that change the diversions.
 use Rattle.std.proofs.Common.{◌≡◌, ◌⊎◌, inl, inr, Bool, true, false, List, [], ◌∷◌, Ok, refl, sym, subst}
-use Rattle.std.specs.Prelude.{IsNone, Some, cond}
-use Rattle.std.specs.Str.{bytes_eq}
-use Rattle.host_core.specs.Paths.{Path, is_ship_text}
+use Rattle.std.specs.Prelude.{IsNone}
 use Rattle.host_core.specs.World.{World}
 use Rattle.host_core.specs.Host.{Reads, State, Since}
 use Rattle.host_core.specs.Loss.{IsAnswered, IsOnDisk}
@@ -11,9 +9,6 @@ use Rattle.diversions.specs.declared.fault.DiversionFault.{DiversionFault}
 use Rattle.diversions.specs.declared.refusal.Answer.{Answer}
 use Rattle.diversions.specs.declared.refusal.Answer.TheVariants as answered
 use Rattle.host_core.proofs.Moments.{since_now, since_then, since_weaker_if}
-use Rattle.diversions.specs.Entries.{IsTable, entry_of}
-use Rattle.diversions.specs.Places.{target_of, truename}
-use Rattle.diversions.specs.declared.entry.Diversion.{Diversion}
 use Rattle.unit_reports.specs.declared.report.Report.{Report}
 use Rattle.unit_reports.specs.declared.report.Unit.{Unit as AUnit}
 use Rattle.dpkg_session.specs.Diversions.{IsFlushed, IsOneUnit, IsReportOf}
@@ -35,15 +30,6 @@ flushed_by (answered.Refused refusal) s m t disk (inr same) reads = subst (λ (x
 pub flushed_answered : (answer : Answer) (s t : State) → IsFlushed answer s t → IsAnswered s t
 flushed_answered answered.Done s t disk = inl disk
 flushed_answered (answered.Refused refusal) s t reads = inr reads
-
--- each target of a table is a shipped path
-pub truename_shipped : (entries : List Diversion) (path : Path) → IsTable entries → is_ship_text path ≡ true → is_ship_text (truename entries path) ≡ true
-truename_shipped [] path table ship = ship
-truename_shipped (d ∷ entries) path table ship = at (truename_shipped entries path table.3 ship) (bytes_eq path d.path)
-  where
-    at : is_ship_text (target_of (entry_of entries path) path) ≡ true → (b : Bool) → is_ship_text (target_of (cond b (Some d) (entry_of entries path)) path) ≡ true
-    at later true = table.0.target.path
-    at later false = later
 
 -- a report of one unit that wasn't broken off
 pub one_unit : (P : AUnit → Type 0) (u : AUnit) (report : Report) → IsReportOf u report → IsBroken u.reply ⊎ P u → IsNone report.last → IsOneUnit P report.units.items

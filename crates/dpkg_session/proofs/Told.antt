@@ -98,7 +98,7 @@ whole_tells : (p : Package) (beside : Beside) (before : Held) (s t : State) (tol
 whole_tells p beside before s t told now (inl called) = beside_tells p beside before s t told now called
 whole_tells p beside before s t told now (inr is) =
     tells_then s is.m t told is.between now (unpacked_tells p beside before (places_of before) None is.records is.lists s is.m told is.between is.unpacked)
-    (displacing_tells p.name p.version before.entries _ beside.conflicting _ is.m t is.between now is.called)
+    (displacing_tells p.name p.version before.ways _ beside.conflicting _ is.m t is.between now is.called)
 
 called_by_tells : (p : Package) (decision : Checked) (before : Held) (u : AUnit) (s t : State) → HasCalledBy p decision before u s t → TellsAll s t [] u.calls.items
 called_by_tells p (Refused rule) before u s t none = no_calls_tell u s t none

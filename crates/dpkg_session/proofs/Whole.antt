@@ -74,7 +74,7 @@ module _ (p : Package) (beside : Beside) (before : Held) (places : List Path) (r
         (subst (λ c. P b.«package» b.version losing c) conflicting_is here)))
 
     pub displaced_whole : (displaced : List (List ℕ)) (failed : Option Call) (after : Held) (now : List Called) → Needs m (IsInOrder records lists)
-        → HaveBeenDisplaced b.«package» b.version before.entries losing conflicting displaced failed (holding_of mid) (holding_of after) m t between now → HasUnpackedWhole p beside before unwinding displaced failed after s t told now
+        → HaveBeenDisplaced b.«package» b.version before.ways losing conflicting displaced failed (holding_of mid) (holding_of after) m t between now → HasUnpackedWhole p beside before unwinding displaced failed after s t told now
     displaced_whole displaced failed after now order done = subst (λ u. HasUnpackedWhole p beside before u displaced failed after s t told now) (sym committed) (record {
       records = records;
       lists = lists;
@@ -82,23 +82,23 @@ module _ (p : Package) (beside : Beside) (before : Held) (places : List Path) (r
       between = between;
       unpacked = by_places None s m told between unpacked_so;
       ready = order;
-      behind = of_package (λ n v l c. HaveBeenDisplaced n v before.entries l c displaced failed (holding_of mid) (holding_of after) m t between now) done;
+      behind = of_package (λ n v l c. HaveBeenDisplaced n v before.ways l c displaced failed (holding_of mid) (holding_of after) m t between now) done;
     })
 
-    pub called_whole : (now : List Called) → HasCalledDisplacing b.«package» b.version before.entries losing conflicting (holding_of mid) m t between now → HasCalledWhole p beside before s t told now
+    pub called_whole : (now : List Called) → HasCalledDisplacing b.«package» b.version before.ways losing conflicting (holding_of mid) m t between now → HasCalledWhole p beside before s t told now
     called_whole now called = inr (record {
       records = records;
       lists = lists;
       m = m;
       between = between;
       unpacked = by_places None s m told between unpacked_so;
-      called = of_package (λ n v l c. HasCalledDisplacing n v before.entries l c (holding_of mid) m t between now) called;
+      called = of_package (λ n v l c. HasCalledDisplacing n v before.ways l c (holding_of mid) m t between now) called;
     })
 
-    pub since_whole : told ≡ [] → Since (IsAmidBeside p beside before places s.world) s m → Since (IsAmidDisplacing b.«package» b.version before.entries losing conflicting (holding_of mid) m) m t → Since (IsAmidUnpack p beside before s.world) s t
+    pub since_whole : told ≡ [] → Since (IsAmidBeside p beside before places s.world) s m → Since (IsAmidDisplacing b.«package» b.version before.ways losing conflicting (holding_of mid) m) m t → Since (IsAmidUnpack p beside before s.world) s t
     since_whole untold first second =
         since_behind p beside before records lists places told between s m t same_places untold unpacked_so first
-        (of_package (λ n v l c. Since (IsAmidDisplacing n v before.entries l c (holding_of mid) m) m t) second)
+        (of_package (λ n v l c. Since (IsAmidDisplacing n v before.ways l c (holding_of mid) m) m t) second)
 
 -- the faults of both
 

@@ -6,7 +6,7 @@ use Rattle.disappearance.specs.Units.{IsDecided}
 use Rattle.disappearance.specs.declared.losing.Losing.{Losing}
 use Rattle.displaced_packages.specs.Displacing.{HaveBeenDisplaced}
 use Rattle.displaced_packages.specs.Losing.{is_spared, losing_beside, losing_of}
-use Rattle.diversions.specs.declared.entry.Diversion.{Diversion}
+use Rattle.diversions.specs.Ways.{Ways}
 use Rattle.file_lists.specs.declared.paths.PackageList.{PackageList}
 use Rattle.host_core.specs.Host.{State}
 use Rattle.host_core.specs.declared.call.Call.{Call}
@@ -18,12 +18,12 @@ use Rattle.dpkg_session.specs.Units.{yielding}
 pub none_among : (names : List (List ℕ)) (q : List ℕ) → names ≡ [] → Contains names q → ⊥
 none_among names q none has = let here : Contains [] q = subst (λ (l : List (List ℕ)). Contains l q) none has in omega (arith, here.1)
 
-module _ (incoming version : List ℕ) (entries : List Diversion) where
-  one_of : (l : Losing) (more own : List (List ℕ)) (failed : Option Call) (before after : Holding) (s t : State) (told now : List Called) (q : List ℕ) → IsDecided incoming version entries l own failed before after s t told now → Contains own q → Contains (l.name ∷ more) q
+module _ (incoming version : List ℕ) (ways : Ways) where
+  one_of : (l : Losing) (more own : List (List ℕ)) (failed : Option Call) (before after : Holding) (s t : State) (told now : List Called) (q : List ℕ) → IsDecided incoming version ways l own failed before after s t told now → Contains own q → Contains (l.name ∷ more) q
   one_of l more own failed before after s t told now q (IsDecided.disappeared is gone) has = Contains-append_left (l.name ∷ []) more q (subst (λ (ns : List (List ℕ)). Contains ns q) is has)
   one_of l more own failed before after s t told now q (IsDecided.stayed is none stayed) has = absurd (none_among own q is has)
 
-  gone_among : (losing : List Losing) (names : List (List ℕ)) (failed : Option Call) (before after : Holding) (s t : State) (told now : List Called) (q : List ℕ) → HaveDisappeared incoming version entries losing names failed before after s t told now
+  gone_among : (losing : List Losing) (names : List (List ℕ)) (failed : Option Call) (before after : Holding) (s t : State) (told now : List Called) (q : List ℕ) → HaveDisappeared incoming version ways losing names failed before after s t told now
       → Contains names q → Contains (map (λ (l : Losing). l.name) losing) q
   gone_among [] names failed before after s t told now q is has = absurd (none_among names q is.0 has)
   gone_among (l ∷ ls) names failed before after s t told now q is has =
@@ -45,13 +45,13 @@ losing_among lists test (x ∷ names) q has = by (test x) (losing_among lists te
     ]
     by false further there = Contains-append_right (x ∷ []) names q (further there)
 
-pub displaced_yield : (incoming version : List ℕ) (entries : List Diversion) (lists : List PackageList) (beside : Beside) (losing : List Losing) (conflicting names : List (List ℕ)) (failed : Option Call) (before after : Holding) (s t : State) (told now : List Called)
-    → losing ≡ losing_beside lists beside → conflicting ≡ beside.conflicting → HaveBeenDisplaced incoming version entries losing conflicting names failed before after s t told now → (q : List ℕ) → Contains names q → Contains (yielding beside) q
-displaced_yield incoming version entries lists beside losing conflicting names failed before after s t told now losing_is conflicting_is is q has =
+pub displaced_yield : (incoming version : List ℕ) (ways : Ways) (lists : List PackageList) (beside : Beside) (losing : List Losing) (conflicting names : List (List ℕ)) (failed : Option Call) (before after : Holding) (s t : State) (told now : List Called)
+    → losing ≡ losing_beside lists beside → conflicting ≡ beside.conflicting → HaveBeenDisplaced incoming version ways losing conflicting names failed before after s t told now → (q : List ℕ) → Contains names q → Contains (yielding beside) q
+displaced_yield incoming version ways lists beside losing conflicting names failed before after s t told now losing_is conflicting_is is q has =
     let gone = is.gone in
     let removed = gone.removed in
     elim (Contains-append_cases gone.gone conflicting q (subst (λ (ns : List (List ℕ)). Contains ns q) removed.names_are has)) [
       | inl own ↦ Contains-append_right beside.conflicting beside.replaced q (losing_among lists (is_spared beside.conflicting) beside.replaced q
-          (subst (λ (ls : List Losing). Contains (map (λ (l : Losing). l.name) ls) q) losing_is (gone_among incoming version entries losing gone.gone gone.lost before gone.mid s gone.m told gone.between q gone.disappeared own)))
+          (subst (λ (ls : List Losing). Contains (map (λ (l : Losing). l.name) ls) q) losing_is (gone_among incoming version ways losing gone.gone gone.lost before gone.mid s gone.m told gone.between q gone.disappeared own)))
       | inr other ↦ Contains-append_left beside.conflicting beside.replaced q (subst (λ (ns : List (List ℕ)). Contains ns q) conflicting_is other)
     ]

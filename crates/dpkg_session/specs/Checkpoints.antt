@@ -8,7 +8,7 @@ use Rattle.unit_reports.specs.Held.{Held}
 
 -- what is held of the same administration once all notes are merged
 abbrev pub merged : Held → Held
-merged h = record { records = record { records = h.records.records; notes = 0; closed = false }; lists = h.lists; entries = h.entries }
+merged h = record { records = record { records = h.records.records; notes = 0; closed = false }; lists = h.lists; ways = h.ways }
 
 -- a fault of the records, as one of the host; those of an open session aren't closed
 abbrev pub host_fault : RecordFault → HostFault

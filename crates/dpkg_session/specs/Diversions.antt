@@ -1,15 +1,15 @@
 -- Commands that add a diversion or take one away (dpkg-divert(1)), each one unit.
 use Rattle.std.specs.Prelude.{◌≡◌, Bool, true, false, IsTrue, IsNone, IfSome, List, [], ◌∷◌}
 use Rattle.std.specs.List.{list_any}
-use Rattle.std.specs.Str.{bytes_eq}
+use Rattle.aliases.specs.Aliases.{Alias}
 use Rattle.host_core.specs.Paths.{Path, is_ship_text}
 use Rattle.host_core.specs.World.{World}
 use Rattle.host_core.specs.Host.{Reads, State}
 use Rattle.host_core.specs.Loss.{IsOnDisk}
 use Rattle.diversions.specs.Changes.{HasAdded, HasRemoved, diversion_of, with_entry}
 use Rattle.diversions.specs.Entries.{without}
-use Rattle.diversions.specs.Places.{truename}
-use Rattle.diversions.specs.Refusals.{add_answer, remove_answer}
+use Rattle.diversions.specs.Ways.{truename, Ways}
+use Rattle.diversions.specs.Refusals.{add_answer, is_one_place, remove_answer}
 use Rattle.diversions.specs.declared.entry.Diversion.{Diversion}
 use Rattle.diversions.specs.declared.entry.Owner.{Owner}
 use Rattle.diversions.specs.declared.entry.Owner.TheVariants.{Local, Package}
@@ -20,7 +20,6 @@ use Rattle.diversions.specs.declared.refusal.Answer.TheVariants as answered
 use Rattle.diversions.specs.declared.refusal.Seen.{Seen}
 use Rattle.file_lists.specs.Owners.{paths_of}
 use Rattle.file_lists.specs.declared.paths.PackageList.{PackageList}
-use Rattle.status_records.specs.Conffiles.{has_conffile}
 use Rattle.status_records.specs.declared.record.Record.{Record}
 use Rattle.dpkg_session.specs.declared.asked.Diverting.{Diverting}
 use Rattle.dpkg_session.specs.declared.asked.Undiverting.{Undiverting}
@@ -33,14 +32,22 @@ use Rattle.unit_reports.specs.declared.report.Report.{Report}
 use Rattle.unit_reports.specs.declared.report.Unit.{Unit as AUnit}
 use Rattle.unit_reports.specs.Units.{IsBroken, TellsNoPackage}
 
--- the owner's list has the path; the administrator has no list
-abbrev pub is_listed : List PackageList → Owner → Path → Bool
-is_listed lists Local path = false
-is_listed lists (Package name) path = list_any (bytes_eq path) (paths_of lists name)
+-- the owner's list has the place of the path; the administrator has no list
+abbrev pub is_listed : List Alias → List PackageList → Owner → Path → Bool
+is_listed aliases lists Local path = false
+is_listed aliases lists (Package name) path = list_any (is_one_place aliases path) (paths_of lists name)
+
+-- a conffile of the record has it
+abbrev pub has_conffile_at : List Alias → Path → Record → Bool
+has_conffile_at aliases path r = list_any (λ e. is_one_place aliases path e.path) r.conffiles
 
 -- what the administration says of a path that is to be diverted
-abbrev pub seen_of : List Record → List PackageList → Owner → Path → Seen
-seen_of records lists owner path = record { conffile = list_any (λ r. has_conffile r path) records; listed = is_listed lists owner path }
+abbrev pub seen_of : List Alias → List Record → List PackageList → Owner → Path → Seen
+seen_of aliases records lists owner path = record { conffile = list_any (has_conffile_at aliases path) records; listed = is_listed aliases lists owner path }
+
+-- other entries, beside the same aliases
+abbrev pub with_entries : Ways → List Diversion → Ways
+with_entries ways entries = record { entries = entries; aliases = ways.aliases }
 
 abbrev pub asked_entry : Diverting → Diversion
 asked_entry asked = diversion_of asked.path asked.target asked.owner
@@ -77,22 +84,22 @@ pub record AreShipped (from to : Path) : Type 0 where
   pub target : is_ship_text to ≡ true
 
 -- A diversion is added, or refused by the first rule that holds; what was done is on the disk.
-pub record IsDiverted (asked : Diverting) (seen : Seen) (before after : List Diversion) (u : AUnit) (s t : State) : Type 0 where
+pub record IsDiverted (asked : Diverting) (seen : Seen) (before after : Ways) (u : AUnit) (s t : State) : Type 0 where
   pub answer : Answer
   pub shipped : AreShipped asked.path asked.target
   pub unit : AnswersDiversion asked.path answer u
   pub first : IsTrue t.honest → answer ≡ add_answer s.world before (asked_entry asked) asked.rename seen
-  pub table : after ≡ by_answer answer before (with_entry before (asked_entry asked))
+  pub table : after ≡ by_answer answer before (with_entries before (with_entry before.entries (asked_entry asked)))
   pub left : IsTrue t.honest → LeavesAnswer answer (HasAdded before (asked_entry asked) asked.rename seen) s.world t.world
   pub flushed : IsFlushed answer s t
 
 -- A diversion is taken away, or that is refused by the first rule that holds; what was done is on the disk.
-pub record IsUndiverted (asked : Undiverting) (before after : List Diversion) (u : AUnit) (s t : State) : Type 0 where
+pub record IsUndiverted (asked : Undiverting) (before after : Ways) (u : AUnit) (s t : State) : Type 0 where
   pub answer : Answer
   pub shipped : AreShipped asked.path (truename before asked.path)
   pub unit : AnswersDiversion asked.path answer u
   pub first : IsTrue t.honest → answer ≡ remove_answer s.world before asked.path asked.owner asked.rename
-  pub table : after ≡ by_answer answer before (without asked.path before)
+  pub table : after ≡ by_answer answer before (with_entries before (without asked.path before.entries))
   pub left : IsTrue t.honest → LeavesAnswer answer (HasRemoved before asked.path asked.rename) s.world t.world
   pub flushed : IsFlushed answer s t
 

@@ -1,5 +1,6 @@
 -- Commands given one after another.
 use Rattle.std.specs.Prelude.{◌≡◌, ℕ, Bool, IsTrue, List, [], ◌∷◌, None}
+use Rattle.aliases.specs.Aliases.{Alias}
 use Rattle.conffiles.specs.declared.decisions.ConfPolicy.{ConfPolicy}
 use Rattle.configure_run.specs.Run.{IsConfigureRun}
 use Rattle.host_core.specs.Paths.{is_own}
@@ -43,8 +44,8 @@ pub record KeepsRest (before after : Held) : Type 0 where
 abbrev pub HasDone : Ran → Held → Held → State → State → Type 0
 HasDone (Unpacked auto_deconfigure candidates units) before after s t = IsRun auto_deconfigure candidates units before after s t
 HasDone (Diverted asked unit) before after s t =
-    IsDiverted asked (seen_of before.records.records before.lists asked.owner asked.path) before.entries after.entries unit s t × KeepsRest before after
-HasDone (Undiverted asked unit) before after s t = IsUndiverted asked before.entries after.entries unit s t × KeepsRest before after
+    IsDiverted asked (seen_of before.ways.aliases before.records.records before.lists asked.owner asked.path) before.ways after.ways unit s t × KeepsRest before after
+HasDone (Undiverted asked unit) before after s t = IsUndiverted asked before.ways after.ways unit s t × KeepsRest before after
 HasDone (Configured names policy units) before after s t = IsConfigureRun names policy units before after s t
 HasDone (Removed names purge units) before after s t = IsRemovalRun names purge units before after s t
 HasDone (Installed auto_deconfigure candidates policy unpacked configured) before after s t = IsInstall auto_deconfigure candidates policy unpacked configured before after s t
@@ -52,7 +53,7 @@ HasDone Merged before after s t = (after ≡ merged before) × (IsTrue t.honest 
 
 -- the administration stands for these records, lists and diversions, and all parts of it can be read
 abbrev pub Stands : Held → World → Type 0
-Stands h w = IsFound h.records.records h.records.notes h.lists h.entries w
+Stands h w = IsFound h.records.records h.records.notes h.lists h.ways.entries w
 
 -- One command on an honest host whose administration stands for what is held: its units, and what they leave held, and the
 -- world that they leave.
@@ -65,11 +66,15 @@ pub record IsCommand (ran : Ran) (before after : Held) (old new : World) : Type 
   pub opened : Stands before old
   pub done : HasDone ran before after start end
 
+-- what is held, with other aliases
+abbrev pub realiased : List Alias → Held → Held
+realiased aliases h = record h { ways = record { entries = h.ways.entries; aliases = aliases } }
+
 -- Between two commands any path but the program's own may have changed; and then another session may have been opened, which
--- merges the notes.
+-- merges the notes and reads the aliases anew.
 pub data IsBetween (left found : Held) (old new : World) : Type 0 where
   same : found ≡ left → SameOn is_own old new → IsBetween left found old new
-  reopened : (mid : World) → found ≡ merged left → SameOn is_own old mid → OpensAndMerges None mid new → IsBetween left found old new
+  reopened : (mid : World) (aliases : List Alias) → found ≡ realiased aliases (merged left) → SameOn is_own old mid → OpensAndMerges None mid new → IsBetween left found old new
 
 -- each command finds what the one before it left
 abbrev pub IsHistory : List Ran → Held → Held → World → World → Type 0

@@ -51,7 +51,7 @@ pub record IsAmidBehind (p : Package) (beside : Beside) (before : Held) (old : W
   pub rest : List Event
   pub split : so_far ≡ front ++ rest
   pub events : m.events ≡ s.events ++ front
-  pub displacing : IsAmidDisplacing p.name p.version before.entries (losing_beside before.lists beside) beside.conflicting (holding_of (held_with before records lists)) m rest now
+  pub displacing : IsAmidDisplacing p.name p.version before.ways (losing_beside before.lists beside) beside.conflicting (holding_of (held_with before records lists)) m rest now
 
 -- at each moment of the unpack of a package, and of what is displaced behind it
 abbrev pub IsAmidUnpack : Package → Beside → Held → World → List Event → World → Type 0

@@ -39,7 +39,7 @@ IsStanding h w =
     × NoDirectory (w (temporary diversions_path))
     × (w tmp_path ≡ None)
     × ∥ HasLists w (names_of h.records.records) h.lists ∥₁
-    × ∥ HasDiversions w h.entries ∥₁
+    × ∥ HasDiversions w h.ways.entries ∥₁
 
 -- all parts of it were opened up to this fault, and the notes merged, so far as the host was honest
 abbrev pub OpensAll : Option AdministrationFault → State → State → Type 0

@@ -41,7 +41,7 @@ use Rattle.dpkg_session.specs.declared.report.Candidate.{Candidate}
 
 -- a package to be unpacked, what is held, the other packages that have rows, and those that let it take paths of theirs
 abbrev pub given_by : Package → Held → List OtherPackage → List (List ℕ) → Given
-given_by p h others yields = given_beside p h.records.records h.lists h.entries others yields
+given_by p h others yields = given_beside p h.records.records h.lists h.ways others yields
 
 -- the conflicting and the replaced packages let it take paths of theirs (Policy 7.4, 7.6)
 abbrev pub yielding : Beside → List (List ℕ)
@@ -99,7 +99,7 @@ displacing_by p beside lists = record { name = p.name; version = p.version; losi
 -- unwound nothing.
 abbrev pub HasDisplaced : Option Unwinding → Displacing → List (List ℕ) → Option Call → Held → Held → State → State → List Called → List Called → Type 0
 HasDisplaced (Some u) d displaced failed mid after m t told now = HasDisplacedNone displaced failed mid after m t told now
-HasDisplaced None d displaced failed mid after m t told now = HaveBeenDisplaced d.name d.version mid.entries d.losing d.conflicting displaced failed (holding_of mid) (holding_of after) m t told now
+HasDisplaced None d displaced failed mid after m t told now = HaveBeenDisplaced d.name d.version mid.ways d.losing d.conflicting displaced failed (holding_of mid) (holding_of after) m t told now
 
 -- what is known of it before
 pub record IsBehind (p : Package) (beside : Beside) (lists : List PackageList) (b : Behind) : Type 0 where
@@ -115,7 +115,7 @@ pub record KnowsRecords (beside : Beside) (records : List Record) (b : Behind) :
 
 -- with the records and lists that the unpack left
 abbrev pub held_with : Held → Recorded → List PackageList → Held
-held_with h records lists = record { records = records; lists = lists; entries = h.entries }
+held_with h records lists = record { records = records; lists = lists; ways = h.ways }
 
 -- The package was unpacked, or all rows were unwound; and then what it displaces was displaced.
 pub record HasUnpackedWhole (p : Package) (beside : Beside) (before : Held) (unwinding : Option Unwinding) (displaced : List (List ℕ)) (failed : Option Call) (after : Held) (s t : State) (told now : List Called) : Type 0 where
@@ -136,7 +136,7 @@ pub record IsUnpacked (p : Package) (beside : Beside) (before after : Held) (u :
   pub names : List (List ℕ)
   pub unpacked : HasUnpackedWhole p beside before unwinding displaced failed after s t [] u.calls.items
   pub order : Needs t (IsInOrder after.records after.lists)
-  pub entries : after.entries ≡ before.entries
+  pub ways : after.ways ≡ before.ways
   pub changed : IsTouchedBeside p.name before.records.records after.records.records names
   pub answers : AnswersUnpack p.name after.records.records unwinding failed names u
   pub deconfigured : AreDeconfigured p.name before.records.records after.records.records u.deconfigured
@@ -172,7 +172,7 @@ pub record HasCalledBehind (p : Package) (beside : Beside) (h : Held) (s t : Sta
   pub m : State
   pub between : List Called
   pub unpacked : HasUnpackedBeside p beside h (places_of h) None records lists s m told between
-  pub called : HasCalledDisplacing p.name p.version h.entries (losing_beside h.lists beside) beside.conflicting (holding_of (held_with h records lists)) m t between now
+  pub called : HasCalledDisplacing p.name p.version h.ways (losing_beside h.lists beside) beside.conflicting (holding_of (held_with h records lists)) m t between now
 
 -- the first calls of an unpack, or all of them and the first behind it
 abbrev pub HasCalledWhole : Package → Beside → Held → State → State → List Called → List Called → Type 0

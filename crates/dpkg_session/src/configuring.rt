@@ -52,7 +52,7 @@ pub(crate) fn configure_named<H: Host, W: Watcher>(
 ) -> Report
     requires order { Needs (H.state host.old)
         (IsInOrder administration.old.database administration.old.lists.lists) }
-    requires open { IsOpen diversions.now.entries administration.old }
+    requires open { IsOpen diversions.now.ways administration.old }
     requires indexed { IfSome administration.old.packages
         (ArePackagesOf administration.old.database.records) }
     ensures whole { IsNone result.last → IsConfigureRun names.items policy result.units.items
@@ -69,7 +69,7 @@ pub(crate) fn configure_named<H: Host, W: Watcher>(
     ensures not_closed { IfSome result.last (λ unit. IsBrokenBy Closed unit.reply → ⊥) }
     ensures order { IsNone result.last → Needs (H.state host.new)
         (IsInOrder administration.new.database administration.new.lists.lists) }
-    ensures open { IsNone result.last → IsOpen diversions.now.entries administration.new }
+    ensures open { IsNone result.last → IsOpen diversions.now.ways administration.new }
     ensures indexed { IsNone result.last → IfSome administration.new.packages
         (ArePackagesOf administration.new.database.records) }
     ensures watched { IsTold W.tells (H.state host.old) watcher.old result.units.items watcher.new }
@@ -108,7 +108,7 @@ fn configure_on<H: Host, W: Watcher>(
 ) -> Report
     requires order { Needs (H.state host.old)
         (IsInOrder administration.old.database administration.old.lists.lists) }
-    requires open { IsOpen diversions.now.entries administration.old }
+    requires open { IsOpen diversions.now.ways administration.old }
     requires indexed { IfSome administration.old.packages
         (ArePackagesOf administration.old.database.records) }
     ensures whole { IsNone result.last
@@ -128,7 +128,7 @@ fn configure_on<H: Host, W: Watcher>(
     ensures not_closed { IfSome result.last (λ unit. IsBrokenBy Closed unit.reply → ⊥) }
     ensures order { IsNone result.last → Needs (H.state host.new)
         (IsInOrder administration.new.database administration.new.lists.lists) }
-    ensures open { IsNone result.last → IsOpen diversions.now.entries administration.new }
+    ensures open { IsNone result.last → IsOpen diversions.now.ways administration.new }
     ensures indexed { IsNone result.last → IfSome administration.new.packages
         (ArePackagesOf administration.new.database.records) }
     ensures watched { IsTold W.tells (H.state host.old) watcher.old result.units.items watcher.new }

@@ -115,7 +115,7 @@ fn bring_up_to_date(
     diversions: &Diversions,
     touched: &[Text],
 ) -> Result<(), AllocError>
-    ensures places { OnOk result (places.new ≡ places_in diversions.now.entries lists.now.lists) }
+    ensures places { OnOk result (places.new ≡ places_in diversions.now.ways lists.now.lists) }
     ensures packages { OnOk result ((before : List Record) → AreInOrder before
         → ArePackagesOf before packages.old → AreSameBut touched.now before database.now.records
         → ArePackagesOf database.now.records packages.new) }
@@ -148,7 +148,7 @@ fn unpack_refreshed<H: Host>(
         administration.new.database.records u.touched) }
     ensures order { IfOk result (λ u. Needs (H.state host.new)
         (IsInOrder administration.new.database administration.new.lists.lists)) }
-    ensures open { OnOk result (IsOpen diversions.now.entries administration.new) }
+    ensures open { OnOk result (IsOpen diversions.now.ways administration.new) }
     ensures indexed { OnOk result (ArePackagesOf administration.new.database.records packages.new) }
     ensures on_disk { OnOk result (IsOnDisk (H.state host.new).events) }
     ensures told { HasCalledBeside incoming beside.now (held_by administration.old diversions.now)
@@ -193,7 +193,7 @@ pub(crate) fn unpack_whole<H: Host>(
     requires apart { AreApart incoming.name administration.old.database.records beside.now }
     requires order { Needs (H.state host.old)
         (IsInOrder administration.old.database administration.old.lists.lists) }
-    requires open { IsOpen diversions.now.entries administration.old }
+    requires open { IsOpen diversions.now.ways administration.old }
     requires indexed { ArePackagesOf administration.old.database.records packages.old }
     requires untold { told.old.items ≡ [] }
     ensures unit { IfOk result (λ e. HasUnpackedWhole incoming beside.now
@@ -208,7 +208,7 @@ pub(crate) fn unpack_whole<H: Host>(
         administration.new.database.records (told_among incoming.name unchanged names)) }
     ensures order { OnOk result (Needs (H.state host.new)
         (IsInOrder administration.new.database administration.new.lists.lists)) }
-    ensures open { OnOk result (IsOpen diversions.now.entries administration.new) }
+    ensures open { OnOk result (IsOpen diversions.now.ways administration.new) }
     ensures indexed { OnOk result (ArePackagesOf administration.new.database.records packages.new) }
     ensures on_disk { OnOk result (IsOnDisk (H.state host.new).events) }
     ensures told { HasCalledWhole incoming beside.now (held_by administration.old diversions.now)

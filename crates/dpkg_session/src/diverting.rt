@@ -1,7 +1,5 @@
 // A session adds a diversion as one unit.
 ghost use Rattle.std.specs.Prelude.{◌≡◌, ◌⊎◌, [], true, false, IsErrOf, IsNone, IfOk, IfSome, is_some};
-ghost use Rattle.std.specs.List.{list_any};
-ghost use Rattle.std.specs.Str.{bytes_eq};
 ghost use Rattle.host_core.specs.Host.{AtEachMoment, Gives, Needs, Silent, Tells};
 ghost use Rattle.host_core.specs.Loss.{IsAnswered};
 ghost use Rattle.diversions.specs.Changes.{HasAdded, IsAdding, IsTableReady, with_entry};
@@ -10,46 +8,21 @@ ghost use Rattle.diversions.specs.Refusals.{add_answer};
 ghost use Rattle.diversions.specs.declared.fault.DiversionFault.TheVariants as fault;
 ghost use Rattle.diversions.specs.Turns.{GoesByTurns};
 ghost use Rattle.file_lists.specs.Owners.{places_in};
-ghost use Rattle.dpkg_session.specs.Diversions.{HasBroken, IsDiverted, IsFlushed, IsOneUnit, LeavesAnswer, asked_entry, by_answer, is_listed, seen_of};
+ghost use Rattle.dpkg_session.specs.Diversions.{HasBroken, IsDiverted, IsFlushed, IsOneUnit, LeavesAnswer, asked_entry, by_answer, seen_of, with_entries};
 ghost use Rattle.dpkg_session.specs.PowerLoss.{LosesLikeAStop, StandsOnceAnswered};
 ghost use Rattle.unit_reports.specs.Units.{CountsLast, CountsReply, IsBroken, IsBrokenBy, IsClosedReport, TellsCalls, TellsNoPackage, calls_told};
 ghost use Rattle.unit_reports.specs.declared.report.Breakage.TheVariants.{Closed};
 
 use crate::asked::Diverting;
+use crate::seen::seen_of;
 use crate::session::{Session, closed_report};
 use crate::table_units::{breakage_of, flush_done, no_memory, report_of, unit_of};
-use diversions::{Answer, DiversionFault, Diversions, Owner, Seen};
+use diversions::{Answer, DiversionFault, Diversions, Seen};
 use file_lists::FileLists;
-use host_core::{Host, Places, RootPath, ShipPath};
+use host_core::{Host, Places};
 use status_db::NotedDatabase;
 use std::alloc::Global;
 use unit_reports::{Report, Unit, broken};
-
-fn has_path(paths: &[RootPath], path: &ShipPath) -> bool
-    ensures { result ≡ list_any (bytes_eq path.now) paths.now }
-{
-    paths.iter().any(|listed| path.as_str() == listed.as_str())
-}
-
-// Whether the owner's list has a path.
-fn is_listed(lists: &FileLists, owner: &Owner, path: &ShipPath) -> bool
-    ensures { result ≡ is_listed lists.now.lists owner.now path.now }
-{
-    match owner {
-        Owner::Local => false,
-        Owner::Package(name) => has_path(lists.list_of(name), path),
-    }
-}
-
-// What the administration says of a path that is to be diverted.
-fn seen_of(database: &NotedDatabase, lists: &FileLists, owner: &Owner, path: &ShipPath) -> Seen
-    ensures { result ≡ seen_of database.now.records lists.now.lists owner.now path.now }
-{
-    Seen {
-        conffile: database.has_conffile(path),
-        listed: is_listed(lists, owner, path),
-    }
-}
 
 // Adds a diversion, and brings that to the disk.
 fn add_to_disk<H: Host>(
@@ -61,17 +34,17 @@ fn add_to_disk<H: Host>(
 ) -> Result<Answer, DiversionFault>
     requires ready { Needs (H.state host.old) IsTableReady }
     requires writable { diversions.old.closed ≡ false }
-    ensures answer { Tells result (λ answer w. answer ≡ add_answer w diversions.old.entries
+    ensures answer { Tells result (λ answer w. answer ≡ add_answer w diversions.old.ways
         (asked_entry asked.now) asked.now.rename seen) (H.state host.old) (H.state host.new) }
     ensures table { IfOk result (λ answer. diversions.new ≡ record diversions.old {
-      entries = by_answer answer diversions.old.entries (with_entry diversions.old.entries
-          (asked_entry asked.now));
+      ways = by_answer answer diversions.old.ways (with_entries diversions.old.ways
+          (with_entry diversions.old.ways.entries (asked_entry asked.now)));
     }) }
-    ensures left { Gives result (λ answer. LeavesAnswer answer (HasAdded diversions.old.entries
+    ensures left { Gives result (λ answer. LeavesAnswer answer (HasAdded diversions.old.ways
         (asked_entry asked.now) asked.now.rename seen)) (H.state host.old) (H.state host.new) }
     ensures flushed { IfOk result (λ answer. IsFlushed answer (H.state host.old)
         (H.state host.new)) }
-    ensures any_moment { AtEachMoment (IsAdding diversions.old.entries (asked_entry asked.now)
+    ensures any_moment { AtEachMoment (IsAdding diversions.old.ways (asked_entry asked.now)
         asked.now.rename seen) (H.state host.old) (H.state host.new) }
     ensures turns { GoesByTurns (H.state host.old) (H.state host.new) }
     ensures silent { Silent (H.state host.old) (H.state host.new) }
@@ -103,15 +76,15 @@ fn add_unit<H: Host>(
 ) -> Unit
     requires ready { Needs (H.state host.old) IsTableReady }
     requires writable { diversions.old.closed ≡ false }
-    requires kept { places.old ≡ places_in diversions.old.entries lists.now.lists }
-    ensures unit { IsBroken result.reply ⊎ IsDiverted asked.now seen diversions.old.entries
-        diversions.new.entries result (H.state host.old) (H.state host.new) }
+    requires kept { places.old ≡ places_in diversions.old.ways lists.now.lists }
+    ensures unit { IsBroken result.reply ⊎ IsDiverted asked.now seen diversions.old.ways
+        diversions.new.ways result (H.state host.old) (H.state host.new) }
     ensures writable { IsBroken result.reply ⊎ (diversions.new.closed ≡ false) }
     ensures kept { IsBroken result.reply
-        ⊎ (places.new ≡ places_in diversions.new.entries lists.now.lists) }
+        ⊎ (places.new ≡ places_in diversions.new.ways lists.now.lists) }
     ensures calls { result.calls.items ≡ [] }
     ensures touched { TellsNoPackage result }
-    ensures any_moment { AtEachMoment (IsAdding diversions.old.entries (asked_entry asked.now)
+    ensures any_moment { AtEachMoment (IsAdding diversions.old.ways (asked_entry asked.now)
         asked.now.rename seen) (H.state host.old) (H.state host.new) }
     ensures turns { GoesByTurns (H.state host.old) (H.state host.new) }
     ensures silent { Silent (H.state host.old) (H.state host.new) }
@@ -138,19 +111,19 @@ fn divert_on<H: Host>(
 ) -> Report
     requires ready { Needs (H.state host.old) IsTableReady }
     requires writable { diversions.old.closed ≡ false }
-    requires kept { places.old ≡ places_in diversions.old.entries lists.now.lists }
+    requires kept { places.old ≡ places_in diversions.old.ways lists.now.lists }
     ensures whole { IsNone result.last
-        → IsOneUnit (λ u. IsDiverted asked.now (seen_of database.now.records lists.now.lists
-        asked.now.owner asked.now.path) diversions.old.entries diversions.new.entries u
-        (H.state host.old) (H.state host.new)) result.units.items }
+        → IsOneUnit (λ u. IsDiverted asked.now (seen_of diversions.old.ways.aliases
+        database.now.records lists.now.lists asked.now.owner asked.now.path) diversions.old.ways
+        diversions.new.ways u (H.state host.old) (H.state host.new)) result.units.items }
     ensures broken { HasBroken result }
     ensures calls { calls_told result ≡ [] }
     ensures writable { IsNone result.last → diversions.new.closed ≡ false }
-    ensures kept { IsNone result.last → places.new ≡ places_in diversions.new.entries
+    ensures kept { IsNone result.last → places.new ≡ places_in diversions.new.ways
         lists.now.lists }
-    ensures any_moment { AtEachMoment (IsAdding diversions.old.entries (asked_entry asked.now)
-        asked.now.rename (seen_of database.now.records lists.now.lists asked.now.owner
-        asked.now.path)) (H.state host.old) (H.state host.new) }
+    ensures any_moment { AtEachMoment (IsAdding diversions.old.ways (asked_entry asked.now)
+        asked.now.rename (seen_of diversions.old.ways.aliases database.now.records lists.now.lists
+        asked.now.owner asked.now.path)) (H.state host.old) (H.state host.new) }
     ensures turns { GoesByTurns (H.state host.old) (H.state host.new) }
     ensures silent { Silent (H.state host.old) (H.state host.new) }
     ensures counts { CountsLast (H.state host.old) (H.state host.new) result.last }
@@ -160,7 +133,9 @@ fn divert_on<H: Host>(
     if units.reserve(1).is_err() {
         return no_memory(alloc);
     }
-    let seen = seen_of(database, lists, &asked.owner, &asked.path);
+    let Ok(seen) = seen_of(database, lists, diversions, asked) else {
+        return no_memory(alloc);
+    };
     let unit = add_unit(alloc, host, lists, diversions, places, asked, seen);
     report_of(units, unit)
 }
@@ -169,23 +144,24 @@ impl<H: Host> Session<H> {
     /// Adds a diversion: one unit. One that is broken off closes the session.
     pub fn divert(&mut self, asked: &Diverting) -> Report
         ensures whole { self.old.closed ≡ false → IsNone result.last
-            → IsOneUnit (λ u. IsDiverted asked.now (seen_of self.old.administration.database.records
-            self.old.administration.lists.lists asked.now.owner asked.now.path)
-            self.old.diversions.entries self.new.diversions.entries u (H.state self.old.host)
-            (H.state self.new.host)) result.units.items }
+            → IsOneUnit (λ u. IsDiverted asked.now (seen_of self.old.diversions.ways.aliases
+            self.old.administration.database.records self.old.administration.lists.lists
+            asked.now.owner asked.now.path) self.old.diversions.ways self.new.diversions.ways u
+            (H.state self.old.host) (H.state self.new.host)) result.units.items }
         ensures broken { HasBroken result }
         ensures told { TellsCalls (H.state self.old.host) (H.state self.new.host) result }
         ensures any_moment { self.old.closed ≡ false
-            → AtEachMoment (IsAdding self.old.diversions.entries (asked_entry asked.now)
-            asked.now.rename (seen_of self.old.administration.database.records
-            self.old.administration.lists.lists asked.now.owner asked.now.path))
-            (H.state self.old.host) (H.state self.new.host) }
+            → AtEachMoment (IsAdding self.old.diversions.ways (asked_entry asked.now)
+            asked.now.rename (seen_of self.old.diversions.ways.aliases
+            self.old.administration.database.records self.old.administration.lists.lists
+            asked.now.owner asked.now.path)) (H.state self.old.host) (H.state self.new.host) }
         ensures turns { GoesByTurns (H.state self.old.host) (H.state self.new.host) }
         ensures loss { self.old.closed ≡ false
-            → LosesLikeAStop (λ so_far. IsAdding self.old.diversions.entries (asked_entry asked.now)
-            asked.now.rename (seen_of self.old.administration.database.records
-            self.old.administration.lists.lists asked.now.owner asked.now.path)
-            (H.state self.old.host).world) (H.state self.old.host) (H.state self.new.host) }
+            → LosesLikeAStop (λ so_far. IsAdding self.old.diversions.ways (asked_entry asked.now)
+            asked.now.rename (seen_of self.old.diversions.ways.aliases
+            self.old.administration.database.records self.old.administration.lists.lists
+            asked.now.owner asked.now.path) (H.state self.old.host).world) (H.state self.old.host)
+            (H.state self.new.host) }
         ensures stands { self.old.closed ≡ false → IsNone result.last
             → StandsOnceAnswered (H.state self.old.host) (H.state self.new.host) }
         ensures answered { self.old.closed ≡ false → IsNone result.last

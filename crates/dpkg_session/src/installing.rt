@@ -66,7 +66,7 @@ fn configure_done<H: Host, W: Watcher>(
 ) -> Report
     requires order { Needs (H.state host.old)
         (IsInOrder administration.old.database administration.old.lists.lists) }
-    requires open { IsOpen diversions.now.entries administration.old }
+    requires open { IsOpen diversions.now.ways administration.old }
     requires indexed { IfSome administration.old.packages
         (ArePackagesOf administration.old.database.records) }
     ensures whole { IsNone result.last → IsConfigureRun (names_done labels.now units.now) policy
@@ -84,7 +84,7 @@ fn configure_done<H: Host, W: Watcher>(
     ensures not_closed { IfSome result.last (λ unit. IsBrokenBy Closed unit.reply → ⊥) }
     ensures order { IsNone result.last → Needs (H.state host.new)
         (IsInOrder administration.new.database administration.new.lists.lists) }
-    ensures open { IsNone result.last → IsOpen diversions.now.entries administration.new }
+    ensures open { IsNone result.last → IsOpen diversions.now.ways administration.new }
     ensures indexed { IsNone result.last → IfSome administration.new.packages
         (ArePackagesOf administration.new.database.records) }
     ensures watched { IsTold W.tells (H.state host.old) watcher.old result.units.items watcher.new }
@@ -112,7 +112,7 @@ fn unpack_and_configure<H: Host, T: Trees, W: Watcher>(
 ) -> Installed
     requires order { Needs (H.state host.old)
         (IsInOrder administration.old.database administration.old.lists.lists) }
-    requires open { IsOpen diversions.now.entries administration.old }
+    requires open { IsOpen diversions.now.ways administration.old }
     requires indexed { IfSome administration.old.packages
         (ArePackagesOf administration.old.database.records) }
     ensures run { (cs : List ACandidate) × AreRead T.reads trees.old cs trees.new
@@ -131,7 +131,7 @@ fn unpack_and_configure<H: Host, T: Trees, W: Watcher>(
         → Needs (H.state host.new)
         (IsInOrder administration.new.database administration.new.lists.lists) }
     ensures open { IsNone (last_of result.unpacked.last result.configured.last)
-        → IsOpen diversions.now.entries administration.new }
+        → IsOpen diversions.now.ways administration.new }
     ensures indexed { IsNone (last_of result.unpacked.last result.configured.last)
         → IfSome administration.new.packages (ArePackagesOf administration.new.database.records) }
     ensures watched { IsTold W.tells (H.state host.old) watcher.old

@@ -9,6 +9,10 @@
 //! candidate took away, with a report of each. An open session always knows its administration,
 //! records, lists and diversions (`ready`), and keeps the places of all listed paths (`opened`).
 //!
+//! An opening reads the aliases of the root behind the administration, and only looks for that: each
+//! listed path, each that a diversion names and those in the usual directories are followed to where
+//! they lead (`followed`). While the session is open they stay as they were read.
+//!
 //! Where it keeps what the recorded packages state of others, that is what the records state at
 //! each command (`indexed`).
 //!
@@ -78,6 +82,7 @@ mod recorded;
 mod refusal;
 mod removing;
 mod report;
+mod seen;
 mod session;
 mod table_units;
 mod tellings;

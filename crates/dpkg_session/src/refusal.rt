@@ -14,21 +14,29 @@ use texts::Text;
 use unit_reports::Rule;
 use unpack_relations::{Checked, check};
 
-// Whether the file of a path lies at another path for the package.
-fn is_away(diversions: &Diversions, name: &Text, path: &ShipPath) -> bool
-    ensures { result ≡ is_away diversions.now.entries name.now path.now }
+// Whether the file of a path is diverted for the package.
+fn is_away(diversions: &Diversions, name: &Text, path: &ShipPath) -> Result<bool, AllocError>
+    ensures { IfOk result (λ away. away ≡ is_away diversions.now.ways name.now path.now) }
 {
-    diversions.ship_place(name, path).as_str() != path.as_str()
+    let place = diversions.ship_place(name, path)?;
+    let own = diversions.resolve_ship(path)?;
+    Ok(place.as_str() != own.as_str())
 }
 
 fn first_away<'a>(
     diversions: &Diversions,
     name: &Text,
     paths: &'a [ShipPath],
-) -> Option<&'a ShipPath>
-    ensures { option_copied result ≡ first_away diversions.now.entries name.now paths.now }
+) -> Result<Option<&'a ShipPath>, AllocError>
+    ensures { IfOk result (λ first. option_copied first ≡ first_away diversions.now.ways name.now
+        paths.now) }
 {
-    paths.iter().find(|path| is_away(diversions, name, path))
+    for path in paths {
+        if is_away(diversions, name, path)? {
+            return Ok(Some(path));
+        }
+    }
+    Ok(None)
 }
 
 // The one that is before the other in path order.
@@ -45,13 +53,17 @@ fn first_of<'a>(one: Option<&'a ShipPath>, other: Option<&'a ShipPath>) -> Optio
     one
 }
 
-// The first conffile or flagged path whose file lies elsewhere.
-fn conffile_away<'a>(diversions: &Diversions, incoming: &'a Package) -> Option<&'a ShipPath>
-    ensures { option_copied result ≡ conffile_away diversions.now.entries incoming.now }
+// The first conffile or flagged path whose file is diverted.
+fn conffile_away<'a>(
+    diversions: &Diversions,
+    incoming: &'a Package,
+) -> Result<Option<&'a ShipPath>, AllocError>
+    ensures { IfOk result (λ first. option_copied first ≡ conffile_away diversions.now.ways
+        incoming.now) }
 {
-    let shipped = first_away(diversions, &incoming.name, incoming.conffiles.as_slice());
-    let flagged = first_away(diversions, &incoming.name, incoming.flagged.as_slice());
-    first_of(shipped, flagged)
+    let shipped = first_away(diversions, &incoming.name, incoming.conffiles.as_slice())?;
+    let flagged = first_away(diversions, &incoming.name, incoming.flagged.as_slice())?;
+    Ok(first_of(shipped, flagged))
 }
 
 // The first rule that refuses a package, a diverted conffile or else one of relations between packages; or what its
@@ -65,11 +77,11 @@ pub(crate) fn decision_of(
 ) -> Result<Checked, AllocError>
     ensures decided { IfOk result (λ checked. (records : List Record)
         → ArePackagesOf records packages.now → IsDecisionOf incoming.now auto_deconfigure records
-        diversions.now.entries checked) }
+        diversions.now.ways checked) }
     ensures apart { IfOk result (λ checked. (records : List Record)
         → ArePackagesOf records packages.now → AreBesideApart incoming.now.name records checked) }
 {
-    if let Some(path) = conffile_away(diversions, incoming) {
+    if let Some(path) = conffile_away(diversions, incoming)? {
         return Ok(Checked::Refused(Rule::ConffileDiverted(path.copy()?)));
     }
     let checked = check(alloc, packages, incoming, auto_deconfigure)?;

@@ -5,6 +5,7 @@ ghost use Rattle.host_core.specs.Host.{AtEachMoment, Falls, Gives, Needs, Silent
 ghost use Rattle.host_core.specs.Loss.{IsAnswered, IsOnDisk};
 ghost use Rattle.administration.specs.Fault.{CountsAdministration};
 ghost use Rattle.held_administration.specs.Open.{IsOpen};
+ghost use Rattle.opening.specs.Followed.{IsFollowed};
 ghost use Rattle.opening.specs.Leaving.{IsOpeningOrMerging};
 ghost use Rattle.opening.specs.Opened.{IsOpened};
 ghost use Rattle.opening.specs.Parts.{OpensAndMerges, fault_in};
@@ -26,7 +27,7 @@ use administration::AdministrationFault;
 use diversions::Diversions;
 use held_administration::Administration;
 use host_core::Host;
-use opening::{Opened, open_administration};
+use opening::{Opened, open_followed};
 use std::alloc::Global;
 use texts::Texts;
 use unit_reports::{Breakage, Report, Watcher, broken};
@@ -41,17 +42,20 @@ pub struct Session<H: Host> {
     pub(crate) diversions: Diversions,
     pub(crate) closed: bool,
     pub ghost ready: { closed ≡ false → Needs (H.state host) (IsStanding (held_by administration diversions)) },
-    pub ghost opened: { closed ≡ false → IsOpen diversions.entries administration },
+    pub ghost opened: { closed ≡ false → IsOpen diversions.ways administration },
     pub ghost indexed: { closed ≡ false → ForSome administration.packages (λ p. ∥ ArePackagesOf administration.database.records p ∥₁) },
     pub ghost writable: { closed ≡ false → diversions.closed ≡ false },
 }
 
-// Opens the administration, and brings all that was done to the disk.
+// Opens the administration with the aliases of its root, and brings all that was done to the disk.
 fn open_to_disk<H: Host>(alloc: Global, host: &mut H) -> Result<Opened, AdministrationFault>
     ensures opens { IsTrue (H.state host.new).honest → OpensAndMerges (fault_in result)
         (H.state host.old).world (H.state host.new).world }
     ensures opened { Gives result (λ opened old new. IsOpened opened.database.records
-        opened.lists.lists opened.diversions.entries new) (H.state host.old) (H.state host.new) }
+        opened.lists.lists opened.diversions.ways.entries new) (H.state host.old)
+        (H.state host.new) }
+    ensures followed { IfOk result (λ opened. Needs (H.state host.new)
+        (IsFollowed opened.lists.lists opened.diversions.ways)) }
     ensures number { IfOk result (λ opened. opened.database.notes ≡ 0) }
     ensures noting { IfOk result (λ opened. opened.database.closed ≡ false) }
     ensures listing { IfOk result (λ opened. opened.lists.closed ≡ false) }
@@ -62,7 +66,7 @@ fn open_to_disk<H: Host>(alloc: Global, host: &mut H) -> Result<Opened, Administ
     ensures counts { CountsAdministration (H.state host.old) (H.state host.new) result }
     ensures brought { AfterAStop (IsBrought result) (H.state host.old) (H.state host.new) }
 {
-    match open_administration(alloc, host) {
+    match open_followed(alloc, host) {
         Ok(opened) => match host.barrier() {
             Ok(()) => Ok(opened),
             Err(fault) => Err(AdministrationFault::from(fault)),
@@ -82,12 +86,14 @@ pub(crate) fn closed_report(alloc: Global) -> Report
 }
 
 impl<H: Host> Session<H> {
-    /// Opens the administration of a host. A refusal hands the host back; it and what was changed
-    /// then are told by `refused`.
+    /// Opens the administration of a host. The aliases of its root are read, and stay as they were
+    /// read. A refusal hands the host back; it and what was changed then are told by `refused`.
     pub fn open(alloc: Global, mut host: H) -> Result<Session<H>, (H, AdministrationFault)>
         ensures opened { IfOk result (λ s. Needs (H.state s.host)
             (IsOpened s.administration.database.records s.administration.lists.lists
-            s.diversions.entries)) }
+            s.diversions.ways.entries)) }
+        ensures followed { IfOk result (λ s. Needs (H.state s.host)
+            (IsFollowed s.administration.lists.lists s.diversions.ways)) }
         ensures number { IfOk result (λ s. s.administration.database.notes ≡ 0) }
         ensures opens { IfOk result (λ s. OpensAll None (H.state host) (H.state s.host)) }
         ensures refused { IfErr result (λ e. OpensAll (Some e.1) (H.state host) (H.state e.0)) }

@@ -58,7 +58,7 @@ fn done(
     ensures unit { IsBrokenBy NoMemory result.reply ⊎ AnswersDiversion path.now answered.Done
         result }
     ensures places { IsBrokenBy NoMemory result.reply
-        ⊎ (places.new ≡ places_in diversions.now.entries lists.now.lists) }
+        ⊎ (places.new ≡ places_in diversions.now.ways lists.now.lists) }
     ensures calls { result.calls.items ≡ [] }
     ensures touched { TellsNoPackage result }
 {
@@ -84,7 +84,7 @@ pub(crate) fn unit_of(
 ) -> Unit
     ensures unit { IsBrokenBy NoMemory result.reply ⊎ AnswersDiversion path.now answer result }
     ensures places { IsBrokenBy NoMemory result.reply
-        ⊎ (places.new ≡ by_answer answer places.old (places_in diversions.now.entries
+        ⊎ (places.new ≡ by_answer answer places.old (places_in diversions.now.ways
         lists.now.lists)) }
     ensures calls { result.calls.items ≡ [] }
     ensures touched { TellsNoPackage result }

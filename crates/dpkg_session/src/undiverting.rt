@@ -9,7 +9,7 @@ ghost use Rattle.diversions.specs.Refusals.{remove_answer};
 ghost use Rattle.diversions.specs.declared.fault.DiversionFault.TheVariants as fault;
 ghost use Rattle.diversions.specs.Turns.{GoesByTurns};
 ghost use Rattle.file_lists.specs.Owners.{places_in};
-ghost use Rattle.dpkg_session.specs.Diversions.{HasBroken, IsFlushed, IsOneUnit, IsUndiverted, LeavesAnswer, by_answer};
+ghost use Rattle.dpkg_session.specs.Diversions.{HasBroken, IsFlushed, IsOneUnit, IsUndiverted, LeavesAnswer, by_answer, with_entries};
 ghost use Rattle.dpkg_session.specs.PowerLoss.{LosesLikeAStop, StandsOnceAnswered};
 ghost use Rattle.unit_reports.specs.Units.{CountsLast, CountsReply, IsBroken, IsBrokenBy, IsClosedReport, TellsCalls, TellsNoPackage, calls_told};
 ghost use Rattle.unit_reports.specs.declared.report.Breakage.TheVariants.{Closed};
@@ -32,17 +32,17 @@ fn remove_to_disk<H: Host>(
 ) -> Result<Answer, DiversionFault>
     requires ready { Needs (H.state host.old) IsTableReady }
     requires writable { diversions.old.closed ≡ false }
-    ensures answer { Tells result (λ answer w. answer ≡ remove_answer w diversions.old.entries
+    ensures answer { Tells result (λ answer w. answer ≡ remove_answer w diversions.old.ways
         asked.now.path asked.now.owner asked.now.rename) (H.state host.old) (H.state host.new) }
     ensures table { IfOk result (λ answer. diversions.new ≡ record diversions.old {
-      entries = by_answer answer diversions.old.entries
-          (without asked.now.path diversions.old.entries);
+      ways = by_answer answer diversions.old.ways (with_entries diversions.old.ways
+          (without asked.now.path diversions.old.ways.entries));
     }) }
-    ensures left { Gives result (λ answer. LeavesAnswer answer (HasRemoved diversions.old.entries
+    ensures left { Gives result (λ answer. LeavesAnswer answer (HasRemoved diversions.old.ways
         asked.now.path asked.now.rename)) (H.state host.old) (H.state host.new) }
     ensures flushed { IfOk result (λ answer. IsFlushed answer (H.state host.old)
         (H.state host.new)) }
-    ensures any_moment { AtEachMoment (IsRemoving diversions.old.entries asked.now.path
+    ensures any_moment { AtEachMoment (IsRemoving diversions.old.ways asked.now.path
         asked.now.rename) (H.state host.old) (H.state host.new) }
     ensures turns { GoesByTurns (H.state host.old) (H.state host.new) }
     ensures silent { Silent (H.state host.old) (H.state host.new) }
@@ -65,15 +65,15 @@ fn remove_unit<H: Host>(
 ) -> Unit
     requires ready { Needs (H.state host.old) IsTableReady }
     requires writable { diversions.old.closed ≡ false }
-    requires kept { places.old ≡ places_in diversions.old.entries lists.now.lists }
-    ensures unit { IsBroken result.reply ⊎ IsUndiverted asked.now diversions.old.entries
-        diversions.new.entries result (H.state host.old) (H.state host.new) }
+    requires kept { places.old ≡ places_in diversions.old.ways lists.now.lists }
+    ensures unit { IsBroken result.reply ⊎ IsUndiverted asked.now diversions.old.ways
+        diversions.new.ways result (H.state host.old) (H.state host.new) }
     ensures writable { IsBroken result.reply ⊎ (diversions.new.closed ≡ false) }
     ensures kept { IsBroken result.reply
-        ⊎ (places.new ≡ places_in diversions.new.entries lists.now.lists) }
+        ⊎ (places.new ≡ places_in diversions.new.ways lists.now.lists) }
     ensures calls { result.calls.items ≡ [] }
     ensures touched { TellsNoPackage result }
-    ensures any_moment { AtEachMoment (IsRemoving diversions.old.entries asked.now.path
+    ensures any_moment { AtEachMoment (IsRemoving diversions.old.ways asked.now.path
         asked.now.rename) (H.state host.old) (H.state host.new) }
     ensures turns { GoesByTurns (H.state host.old) (H.state host.new) }
     ensures silent { Silent (H.state host.old) (H.state host.new) }
@@ -99,16 +99,16 @@ fn undivert_on<H: Host>(
 ) -> Report
     requires ready { Needs (H.state host.old) IsTableReady }
     requires writable { diversions.old.closed ≡ false }
-    requires kept { places.old ≡ places_in diversions.old.entries lists.now.lists }
+    requires kept { places.old ≡ places_in diversions.old.ways lists.now.lists }
     ensures whole { IsNone result.last
-        → IsOneUnit (λ u. IsUndiverted asked.now diversions.old.entries diversions.new.entries u
+        → IsOneUnit (λ u. IsUndiverted asked.now diversions.old.ways diversions.new.ways u
         (H.state host.old) (H.state host.new)) result.units.items }
     ensures broken { HasBroken result }
     ensures calls { calls_told result ≡ [] }
     ensures writable { IsNone result.last → diversions.new.closed ≡ false }
-    ensures kept { IsNone result.last → places.new ≡ places_in diversions.new.entries
+    ensures kept { IsNone result.last → places.new ≡ places_in diversions.new.ways
         lists.now.lists }
-    ensures any_moment { AtEachMoment (IsRemoving diversions.old.entries asked.now.path
+    ensures any_moment { AtEachMoment (IsRemoving diversions.old.ways asked.now.path
         asked.now.rename) (H.state host.old) (H.state host.new) }
     ensures turns { GoesByTurns (H.state host.old) (H.state host.new) }
     ensures silent { Silent (H.state host.old) (H.state host.new) }
@@ -127,17 +127,17 @@ impl<H: Host> Session<H> {
     /// Takes a diversion away: one unit. One that is broken off closes the session.
     pub fn undivert(&mut self, asked: &Undiverting) -> Report
         ensures whole { self.old.closed ≡ false → IsNone result.last
-            → IsOneUnit (λ u. IsUndiverted asked.now self.old.diversions.entries
-            self.new.diversions.entries u (H.state self.old.host) (H.state self.new.host))
+            → IsOneUnit (λ u. IsUndiverted asked.now self.old.diversions.ways
+            self.new.diversions.ways u (H.state self.old.host) (H.state self.new.host))
             result.units.items }
         ensures broken { HasBroken result }
         ensures told { TellsCalls (H.state self.old.host) (H.state self.new.host) result }
         ensures any_moment { self.old.closed ≡ false
-            → AtEachMoment (IsRemoving self.old.diversions.entries asked.now.path asked.now.rename)
+            → AtEachMoment (IsRemoving self.old.diversions.ways asked.now.path asked.now.rename)
             (H.state self.old.host) (H.state self.new.host) }
         ensures turns { GoesByTurns (H.state self.old.host) (H.state self.new.host) }
         ensures loss { self.old.closed ≡ false
-            → LosesLikeAStop (λ so_far. IsRemoving self.old.diversions.entries asked.now.path
+            → LosesLikeAStop (λ so_far. IsRemoving self.old.diversions.ways asked.now.path
             asked.now.rename (H.state self.old.host).world) (H.state self.old.host)
             (H.state self.new.host) }
         ensures stands { self.old.closed ≡ false → IsNone result.last

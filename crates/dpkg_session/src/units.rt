@@ -111,12 +111,12 @@ fn unpack_named<H: Host>(
     requires apart { AreApart incoming.name administration.old.database.records beside.now }
     requires order { Needs (H.state host.old)
         (IsInOrder administration.old.database administration.old.lists.lists) }
-    requires open { IsOpen diversions.now.entries administration.old }
+    requires open { IsOpen diversions.now.ways administration.old }
     requires indexed { ArePackagesOf administration.old.database.records packages.old }
     ensures unit { IsBroken result.reply ⊎ IsUnpacked incoming beside.now
         (held_by administration.old diversions.now) (held_by administration.new diversions.now)
         result (H.state host.old) (H.state host.new) }
-    ensures open { IsBroken result.reply ⊎ IsOpen diversions.now.entries administration.new }
+    ensures open { IsBroken result.reply ⊎ IsOpen diversions.now.ways administration.new }
     ensures indexed { IsBroken result.reply ⊎ ArePackagesOf administration.new.database.records
         packages.new }
     ensures on_disk { IsBroken result.reply ⊎ IsOnDisk (H.state host.new).events }
@@ -157,12 +157,12 @@ fn unpack_unit<H: Host>(
     requires apart { AreApart incoming.name administration.old.database.records beside.now }
     requires order { Needs (H.state host.old)
         (IsInOrder administration.old.database administration.old.lists.lists) }
-    requires open { IsOpen diversions.now.entries administration.old }
+    requires open { IsOpen diversions.now.ways administration.old }
     requires indexed { ArePackagesOf administration.old.database.records packages.old }
     ensures unit { IsBroken result.reply ⊎ IsUnpacked incoming beside.now
         (held_by administration.old diversions.now) (held_by administration.new diversions.now)
         result (H.state host.old) (H.state host.new) }
-    ensures open { IsBroken result.reply ⊎ IsOpen diversions.now.entries administration.new }
+    ensures open { IsBroken result.reply ⊎ IsOpen diversions.now.ways administration.new }
     ensures indexed { IsBroken result.reply ⊎ ArePackagesOf administration.new.database.records
         packages.new }
     ensures on_disk { IsBroken result.reply ⊎ IsOnDisk (H.state host.new).events }
@@ -210,12 +210,12 @@ fn decide_and_unpack<H: Host>(
 ) -> Unit
     requires order { Needs (H.state host.old)
         (IsInOrder administration.old.database administration.old.lists.lists) }
-    requires open { IsOpen diversions.now.entries administration.old }
+    requires open { IsOpen diversions.now.ways administration.old }
     requires indexed { ArePackagesOf administration.old.database.records packages.old }
     ensures unit { IsBroken result.reply ⊎ IsPackageUnit auto_deconfigure incoming
         (held_by administration.old diversions.now) (held_by administration.new diversions.now)
         result (H.state host.old) (H.state host.new) }
-    ensures open { IsBroken result.reply ⊎ IsOpen diversions.now.entries administration.new }
+    ensures open { IsBroken result.reply ⊎ IsOpen diversions.now.ways administration.new }
     ensures indexed { IsBroken result.reply ⊎ ArePackagesOf administration.new.database.records
         packages.new }
     ensures answered { IsBroken result.reply ⊎ IsAnswered (H.state host.old) (H.state host.new) }
@@ -258,13 +258,13 @@ fn unit_of_package<H: Host>(
 ) -> Unit
     requires order { Needs (H.state host.old)
         (IsInOrder administration.old.database administration.old.lists.lists) }
-    requires open { IsOpen diversions.now.entries administration.old }
+    requires open { IsOpen diversions.now.ways administration.old }
     requires indexed { IfSome administration.old.packages
         (ArePackagesOf administration.old.database.records) }
     ensures unit { IsBroken result.reply ⊎ IsPackageUnit auto_deconfigure incoming
         (held_by administration.old diversions.now) (held_by administration.new diversions.now)
         result (H.state host.old) (H.state host.new) }
-    ensures open { IsBroken result.reply ⊎ IsOpen diversions.now.entries administration.new }
+    ensures open { IsBroken result.reply ⊎ IsOpen diversions.now.ways administration.new }
     ensures indexed { IsBroken result.reply ⊎ IfSome administration.new.packages
         (ArePackagesOf administration.new.database.records) }
     ensures answered { IsBroken result.reply ⊎ IsAnswered (H.state host.old) (H.state host.new) }
@@ -308,13 +308,13 @@ pub(crate) fn unit_of<H: Host>(
 ) -> Unit
     requires order { Needs (H.state host.old)
         (IsInOrder administration.old.database administration.old.lists.lists) }
-    requires open { IsOpen diversions.now.entries administration.old }
+    requires open { IsOpen diversions.now.ways administration.old }
     requires indexed { IfSome administration.old.packages
         (ArePackagesOf administration.old.database.records) }
     ensures unit { IsBroken result.reply ⊎ IsUnit auto_deconfigure candidate
         (held_by administration.old diversions.now) (held_by administration.new diversions.now)
         result (H.state host.old) (H.state host.new) }
-    ensures open { IsBroken result.reply ⊎ IsOpen diversions.now.entries administration.new }
+    ensures open { IsBroken result.reply ⊎ IsOpen diversions.now.ways administration.new }
     ensures indexed { IsBroken result.reply ⊎ IfSome administration.new.packages
         (ArePackagesOf administration.new.database.records) }
     ensures answered { IsBroken result.reply ⊎ IsAnswered (H.state host.old) (H.state host.new) }

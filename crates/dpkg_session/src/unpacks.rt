@@ -111,7 +111,7 @@ fn take_unit<H: Host>(
 ) -> Result<Unit, Unit>
     requires order { Needs (H.state host.old)
         (IsInOrder administration.old.database administration.old.lists.lists) }
-    requires open { IsOpen diversions.now.entries administration.old }
+    requires open { IsOpen diversions.now.ways administration.old }
     requires indexed { IfSome administration.old.packages
         (ArePackagesOf administration.old.database.records) }
     ensures ok { IfOk result (λ unit. RunsUnit auto_deconfigure candidate
@@ -120,7 +120,7 @@ fn take_unit<H: Host>(
     ensures room { OnOk result (room ≡ true) }
     ensures order { OnOk result (Needs (H.state host.new)
         (IsInOrder administration.new.database administration.new.lists.lists)) }
-    ensures open { OnOk result (IsOpen diversions.now.entries administration.new) }
+    ensures open { OnOk result (IsOpen diversions.now.ways administration.new) }
     ensures indexed { OnOk result (IfSome administration.new.packages
         (ArePackagesOf administration.new.database.records)) }
     ensures broken_off { IfErr result (λ unit. IsBrokenOff auto_deconfigure candidate
@@ -163,7 +163,7 @@ fn take_trees<H: Host, T: Trees, W: Watcher>(
     requires none { unpacks.old.labels.now ≡ [] }
     requires order { Needs (H.state host.old)
         (IsInOrder administration.old.database administration.old.lists.lists) }
-    requires open { IsOpen diversions.now.entries administration.old }
+    requires open { IsOpen diversions.now.ways administration.old }
     requires indexed { IfSome administration.old.packages
         (ArePackagesOf administration.old.database.records) }
     ensures trees_stay { unpacks.new.trees.ghost_name ≡ unpacks.old.trees.ghost_name }
@@ -179,7 +179,7 @@ fn take_trees<H: Host, T: Trees, W: Watcher>(
     ensures not_closed { IfSome result.last (λ unit. IsBrokenBy Closed unit.reply → ⊥) }
     ensures order { IsNone result.last → Needs (H.state host.new)
         (IsInOrder administration.new.database administration.new.lists.lists) }
-    ensures open { IsNone result.last → IsOpen diversions.now.entries administration.new }
+    ensures open { IsNone result.last → IsOpen diversions.now.ways administration.new }
     ensures indexed { IsNone result.last → IfSome administration.new.packages
         (ArePackagesOf administration.new.database.records) }
     ensures watched { IsTold W.tells (H.state host.old) watcher.old result.units.items watcher.new }
@@ -215,7 +215,7 @@ pub(crate) fn unpack_trees<H: Host, T: Trees, W: Watcher>(
     requires none { labels.old ≡ [] }
     requires order { Needs (H.state host.old)
         (IsInOrder administration.old.database administration.old.lists.lists) }
-    requires open { IsOpen diversions.now.entries administration.old }
+    requires open { IsOpen diversions.now.ways administration.old }
     requires indexed { IfSome administration.old.packages
         (ArePackagesOf administration.old.database.records) }
     ensures run { (cs : List ACandidate) × AreRead T.reads trees.old cs trees.new
@@ -228,7 +228,7 @@ pub(crate) fn unpack_trees<H: Host, T: Trees, W: Watcher>(
     ensures not_closed { IfSome result.last (λ unit. IsBrokenBy Closed unit.reply → ⊥) }
     ensures order { IsNone result.last → Needs (H.state host.new)
         (IsInOrder administration.new.database administration.new.lists.lists) }
-    ensures open { IsNone result.last → IsOpen diversions.now.entries administration.new }
+    ensures open { IsNone result.last → IsOpen diversions.now.ways administration.new }
     ensures indexed { IsNone result.last → IfSome administration.new.packages
         (ArePackagesOf administration.new.database.records) }
     ensures watched { IsTold W.tells (H.state host.old) watcher.old result.units.items watcher.new }

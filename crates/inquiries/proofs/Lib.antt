@@ -1,2 +1,3 @@
+pub mod Followed
 pub mod Glances
 mod PartByPart

@@ -67,8 +67,8 @@ diversions_faulty w NoMemory damage = tt
 diversions_faulty w Declined damage = tt
 
 -- the diversions behind parts that are fine
-pub diversions_finds : (among : List Part) (result : Result Diverted AdministrationFault) (u v : World) → v ≡ u → AllByRecursion (IsFine u) among → IfOk result (λ d. HasDiversions v d.entries) → IfErr result (IsDiversionsDamage v) → Finds (among ++ Diversions ∷ []) u (fault_in result)
-diversions_finds among (Ok d) u v same fine has damage = finds_behind among (Diversions ∷ []) u None fine ((d.entries, subst (λ w. HasDiversions w d.entries) same has), tt)
+pub diversions_finds : (among : List Part) (result : Result Diverted AdministrationFault) (u v : World) → v ≡ u → AllByRecursion (IsFine u) among → IfOk result (λ d. HasDiversions v d.ways.entries) → IfErr result (IsDiversionsDamage v) → Finds (among ++ Diversions ∷ []) u (fault_in result)
+diversions_finds among (Ok d) u v same fine has damage = finds_behind among (Diversions ∷ []) u None fine ((d.ways.entries, subst (λ w. HasDiversions w d.ways.entries) same has), tt)
 diversions_finds among (Err fault) u v same fine has damage = finds_behind among (Diversions ∷ []) u (Some fault) fine (diversions_faulty u fault (subst (λ w. IsDiversionsDamage w fault) same damage))
 
 pub diversions_stop : {T : Type 0} (among : List Part) (given : AdministrationFault) (result : Result T AdministrationFault) (u v : World) → IsErrAnd result (λ e. e ≡ given) → v ≡ u → AllByRecursion (IsFine u) among → IsDiversionsDamage v given → Finds (among ++ Diversions ∷ []) u (fault_in result)

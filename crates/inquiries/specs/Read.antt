@@ -1,16 +1,20 @@
 -- What questions read, and what they are answered with.
 use Rattle.std.specs.Prelude.{◌≡◌, ◌⊎◌, ℕ, List, [], ◌∷◌, Option, IsSome}
 use Rattle.std.specs.List.{AllByRecursion}
+use Rattle.aliases.specs.Aliases.{resolved}
+use Rattle.aliases.specs.Reading.{AreAliasesIn, IsWhole}
 use Rattle.host_core.specs.Host.{Needs, State}
 use Rattle.host_core.specs.Paths.{Path}
 use Rattle.host_core.specs.World.{World}
 use Rattle.administration.specs.declared.fault.AdministrationFault.{AdministrationFault}
 use Rattle.administration.specs.declared.fault.AdministrationFault.TheVariants.{Damaged, Device, NoMemory, Declined}
-use Rattle.diversions.specs.declared.entry.Diversion.{Diversion}
+use Rattle.diversions.specs.Ways.{Ways}
 use Rattle.diversions.specs.Lines.{HasDiversions}
+use Rattle.diversions.specs.declared.entry.Diversion.{Diversion}
 use Rattle.file_lists.specs.Info.{IsInfoDamage}
 use Rattle.file_lists.specs.Lists.{HasLists}
 use Rattle.file_lists.specs.declared.paths.PackageList.{PackageList}
+use Rattle.opening.specs.Followed.{AreWhole, IsFollowed, diverted_paths}
 use Rattle.opening.specs.Parts.{Part, Root, Records, Info, Diversions, IsDamage, IsFine, IsTable, names_of}
 use Rattle.queries.specs.Files.{files_text, search_text}
 use Rattle.queries.specs.Places.{diversions_text, truename_text}
@@ -54,17 +58,26 @@ HasRest names lists entries w = HasLists w names lists × HasDiversions w entrie
 abbrev pub HasAll : List Record → List PackageList → List Diversion → World → Type 0
 HasAll table lists entries w = HasRecords w table × HasRest (names_of table) lists entries w
 
--- the answers from all of these
+-- the same with the aliases of the root: each listed path is followed to where it leads
+abbrev pub HasFollowed : List Record → List PackageList → Ways → World → Type 0
+HasFollowed table lists ways w = HasAll table lists ways.entries w × IsFollowed lists ways w
+
+-- the answers from all of these; it is searched for the place of a path, which is followed too
 abbrev pub IsSearch : Path → State → List ℕ → Type 0
-IsSearch place s text =
-    (table : List Record) × (lists : List PackageList) × (entries : List Diversion) × Needs s (HasAll table lists entries) × (text ≡ search_text entries lists place)
+IsSearch path s text =
+    (table : List Record) × (lists : List PackageList) × (ways : Ways) × Needs s (λ w. HasFollowed table lists ways w × IsWhole w path ways.aliases) × (text ≡ search_text ways lists (resolved ways.aliases path))
 
 abbrev pub IsAudit : State → List ℕ → Type 0
-IsAudit s text = (table : List Record) × (lists : List PackageList) × (entries : List Diversion) × Needs s (HasAll table lists entries) × (text ≡ audit_text table)
+IsAudit s text =
+    (table : List Record) × (lists : List PackageList) × (entries : List Diversion) × Needs s (HasAll table lists entries) × (text ≡ audit_text table)
+
+-- the diversions, and the aliases of the root above this path and above those that diversions name
+abbrev pub HasWays : Path → Ways → World → Type 0
+HasWays path ways w = HasDiversions w ways.entries × AreAliasesIn w ways.aliases × AreWhole w (path ∷ diverted_paths ways.entries) ways.aliases
 
 -- the answers from the diversions
 abbrev pub IsTruename : Option (List ℕ) → Path → State → List ℕ → Type 0
-IsTruename user path s text = (entries : List Diversion) × Needs s (λ w. HasDiversions w entries) × (text ≡ truename_text entries user path)
+IsTruename user path s text = (ways : Ways) × Needs s (HasWays path ways) × (text ≡ truename_text ways user path)
 
 abbrev pub AreDiversions : State → List ℕ → Type 0
 AreDiversions s text = (entries : List Diversion) × Needs s (λ w. HasDiversions w entries) × (text ≡ diversions_text entries)

@@ -1,16 +1,17 @@
 // Questions that need lists.
 ghost use Rattle.std.specs.Prelude.{◌≡◌, ◌∷◌, [], IsTrue, IfErr, IfOk};
-ghost use Rattle.host_core.specs.Host.{Needs, Reads, Silent};
+ghost use Rattle.host_core.specs.Host.{Counts, Needs, Reads, Silent};
 ghost use Rattle.administration.specs.Fault.{CountsAdministration};
 ghost use Rattle.file_lists.specs.Info.{IsInfoDamage};
 ghost use Rattle.file_lists.specs.Lists.{HasLists};
 ghost use Rattle.opening.specs.Parts.{Finds, fault_in};
-ghost use Rattle.inquiries.specs.Read.{AreFiles, IsAudit, IsFilesDamage, IsSearch, all_parts};
+ghost use Rattle.inquiries.specs.Read.{AreFiles, HasFollowed, IsAudit, IsFilesDamage, IsSearch, all_parts};
 
-use crate::reading::{read_all, read_records};
+use crate::reading::{read_all, read_followed, read_records};
 use administration::AdministrationFault;
 use file_lists::FileLists;
-use host_core::{Host, RootPath};
+use host_core::{Host, HostFault, RootPath};
+use opening::Opened;
 use queries::{audit_text, files_text, search_text};
 use std::alloc::Global;
 use texts::{Bytes, Text, Texts};
@@ -56,22 +57,51 @@ pub fn list_files<H: Host>(
     Ok(text)
 }
 
-/// The listed paths that lie at a place, each with its package.
+// The listed paths that have the place of a path.
+fn search_read<H: Host>(
+    alloc: Global,
+    host: &mut H,
+    all: Opened,
+    path: &RootPath,
+) -> Result<Bytes, HostFault>
+    requires held { Needs (H.state host.old)
+        (HasFollowed all.database.records all.lists.lists all.diversions.ways) }
+    ensures told { IfOk result (IsSearch path.now (H.state host.new)) }
+    ensures reads { Reads (H.state host.old) (H.state host.new) }
+    ensures silent { Silent (H.state host.old) (H.state host.new) }
+    ensures counts { Counts (H.state host.old) (H.state host.new) result }
+{
+    let Opened {
+        database: _database,
+        lists,
+        mut diversions,
+    } = all;
+    diversions.read_above(host, path)?;
+    let place = diversions.resolve(path)?;
+    let text = search_text(alloc, &lists, &diversions, &place)?;
+    Ok(text)
+}
+
+/// The listed paths that lie where a path does, each with its package.
 pub fn search<H: Host>(
     alloc: Global,
     host: &mut H,
-    place: &RootPath,
+    path: &RootPath,
 ) -> Result<Bytes, AdministrationFault>
-    ensures told { IfOk result (IsSearch place.now (H.state host.new)) }
+    ensures told { IfOk result (IsSearch path.now (H.state host.new)) }
     ensures finds { IsTrue (H.state host.new).honest
         → Finds all_parts (H.state host.old).world (fault_in result) }
     ensures reads { Reads (H.state host.old) (H.state host.new) }
     ensures silent { Silent (H.state host.old) (H.state host.new) }
     ensures counts { CountsAdministration (H.state host.old) (H.state host.new) result }
 {
-    let all = read_all(alloc, host)?;
-    let text = search_text(alloc, &all.lists, &all.diversions, place)?;
-    Ok(text)
+    match read_followed(alloc, host) {
+        Ok(all) => match search_read(alloc, host, all, path) {
+            Ok(text) => Ok(text),
+            Err(fault) => Err(AdministrationFault::from(fault)),
+        },
+        Err(fault) => Err(fault),
+    }
 }
 
 /// The packages with which something has to be done. All is read, so that what is damaged is told.

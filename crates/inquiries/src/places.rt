@@ -5,7 +5,7 @@ ghost use Rattle.administration.specs.Fault.{CountsAdministration};
 ghost use Rattle.opening.specs.Parts.{Finds, fault_in};
 ghost use Rattle.inquiries.specs.Read.{AreDiversions, IsTruename, diversions_parts};
 
-use crate::reading::read_diversions;
+use crate::reading::{read_diversions, read_diverted};
 use administration::AdministrationFault;
 use host_core::{Host, RootPath};
 use queries::{diversions_text, truename_text};
@@ -26,7 +26,7 @@ pub fn truename<H: Host>(
     ensures silent { Silent (H.state host.old) (H.state host.new) }
     ensures counts { CountsAdministration (H.state host.old) (H.state host.new) result }
 {
-    let diversions = read_diversions(alloc, host)?;
+    let diversions = read_diverted(alloc, host, path)?;
     let text = truename_text(alloc, &diversions, user, path)?;
     Ok(text)
 }

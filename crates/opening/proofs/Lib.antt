@@ -7,3 +7,4 @@ pub mod Merging
 mod Reopened
 pub mod Brought
 pub mod KeptLists
+pub mod Followed

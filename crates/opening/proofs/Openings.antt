@@ -476,11 +476,11 @@ found_of table notes lists entries u v opens is free listed diverted = record {
 
 -- what was read goes through
 
-pub diverted_here : (d : Diverted) (u v : World) → v ≡ u → HasDiversions u d.entries → HasDiversions v d.entries
-diverted_here d u v same has = subst (λ w. HasDiversions w d.entries) (sym same) has
+pub diverted_here : (d : Diverted) (u v : World) → v ≡ u → HasDiversions u d.ways.entries → HasDiversions v d.ways.entries
+diverted_here d u v same has = subst (λ w. HasDiversions w d.ways.entries) (sym same) has
 
-pub diverted_through : {among : List Part} {fault : Option AdministrationFault} (result : Result Diverted AdministrationFault) (d : Diverted) (u v : World) → Opens among fault u v → IfOk result (λ kept. kept ≡ d) → HasDiversions u d.entries → IfOk result (λ kept. HasDiversions v kept.entries)
-diverted_through (Ok kept) d u v opens is has = subst (λ (x : Diverted). HasDiversions v x.entries) (sym is) (diverted_kept d.entries u v (plain_kept diversions_path u v refl (opens.changes.rest diversions_path refl)) has)
+pub diverted_through : {among : List Part} {fault : Option AdministrationFault} (result : Result Diverted AdministrationFault) (d : Diverted) (u v : World) → Opens among fault u v → IfOk result (λ kept. kept ≡ d) → HasDiversions u d.ways.entries → IfOk result (λ kept. HasDiversions v kept.ways.entries)
+diverted_through (Ok kept) d u v opens is has = subst (λ (x : Diverted). HasDiversions v x.ways.entries) (sym is) (diverted_kept d.ways.entries u v (plain_kept diversions_path u v refl (opens.changes.rest diversions_path refl)) has)
 diverted_through (Err fault) d u v opens is has = tt
 
 pub listed_through : {among : List Part} {fault : Option AdministrationFault} (result : Result (Filed × Diverted) AdministrationFault) (names : List (List ℕ)) (f : Filed) (u v : World) → Opens among fault u v → IfOk result (λ read. read.0 ≡ f) → IsListed u names f.lists
@@ -488,10 +488,10 @@ pub listed_through : {among : List Part} {fault : Option AdministrationFault} (r
 listed_through (Ok read) names f u v opens is has = subst (λ (x : Filed). IsListed v names x.lists) (sym is) (listed_kept names f.lists u v opens has)
 listed_through (Err fault) names f u v opens is has = tt
 
-pub found_ok : (result : Result AnOpened AdministrationFault) (d : Recorded) (u v : World) → Opens parts (fault_in result) u v → IfOk result (λ o. o.database ≡ d) → IsTable v d.records → IsFree d.notes v → IfOk result (λ o. IsListed v (names_of o.database.records) o.lists.lists) → IfOk result (λ o. HasDiversions v o.diversions.entries)
-    → IfOk result (λ o. IsFound o.database.records o.database.notes o.lists.lists o.diversions.entries v)
+pub found_ok : (result : Result AnOpened AdministrationFault) (d : Recorded) (u v : World) → Opens parts (fault_in result) u v → IfOk result (λ o. o.database ≡ d) → IsTable v d.records → IsFree d.notes v → IfOk result (λ o. IsListed v (names_of o.database.records) o.lists.lists) → IfOk result (λ o. HasDiversions v o.diversions.ways.entries)
+    → IfOk result (λ o. IsFound o.database.records o.database.notes o.lists.lists o.diversions.ways.entries v)
 found_ok (Ok o) d u v opens is table free listed diverted =
-    found_of o.database.records o.database.notes o.lists.lists o.diversions.entries u v opens (subst (λ (x : Recorded). IsTable v x.records) (sym is) table) (subst (λ (x : Recorded). IsFree x.notes v) (sym is) free) listed diverted
+    found_of o.database.records o.database.notes o.lists.lists o.diversions.ways.entries u v opens (subst (λ (x : Recorded). IsTable v x.records) (sym is) table) (subst (λ (x : Recorded). IsFree x.notes v) (sym is) free) listed diverted
 found_ok (Err fault) d u v opens is table free listed diverted = tt
 
 pub found_open : (result : Result AnOpened AdministrationFault) (d : Recorded) → IfOk result (λ o. o.database ≡ d) → d.closed ≡ false → IfOk result (λ o. o.database.closed ≡ false)

@@ -2,4 +2,5 @@ pub mod Leaving
 pub mod Parts
 pub mod Undamaged
 pub mod Opened
+pub mod Followed
 pub mod Stopped

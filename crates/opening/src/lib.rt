@@ -11,11 +11,17 @@
 //! which stays where damage is told; the directories that were made have mode 755 in the end unless
 //! the device failed (`opens`). Where notes stand or `tmp.ci`, so that a command was stopped, the
 //! whole root is brought to the disk before any other step (`brought`).
+//!
+//! `open_followed` reads the aliases of the root behind that: each listed path, each path of a
+//! diversion and those in the usual directories are followed to where they lead in the world
+//! (`followed`, specs/Followed). It only looks.
 #![tactic(auto)]
 
+mod following;
 mod laws;
 mod open;
 mod stopped;
 
+pub use following::{add_diverted, follow, open_followed, read_above_each};
 pub use laws::{a_stopped_opening_can_be_opened, what_is_fine_has_no_fault};
 pub use open::{Opened, check_root, names_of, open_administration};

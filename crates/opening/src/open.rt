@@ -248,9 +248,10 @@ fn settle<H: Host>(alloc: Global, host: &mut H) -> Result<Diversions, Administra
     ensures opens { IsTrue (H.state host.new).honest
         → Opens (ItsDiversions ∷ Spare (temporary diversions_path) ∷ Leftovers ∷ [])
         (fault_in result) (H.state host.old).world (H.state host.new).world }
-    ensures diverted { Gives result (λ d old new. HasDiversions new d.entries)
+    ensures diverted { Gives result (λ d old new. HasDiversions new d.ways.entries)
         (H.state host.old) (H.state host.new) }
     ensures writable { IfOk result (λ d. d.closed ≡ false) }
+    ensures bare { IfOk result (λ d. d.ways.aliases ≡ []) }
     ensures any_moment { AtEachMoment IsOpening (H.state host.old) (H.state host.new) }
     ensures silent { Silent (H.state host.old) (H.state host.new) }
     ensures counts { CountsAdministration (H.state host.old) (H.state host.new) result }
@@ -269,9 +270,10 @@ fn open_settled<H: Host>(
         → Opens (ItsDiversions ∷ Spare (temporary diversions_path) ∷ Leftovers ∷ [])
         (fault_in result) (H.state host.old).world (H.state host.new).world }
     ensures lists { IfOk result (λ read. read.0 ≡ lists) }
-    ensures diverted { Gives result (λ read old new. HasDiversions new read.1.entries)
+    ensures diverted { Gives result (λ read old new. HasDiversions new read.1.ways.entries)
         (H.state host.old) (H.state host.new) }
     ensures writable { IfOk result (λ read. read.1.closed ≡ false) }
+    ensures bare { IfOk result (λ read. read.1.ways.aliases ≡ []) }
     ensures any_moment { AtEachMoment IsOpening (H.state host.old) (H.state host.new) }
     ensures silent { Silent (H.state host.old) (H.state host.new) }
     ensures counts { CountsAdministration (H.state host.old) (H.state host.new) result }
@@ -303,9 +305,10 @@ fn open_rest<H: Host>(
         (λ read old new. IsListed new (names_of database.now.records) read.0.lists)
         (H.state host.old) (H.state host.new) }
     ensures listing { IfOk result (λ read. read.0.closed ≡ false) }
-    ensures diverted { Gives result (λ read old new. HasDiversions new read.1.entries)
+    ensures diverted { Gives result (λ read old new. HasDiversions new read.1.ways.entries)
         (H.state host.old) (H.state host.new) }
     ensures writable { IfOk result (λ read. read.1.closed ≡ false) }
+    ensures bare { IfOk result (λ read. read.1.ways.aliases ≡ []) }
     ensures any_moment { AtEachMoment IsOpening (H.state host.old) (H.state host.new) }
     ensures silent { Silent (H.state host.old) (H.state host.new) }
     ensures counts { CountsAdministration (H.state host.old) (H.state host.new) result }
@@ -333,9 +336,10 @@ fn open_with<H: Host>(
         (λ opened old new. IsListed new (names_of opened.database.records) opened.lists.lists)
         (H.state host.old) (H.state host.new) }
     ensures listing { IfOk result (λ opened. opened.lists.closed ≡ false) }
-    ensures diverted { Gives result (λ opened old new. HasDiversions new opened.diversions.entries)
+    ensures diverted { Gives result (λ opened old new. HasDiversions new opened.diversions.ways.entries)
         (H.state host.old) (H.state host.new) }
     ensures writable { IfOk result (λ opened. opened.diversions.closed ≡ false) }
+    ensures bare { IfOk result (λ opened. opened.diversions.ways.aliases ≡ []) }
     ensures any_moment { AtEachMoment IsOpening (H.state host.old) (H.state host.new) }
     ensures silent { Silent (H.state host.old) (H.state host.new) }
     ensures counts { CountsAdministration (H.state host.old) (H.state host.new) result }
@@ -361,10 +365,11 @@ fn read_administration<H: Host>(alloc: Global, host: &mut H) -> Result<Opened, A
     ensures listing { IfOk result (λ opened. opened.lists.closed ≡ false) }
     ensures found { Gives result
         (λ opened old new. IsFound opened.database.records opened.database.notes opened.lists.lists
-        opened.diversions.entries new)
+        opened.diversions.ways.entries new)
         (H.state host.old) (H.state host.new) }
     ensures open { IfOk result (λ opened. opened.database.closed ≡ false) }
     ensures writable { IfOk result (λ opened. opened.diversions.closed ≡ false) }
+    ensures bare { IfOk result (λ opened. opened.diversions.ways.aliases ≡ []) }
     ensures any_moment { AtEachMoment IsOpening (H.state host.old) (H.state host.new) }
     ensures silent { Silent (H.state host.old) (H.state host.new) }
     ensures counts { CountsAdministration (H.state host.old) (H.state host.new) result }
@@ -426,10 +431,10 @@ fn settle_notes<H: Host>(
 ) -> Result<Opened, AdministrationFault>
     requires found { Needs (H.state host.old)
         (IsFound opened.database.records opened.database.notes opened.lists.lists
-        opened.diversions.entries) }
+        opened.diversions.ways.entries) }
     requires open { opened.database.closed ≡ false }
     ensures opened { Gives result
-        (λ kept old new. IsOpened kept.database.records kept.lists.lists kept.diversions.entries
+        (λ kept old new. IsOpened kept.database.records kept.lists.lists kept.diversions.ways.entries
         new)
         (H.state host.old) (H.state host.new) }
     ensures number { IfOk result (λ kept. kept.database.notes ≡ 0) }
@@ -467,12 +472,13 @@ fn open_brought<H: Host>(alloc: Global, host: &mut H) -> Result<Opened, Administ
         → OpensAndMerges (fault_in result) (H.state host.old).world (H.state host.new).world }
     ensures opened { Gives result
         (λ opened old new. IsOpened opened.database.records opened.lists.lists
-        opened.diversions.entries new)
+        opened.diversions.ways.entries new)
         (H.state host.old) (H.state host.new) }
     ensures number { IfOk result (λ opened. opened.database.notes ≡ 0) }
     ensures open { IfOk result (λ opened. opened.database.closed ≡ false) }
     ensures listing { IfOk result (λ opened. opened.lists.closed ≡ false) }
     ensures writable { IfOk result (λ opened. opened.diversions.closed ≡ false) }
+    ensures bare { IfOk result (λ opened. opened.diversions.ways.aliases ≡ []) }
     ensures any_moment { AtEachMoment IsOpeningOrMerging (H.state host.old) (H.state host.new) }
     ensures silent { Silent (H.state host.old) (H.state host.new) }
     ensures counts { CountsAdministration (H.state host.old) (H.state host.new) result }
@@ -494,12 +500,13 @@ pub fn open_administration<H: Host>(
         → OpensAndMerges (fault_in result) (H.state host.old).world (H.state host.new).world }
     ensures opened { Gives result
         (λ opened old new. IsOpened opened.database.records opened.lists.lists
-        opened.diversions.entries new)
+        opened.diversions.ways.entries new)
         (H.state host.old) (H.state host.new) }
     ensures number { IfOk result (λ opened. opened.database.notes ≡ 0) }
     ensures open { IfOk result (λ opened. opened.database.closed ≡ false) }
     ensures listing { IfOk result (λ opened. opened.lists.closed ≡ false) }
     ensures writable { IfOk result (λ opened. opened.diversions.closed ≡ false) }
+    ensures bare { IfOk result (λ opened. opened.diversions.ways.aliases ≡ []) }
     ensures any_moment { AtEachMoment IsOpeningOrMerging (H.state host.old) (H.state host.new) }
     ensures silent { Silent (H.state host.old) (H.state host.new) }
     ensures counts { CountsAdministration (H.state host.old) (H.state host.new) result }

@@ -2,7 +2,7 @@
 use Rattle.std.specs.Prelude.{ℕ, List, ◌++◌, Option, codes, option_map}
 use Rattle.std.specs.List.{flat_map}
 use Rattle.host_core.specs.Paths.{Path}
-use Rattle.diversions.specs.declared.entry.Diversion.{Diversion}
+use Rattle.diversions.specs.Ways.{Ways}
 use Rattle.file_lists.specs.Owners.{paths_of, owners_of}
 use Rattle.file_lists.specs.declared.paths.PackageList.{PackageList}
 use Rattle.file_lists.specs.declared.paths.Listed.{Listed}
@@ -24,5 +24,5 @@ abbrev pub search_line : Listed → List ℕ
 search_line l = line (l.name ++ (codes ": " ++ path_text l.path))
 
 -- each listed path that lies at a place
-abbrev pub search_text : List Diversion → List PackageList → Path → List ℕ
-search_text entries lists at = flat_map search_line (owners_of entries lists at)
+abbrev pub search_text : Ways → List PackageList → Path → List ℕ
+search_text ways lists at = flat_map search_line (owners_of ways lists at)

@@ -2,7 +2,7 @@
 use Rattle.std.specs.Prelude.{ℕ, List, ◌++◌, Option, Some, None, codes}
 use Rattle.std.specs.List.{flat_map}
 use Rattle.host_core.specs.Paths.{Path}
-use Rattle.diversions.specs.Places.{place, truename}
+use Rattle.diversions.specs.Ways.{place, truename, Ways}
 use Rattle.diversions.specs.declared.entry.Owner.{Owner}
 use Rattle.diversions.specs.declared.entry.Owner.TheVariants.{Local, Package}
 use Rattle.diversions.specs.declared.entry.Diversion.{Diversion}
@@ -10,13 +10,13 @@ use Rattle.shown_lines.specs.Lines.{line}
 use Rattle.queries.specs.Paths.{path_line}
 
 -- where a path is: for the files of a package, or for all packages but the owner of its diversion
-abbrev pub place_for : List Diversion → Option (List ℕ) → Path → Path
-place_for entries None path = truename entries path
-place_for entries (Some name) path = place entries name path
+abbrev pub place_for : Ways → Option (List ℕ) → Path → Path
+place_for ways None path = truename ways path
+place_for ways (Some name) path = place ways name path
 
 -- the line of where a path is
-abbrev pub truename_text : List Diversion → Option (List ℕ) → Path → List ℕ
-truename_text entries asked path = path_line (place_for entries asked path)
+abbrev pub truename_text : Ways → Option (List ℕ) → Path → List ℕ
+truename_text ways asked path = path_line (place_for ways asked path)
 
 -- whose diversion it is: `local`, or the package's name
 abbrev pub owner_text : Owner → List ℕ

@@ -75,7 +75,7 @@ pub fn search_text(
     diversions: &Diversions,
     place: &RootPath,
 ) -> Result<Bytes, AllocError>
-    ensures { IfOk result (λ text. text ≡ search_text diversions.now.entries lists.now.lists
+    ensures { IfOk result (λ text. text ≡ search_text diversions.now.ways lists.now.lists
         place.now) }
 {
     let owners = lists.owners(alloc, diversions, place)?;

@@ -15,7 +15,7 @@ fn place_for(
     user: Option<&Text>,
     path: &RootPath,
 ) -> Result<RootPath, AllocError>
-    ensures { IfOk result (λ p. p ≡ place_for diversions.now.entries (option_copied user.entry)
+    ensures { IfOk result (λ p. p ≡ place_for diversions.now.ways (option_copied user.entry)
         path.now) }
 {
     match user {
@@ -32,7 +32,7 @@ pub fn truename_text(
     user: Option<&Text>,
     path: &RootPath,
 ) -> Result<Bytes, AllocError>
-    ensures { IfOk result (λ text. text ≡ truename_text diversions.now.entries
+    ensures { IfOk result (λ text. text ≡ truename_text diversions.now.ways
         (option_copied user.entry) path.now) }
 {
     let place = place_for(diversions, user, path)?;
@@ -61,7 +61,7 @@ fn diversion_line(alloc: Global, entry: &Diversion) -> Result<String, AllocError
 
 /// The diversions in the order of adding, a line each.
 pub fn diversions_text(alloc: Global, diversions: &Diversions) -> Result<Bytes, AllocError>
-    ensures { IfOk result (λ text. text ≡ diversions_text diversions.now.entries) }
+    ensures { IfOk result (λ text. text ≡ diversions_text diversions.now.ways.entries) }
 {
     let mut lines = String::new(alloc);
     for entry in diversions.entries() {

@@ -38,11 +38,11 @@ module _ (purge : Bool) (name : List ℕ) (before : Held) where
   -- of the extent that is asked for
   module _ (extent : Extent) (asked : extent ≡ extent_of purge) where
     abbrev IsAmidAsked : World → List Event → World → Type 0
-    IsAmidAsked old so_far now = IsAmidUnit (given extent name before.entries (holding_of before)) old so_far now
+    IsAmidAsked old so_far now = IsAmidUnit (given extent name before.ways (holding_of before)) old so_far now
 
     pub since_removing : (s t : State) → Since (IsAmidAsked s.world) s t → Since (IsAmidRemoval purge name before s.world) s t
     since_removing s t since = since_weaker (IsAmidUnit (given_by purge name before) s.world) (IsAmidRemoval purge name before s.world) s t (λ so_far now amid. amid_of s.world so_far now amid)
-        (subst (λ (e : Extent). Since (IsAmidUnit (given e name before.entries (holding_of before)) s.world) s t) asked since)
+        (subst (λ (e : Extent). Since (IsAmidUnit (given e name before.ways (holding_of before)) s.world) s t) asked since)
 
     pub since_removed : (result : Result Unit HostFault) (s m t : State) → Since (IsAmidAsked s.world) s m → Does Barrier m t result → Since (IsAmidRemoval purge name before s.world) s t
     since_removed result s m t since does = since_to_disk (IsAmidRemoval purge name before s.world) result s m t (λ x quiet w none amid. amid_still s.world x quiet w none amid) (since_removing s m since) does
@@ -74,11 +74,11 @@ module _ (purge : Bool) (name : List ℕ) (before : Held) where
 module _ (purge : Bool) (name : List ℕ) where
   -- a removal that wasn't broken off
   pub is_removal : (failed : Option Call) (before after : Held) (u : AUnit) (s t : State) (old now : List Called) → old ≡ [] → u.calls.items ≡ now → IsBroughtToDisk purge name before failed after s t old now
-      → Needs t (IsInOrder after.records after.lists) → after.entries ≡ before.entries → IsBrokenBy NoMemory u.reply ⊎ Answers name after.records.records failed u → IsBroken u.reply ⊎ IsRemoval purge name before after u s t
+      → Needs t (IsInOrder after.records after.lists) → after.ways ≡ before.ways → IsBrokenBy NoMemory u.reply ⊎ Answers name after.records.records failed u → IsBroken u.reply ⊎ IsRemoval purge name before after u s t
   is_removal failed before after u s t old now none same removed order entries either = broken_or NoMemory u.reply (λ answers. record {
     failed = failed;
     removed = subst (λ l. IsBroughtToDisk purge name before failed after s t [] l) (sym same) (subst (λ l. IsBroughtToDisk purge name before failed after s t l now) none removed);
     order = order;
-    entries = entries;
+    ways = entries;
     answers = answers;
   }) either

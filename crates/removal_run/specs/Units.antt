@@ -31,7 +31,7 @@ extent_of false = Remove
 
 -- a package to be removed or purged, and what is held
 abbrev pub given_by : Bool → List ℕ → Held → Given
-given_by purge name h = given (extent_of purge) name h.entries (holding_of h)
+given_by purge name h = given (extent_of purge) name h.ways (holding_of h)
 
 -- the reply to a unit of a package, by the call for which it failed
 abbrev pub reply_to : List ℕ → Option Call → Reply
@@ -55,7 +55,7 @@ pub record IsRemoval (purge : Bool) (name : List ℕ) (before after : Held) (u :
   pub failed : Option Call
   pub removed : IsBroughtToDisk purge name before failed after s t [] u.calls.items
   pub order : Needs t (IsInOrder after.records after.lists)
-  pub entries : after.entries ≡ before.entries
+  pub ways : after.ways ≡ before.ways
   pub answers : Answers name after.records.records failed u
 
 -- the records of other packages are as before

@@ -153,7 +153,7 @@ fn run_sorted<H: Host, W: Watcher>(
 ) -> Report
     requires order { Needs (H.state host.old)
         (IsInOrder administration.old.database administration.old.lists.lists) }
-    requires open { IsOpen diversions.now.entries administration.old }
+    requires open { IsOpen diversions.now.ways administration.old }
     requires accepted { AreAccepted purge administration.old.database.records sorted.waiting.items }
     requires told { calls_of sorted.refused.items ≡ [] }
     requires asked { sorted.asked.items ≡ sorted.waiting.items }
@@ -172,7 +172,7 @@ fn run_sorted<H: Host, W: Watcher>(
     ensures not_closed { IfSome result.last (λ unit. IsBrokenBy Closed unit.reply → ⊥) }
     ensures order { IsNone result.last → Needs (H.state host.new)
         (IsInOrder administration.new.database administration.new.lists.lists) }
-    ensures open { IsNone result.last → IsOpen diversions.now.entries administration.new }
+    ensures open { IsNone result.last → IsOpen diversions.now.ways administration.new }
     ensures indexed { IsNone result.last → ArePackagesOf administration.new.database.records
         packages.new }
     ensures answered { IsNone result.last → IsAnswered (H.state host.old) (H.state host.new) }
@@ -231,7 +231,7 @@ pub fn remove_packages<H: Host, W: Watcher>(
 ) -> Report
     requires order { Needs (H.state host.old)
         (IsInOrder administration.old.database administration.old.lists.lists) }
-    requires open { IsOpen diversions.now.entries administration.old }
+    requires open { IsOpen diversions.now.ways administration.old }
     requires indexed { ArePackagesOf administration.old.database.records packages.old }
     ensures whole { IsNone result.last → IsRemovalRun names.items purge result.units.items
         (held_by administration.old diversions.now) (held_by administration.new diversions.now)
@@ -246,7 +246,7 @@ pub fn remove_packages<H: Host, W: Watcher>(
     ensures not_closed { IfSome result.last (λ unit. IsBrokenBy Closed unit.reply → ⊥) }
     ensures order { IsNone result.last → Needs (H.state host.new)
         (IsInOrder administration.new.database administration.new.lists.lists) }
-    ensures open { IsNone result.last → IsOpen diversions.now.entries administration.new }
+    ensures open { IsNone result.last → IsOpen diversions.now.ways administration.new }
     ensures indexed { IsNone result.last → ArePackagesOf administration.new.database.records
         packages.new }
     ensures answered { IsNone result.last → IsAnswered (H.state host.old) (H.state host.new) }

@@ -54,7 +54,7 @@ fn take_next<H: Host>(
 ) -> Result<Option<Unit>, Unit>
     requires order { Needs (H.state host.old)
         (IsInOrder administration.old.database administration.old.lists.lists) }
-    requires open { IsOpen diversions.now.entries administration.old }
+    requires open { IsOpen diversions.now.ways administration.old }
     requires accepted { AreAccepted purge administration.old.database.records waiting.old.items }
     requires queue { IsQueueNow queue.now.packages administration.old.database.records
         waiting.old.items queue.now }
@@ -73,7 +73,7 @@ fn take_next<H: Host>(
     ensures room { room ≡ false → IfOk result (λ found. found ≡ None) }
     ensures order { OnOk result (Needs (H.state host.new)
         (IsInOrder administration.new.database administration.new.lists.lists)) }
-    ensures open { OnOk result (IsOpen diversions.now.entries administration.new) }
+    ensures open { OnOk result (IsOpen diversions.now.ways administration.new) }
     ensures answered { OnOk result (IsAnswered (H.state host.old) (H.state host.new)) }
     ensures told { TellsAll (H.state host.old) (H.state host.new) [] (calls_in result) }
     ensures any_moment { AtEachMomentOf (runs.IsAmidNext
@@ -189,7 +189,7 @@ pub(crate) fn run_turns<H: Host, W: Watcher>(
 ) -> Result<(RemoveQueue, Vec<Text>), Unit>
     requires order { Needs (H.state host.old)
         (IsInOrder administration.old.database administration.old.lists.lists) }
-    requires open { IsOpen diversions.now.entries administration.old }
+    requires open { IsOpen diversions.now.ways administration.old }
     requires accepted { AreAccepted purge administration.old.database.records waiting.items }
     ensures turned { IfOk result (λ left. HasTurned purge packages waiting.items left.1.items
         (held_by administration.old diversions.now) (held_by administration.new diversions.now)
@@ -214,7 +214,7 @@ pub(crate) fn run_turns<H: Host, W: Watcher>(
     ensures not_closed { IfErr result (λ unit. IsBrokenBy Closed unit.reply → ⊥) }
     ensures order { OnOk result (Needs (H.state host.new)
         (IsInOrder administration.new.database administration.new.lists.lists)) }
-    ensures open { OnOk result (IsOpen diversions.now.entries administration.new) }
+    ensures open { OnOk result (IsOpen diversions.now.ways administration.new) }
     ensures answered { OnOk result (IsAnswered (H.state host.old) (H.state host.new)) }
     ensures watched { AddsTold W.tells (H.state host.old) units.old.items units.new.items
         watcher.old watcher.new }

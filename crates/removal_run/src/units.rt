@@ -53,7 +53,7 @@ fn remove_to_disk<H: Host>(
 ) -> Result<Option<Call>, HostFault>
     requires order { Needs (H.state host.old)
         (IsInOrder administration.old.database administration.old.lists.lists) }
-    requires open { IsOpen diversions.now.entries administration.old }
+    requires open { IsOpen diversions.now.ways administration.old }
     requires accepted { rule_for purge administration.old.database.records name.now ≡ None }
     ensures unit { IfOk result (λ failed. IsBroughtToDisk purge name.now
         (held_by administration.old diversions.now) failed
@@ -61,7 +61,7 @@ fn remove_to_disk<H: Host>(
         told.old.items told.new.items) }
     ensures order { IfOk result (λ failed. Needs (H.state host.new)
         (IsInOrder administration.new.database administration.new.lists.lists)) }
-    ensures open { OnOk result (IsOpen diversions.now.entries administration.new) }
+    ensures open { OnOk result (IsOpen diversions.now.ways administration.new) }
     ensures others { OnOk result (AreOthersKept name.now administration.old.database.records
         administration.new.database.records) }
     ensures on_disk { OnOk result (IsOnDisk (H.state host.new).events) }
@@ -128,12 +128,12 @@ fn remove_named<H: Host>(
 ) -> Unit
     requires order { Needs (H.state host.old)
         (IsInOrder administration.old.database administration.old.lists.lists) }
-    requires open { IsOpen diversions.now.entries administration.old }
+    requires open { IsOpen diversions.now.ways administration.old }
     requires accepted { rule_for purge administration.old.database.records «package» ≡ None }
     ensures unit { IsBroken result.reply ⊎ IsRemoval purge «package»
         (held_by administration.old diversions.now) (held_by administration.new diversions.now)
         result (H.state host.old) (H.state host.new) }
-    ensures open { IsBroken result.reply ⊎ IsOpen diversions.now.entries administration.new }
+    ensures open { IsBroken result.reply ⊎ IsOpen diversions.now.ways administration.new }
     ensures others { IsBroken result.reply ⊎ AreOthersKept «package»
         administration.old.database.records administration.new.database.records }
     ensures answered { IsBroken result.reply ⊎ IsAnswered (H.state host.old) (H.state host.new) }
@@ -171,13 +171,13 @@ pub(crate) fn remove_one<H: Host>(
 ) -> Result<Unit, Unit>
     requires order { Needs (H.state host.old)
         (IsInOrder administration.old.database administration.old.lists.lists) }
-    requires open { IsOpen diversions.now.entries administration.old }
+    requires open { IsOpen diversions.now.ways administration.old }
     requires accepted { rule_for purge administration.old.database.records «package» ≡ None }
     ensures ok { IfOk result (λ unit. RunsRemoval purge «package»
         (held_by administration.old diversions.now) (held_by administration.new diversions.now)
         unit (H.state host.old) (H.state host.new)) }
     ensures room { OnOk result (room ≡ true) }
-    ensures open { OnOk result (IsOpen diversions.now.entries administration.new) }
+    ensures open { OnOk result (IsOpen diversions.now.ways administration.new) }
     ensures others { OnOk result (AreOthersKept «package» administration.old.database.records
         administration.new.database.records) }
     ensures broken_off { IfErr result (λ unit. IsBrokenOff purge «package»

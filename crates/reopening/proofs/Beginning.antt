@@ -9,7 +9,7 @@ use Rattle.administration.specs.Places.{list_path, script_path}
 use Rattle.undo_rows.specs.Transcripts.{Ended, Committed, Unwound}
 use Rattle.control_members.proofs.MemberNames.{script_is_member}
 use Rattle.control_members.specs.Stored.{stored_member_path}
-use Rattle.diversions.specs.declared.entry.Diversion.{Diversion}
+use Rattle.diversions.specs.Ways.{Ways}
 use Rattle.file_lists.specs.Info.{AreLoose, IsLink}
 use Rattle.file_lists.specs.Lists.{IsReadable}
 use Rattle.file_lists.specs.Owners.{paths_of}
@@ -57,14 +57,14 @@ module _ (name : Path) (named : is_package_name name ≡ true) (old now : World)
   going_quiet false false same = quiet_still old now same
 
 -- behind it the package is one of which nothing is refused
-pub cleared_safe : (names : List (List ℕ)) (entries : List Diversion) (name : Path) (old cleared : World) → is_package_name name ≡ true → IsCleared name old cleared → AreLoose cleared → IsSafe names entries old → IsSafe (name ∷ names) entries cleared
-cleared_safe names entries name old cleared named clears loose safe =
-    safe_more names name entries cleared clears.list (λ script. clears.members (script_name script) (script_is_member script))
-    (safe_quiet names entries old cleared (going_quiet name named old cleared true true clears) safe loose)
+pub cleared_safe : (names : List (List ℕ)) (ways : Ways) (name : Path) (old cleared : World) → is_package_name name ≡ true → IsCleared name old cleared → AreLoose cleared → IsSafe names ways old → IsSafe (name ∷ names) ways cleared
+cleared_safe names ways name old cleared named clears loose safe =
+    safe_more names name ways cleared clears.list (λ script. clears.members (script_name script) (script_is_member script))
+    (safe_quiet names ways old cleared (going_quiet name named old cleared true true clears) safe loose)
 
 -- and so is one that is recorded
-pub recorded_safe : (names : List (List ℕ)) (entries : List Diversion) (name : Path) (w : World) → Contains names name → IsSafe names entries w → IsSafe (name ∷ names) entries w
-recorded_safe names entries name w known safe = safe_fewer names (name ∷ names) entries w fewer safe
+pub recorded_safe : (names : List (List ℕ)) (ways : Ways) (name : Path) (w : World) → Contains names name → IsSafe names ways w → IsSafe (name ∷ names) ways w
+recorded_safe names ways name w known safe = safe_fewer names (name ∷ names) ways w fewer safe
   where
     fewer : (q : List ℕ) → Contains (name ∷ names) q → Contains names q
     fewer q (zero, lt, e) = subst (Contains names) e known
@@ -72,8 +72,8 @@ recorded_safe names entries name w known safe = safe_fewer names (name ∷ names
 
 -- the commit
 
-module _ (c : Changes) (entries : List Diversion) (lists : List PackageList) (named : is_package_name c.name ≡ true) (spares : SparesAdministration c.leaving) (elsewhere : AreElsewhere c.names) (listed : AreGood c.listed)
-    (losers_named : (q : Path) → Contains c.losers q → is_package_name q ≡ true) (losers_good : (q : Path) → Contains c.losers q → AreGood (paths_of (renewed_lists c entries lists) q)) where
+module _ (c : Changes) (ways : Ways) (lists : List PackageList) (named : is_package_name c.name ≡ true) (spares : SparesAdministration c.leaving) (elsewhere : AreElsewhere c.names) (listed : AreGood c.listed)
+    (losers_named : (q : Path) → Contains c.losers q → is_package_name q ≡ true) (losers_good : (q : Path) → Contains c.losers q → AreGood (paths_of (renewed_lists c ways lists) q)) where
   removing_quiet : (old now : World) → IsRemoving c.leaving old now → IsQuiet old now
   removing_quiet old now is = quiet_outside old now (removing_inside c.leaving old now spares is)
 
@@ -88,24 +88,24 @@ module _ (c : Changes) (entries : List Diversion) (lists : List PackageList) (na
   renewed_quiet old now has = quiet_then old has.mid now (removed_quiet old has.mid has.removed) (replaced_quiet c.name named c.listed listed has.mid now has.replaced)
 
   abbrev had : List PackageList
-  had = renewed_lists c entries lists
+  had = renewed_lists c ways lists
 
-  may_release_quiet : (old now : World) → MayRelease entries c.places c.losers had c.names old now → IsQuiet old now
-  may_release_quiet old now (inl is) = releasing_quiet entries c.places c.losers had losers_named losers_good old now is
+  may_release_quiet : (old now : World) → MayRelease ways c.places c.losers had c.names old now → IsQuiet old now
+  may_release_quiet old now (inl is) = releasing_quiet ways c.places c.losers had losers_named losers_good old now is
   may_release_quiet old now (inr m) =
-      quiet_then old m.0 now (released_quiet entries c.places c.losers had losers_named losers_good old m.0 m.1) (quiet_outside m.0 now (retiring_inside c.names m.0 now elsewhere m.3))
+      quiet_then old m.0 now (released_quiet ways c.places c.losers had losers_named losers_good old m.0 m.1) (quiet_outside m.0 now (retiring_inside c.names m.0 now elsewhere m.3))
 
-  has_released_quiet : (old now : World) → HasReleased entries c.places c.losers had c.names old now → IsQuiet old now
+  has_released_quiet : (old now : World) → HasReleased ways c.places c.losers had c.names old now → IsQuiet old now
   has_released_quiet old now has =
-      quiet_then old has.mid now (released_quiet entries c.places c.losers had losers_named losers_good old has.mid has.taken) (quiet_outside has.mid now (cleared_outside c.names has.mid now elsewhere has.cleared))
+      quiet_then old has.mid now (released_quiet ways c.places c.losers had losers_named losers_good old has.mid has.taken) (quiet_outside has.mid now (cleared_outside c.names has.mid now elsewhere has.cleared))
 
-  committed_quiet : (after : List Record) (old now : World) → HasCommitted c entries lists after old now → IsQuiet old now
+  committed_quiet : (after : List Record) (old now : World) → HasCommitted c ways lists after old now → IsQuiet old now
   committed_quiet after old now has =
       quiet_then old has.renewed now (renewed_quiet old has.renewed has.renewal)
       (quiet_then has.renewed has.stored now (stored_quiet c.name named has.renewed has.stored c.members has.stale has.replaced)
       (quiet_then has.stored has.released now (has_released_quiet has.stored has.released has.release) (quiet_noted has.released now has.noted.rest)))
 
-  committing_quiet : (records before : List Record) (old now : World) → MayCommit c entries lists records before old now → IsQuiet old now
+  committing_quiet : (records before : List Record) (old now : World) → MayCommit c ways lists records before old now → IsQuiet old now
   committing_quiet records before old now (MayCommit.renewing may has opens) = renewing_quiet old now may
   committing_quiet records before old now (MayCommit.replacing renewed stale first is has opens) =
       quiet_then old renewed now (renewed_quiet old renewed first) (storing_quiet c.name named renewed now c.members stale is)
@@ -131,15 +131,15 @@ module _ (c : Changes) (entries : List Diversion) (lists : List PackageList) (na
 
   -- and then `tmp.ci` goes
   module _ (records : List Record) (table : List Record) (others : ℕ) where
-    followed_quiet : (ended : Ended) (old now : World) → HasFollowed c records entries lists table others ended old now → IsQuiet old now
+    followed_quiet : (ended : Ended) (old now : World) → HasFollowed c records ways lists table others ended old now → IsQuiet old now
     followed_quiet Committed old now has = committed_quiet (put_records records table) old now has
     followed_quiet (Unwound fall failed) old now has = has_dropped_quiet (nat_le others fall.row) (record_in table c.name) old now has
 
-    pub leaving_quiet : (ended : Ended) (old now : World) → MayLeave c records entries lists table others ended old now → IsQuiet old now
+    pub leaving_quiet : (ended : Ended) (old now : World) → MayLeave c records ways lists table others ended old now → IsQuiet old now
     leaving_quiet Committed old now (MayLeaveBy.following may) = committing_quiet records table old now may
     leaving_quiet Committed old now (MayLeaveBy.clearing_away followed has opens laying) = quiet_then old followed now (followed_quiet Committed old followed has) (quiet_laid followed now laying.rest)
     leaving_quiet (Unwound fall failed) old now (MayLeaveBy.following may) = may_drop_quiet (nat_le others fall.row) (record_in table c.name) old now may
     leaving_quiet (Unwound fall failed) old now (MayLeaveBy.clearing_away followed has opens laying) = quiet_then old followed now (followed_quiet (Unwound fall failed) old followed has) (quiet_laid followed now laying.rest)
 
-    pub left_quiet : (ended : Ended) (old now : World) → HasLeft c records entries lists table others ended old now → IsQuiet old now
+    pub left_quiet : (ended : Ended) (old now : World) → HasLeft c records ways lists table others ended old now → IsQuiet old now
     left_quiet ended old now has = quiet_then old has.followed now (followed_quiet ended old has.followed has.has_followed) (quiet_laid has.followed now has.removed.rest)

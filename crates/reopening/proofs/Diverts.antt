@@ -8,17 +8,20 @@ use Rattle.host_core.specs.World.{World, IsDirectory}
 use Rattle.host_core.proofs.WorldLaws.{put_other}
 use Rattle.host_core.specs.declared.node.Node.{Node}
 use Rattle.host_core.specs.declared.node.Node.TheVariants.{File, Dir, Link}
+use Rattle.aliases.specs.Aliases.{resolved}
 use Rattle.administration.proofs.WholeFiles.{no_directory_at}
 use Rattle.administration.specs.Files.{KeepsBesideFile}
 use Rattle.administration.specs.Places.{diversions_path, info_path, status_path, temporary, updates_path}
 use Rattle.diversions.proofs.Moving.{moved_away, own_other}
 use Rattle.diversions.specs.Changes.{IsAdding, IsRemoving, IsTableReady, doubled_if, moved_if}
-use Rattle.diversions.specs.Entries.{IsTable, entry_of, without}
+use Rattle.diversions.specs.Entries.{IsTable, without}
 use Rattle.diversions.specs.Lines.{HasDiversions, HasEntries}
-use Rattle.diversions.specs.Places.{target_of, truename}
-use Rattle.diversions.specs.Sights.{moves_node, sight_of}
+use Rattle.diversions.specs.Ways.{truename, Ways}
+use Rattle.diversions.specs.Sights.{moves_back, moves_node, sight_of}
 use Rattle.diversions.specs.declared.entry.Diversion.{Diversion}
 use Rattle.diversions.specs.declared.refusal.Seen.{Seen}
+use Rattle.dpkg_session.proofs.Shipped.{resolved_shipped, truename_shipped}
+use Rattle.dpkg_session.specs.Diversions.{with_entries}
 use Rattle.file_lists.specs.Info.{IsSound as IsSoundEntry}
 use Rattle.status_db.proofs.NotedWorlds.{records_same}
 use Rattle.status_db.specs.Held.{CanOpenRecords, HasRecords}
@@ -41,7 +44,7 @@ below_not_ship q below =
     (and_right (not (has_reserved_suffix q)) (not (is_below_administration q)) (ap not below))))
 
 -- below the administration's directory nothing has changed but the table, which is there
-module _ (h : Held) (old now : World) (sound : IsSound h old) (same : (q : Path) → is_below_administration q ≡ true → get_or q 14 0 ≢ 100 → now q ≡ old q) (ready : IsTableReady now) (entries : List Diversion) (has : HasDiversions now entries) where
+module _ (h : Held) (old now : World) (sound : IsSound h old) (same : (q : Path) → is_below_administration q ≡ true → get_or q 14 0 ≢ 100 → now q ≡ old q) (ready : IsTableReady now) (ways : Ways) (has : HasDiversions now ways.entries) where
   same_info : (more : Path) → now (info_path ++ more) ≡ old (info_path ++ more)
   same_info more = same (info_path ++ more) refl (λ e. absurd (omega (arith, e)))
 
@@ -69,7 +72,7 @@ module _ (h : Held) (old now : World) (sound : IsSound h old) (same : (q : Path)
         records = still_records;
       }
 
-  still_safe : IsSafe (record_names h.records.records) entries now
+  still_safe : IsSafe (record_names h.records.records) ways now
   still_safe = record {
     info = subst IsDirectory (sym (same_info [])) sound.safe.info;
     text = λ bad. sound.safe.text (bad.0, bad.1, bad.2, subst IsSome (same_info (47 ∷ bad.0)) bad.3);
@@ -79,13 +82,13 @@ module _ (h : Held) (old now : World) (sound : IsSound h old) (same : (q : Path)
   }
 
   recording_opens : CanBeOpened now
-  recording_opens = opened_by (record_names h.records.records) entries h.records.records now still_records still_opens sound.standing (λ q known. known) still_safe
+  recording_opens = opened_by (record_names h.records.records) ways h.records.records now still_records still_opens sound.standing (λ q known. known) still_safe
       (emptied_incoming now (λ q within. (let t = temporary_is q within in same q t.under (λ e. absurd (omega (arith, e, t.letter))) ∙ sound.empty q within)))
 
 -- of before, or the new one
-table_there : (old now : World) (before entries : List Diversion) → (now diversions_path ≡ old diversions_path) ⊎ HasDiversions now entries → HasDiversions old before → (l : List Diversion) × HasDiversions now l
-table_there old now before entries (inl same) has = (before, subst (λ (n : Option Node). HasEntries n before) (sym same) has)
-table_there old now before entries (inr new) has = (entries, new)
+table_there : (old now : World) (before after : List Diversion) → (now diversions_path ≡ old diversions_path) ⊎ HasDiversions now after → HasDiversions old before → (l : List Diversion) × HasDiversions now l
+table_there old now before after (inl same) has = (before, subst (λ (n : Option Node). HasEntries n before) (sym same) has)
+table_there old now before after (inr new) has = (after, new)
 
 -- a node moved from one shipped path to another, and the table is being written
 recorded_same : (moves : Bool) (from to : Path) (old now : World) → is_ship_text from ≡ true → is_ship_text to ≡ true → KeepsBesideFile diversions_path (moved_if moves from to old) now → (q : Path) → is_below_administration q ≡ true → get_or q 14 0 ≢ 100 → now q ≡ old q
@@ -101,23 +104,21 @@ doubled_other false from to w q other = refl
 doubled_opens : (h : Held) (moves : Bool) (from to : Path) (old now : World) → IsSound h old → is_ship_text to ≡ true → now ≡ doubled_if moves from to old → IsTableReady now → CanBeOpened now
 doubled_opens h moves from to old now sound ship_to goes ready =
     let unmoved : (q : Path) → is_ship_text q ≡ false → now q ≡ old q = λ q own. ap (λ w. w q) goes ∙ doubled_other moves from to old q (own_other q to ship_to own) in
-    recording_opens h old now sound (λ q below no_d. unmoved q (below_not_ship q below)) ready h.entries (subst (λ (n : Option Node). HasEntries n h.entries) (sym (unmoved diversions_path refl)) sound.safe.diversions)
+    recording_opens h old now sound (λ q below no_d. unmoved q (below_not_ship q below)) ready h.ways (subst (λ (n : Option Node). HasEntries n h.ways.entries) (sym (unmoved diversions_path refl)) sound.safe.diversions)
 
-pub adding_opens : (h : Held) (d : Diversion) (rename : Bool) (seen : Seen) (old now : World) → IsSound h old → is_ship_text d.path ≡ true → is_ship_text d.target ≡ true → IsAdding h.entries d rename seen old now → CanBeOpened now
+pub adding_opens : (h : Held) (d : Diversion) (rename : Bool) (seen : Seen) (old now : World) → IsSound h old → is_ship_text d.path ≡ true → is_ship_text d.target ≡ true → IsAdding h.ways d rename seen old now → CanBeOpened now
 adding_opens h d rename seen old now sound path target (inl still) = subst CanBeOpened (sym still) (sound_opens h old sound)
-adding_opens h d rename seen old now sound path target (inr (inl both)) = doubled_opens h (moves_node rename seen.listed (sight_of rename old d.path d.target)) d.path d.target old now sound target both.0 both.1
+adding_opens h d rename seen old now sound path target (inr (inl both)) =
+    let from = resolved h.ways.aliases d.path in
+    let to = resolved h.ways.aliases d.target in
+    doubled_opens h (moves_node rename seen.listed (sight_of rename old from to)) from to old now sound (resolved_shipped h.ways.aliases d.target target) both.0 both.1
 adding_opens h d rename seen old now sound path target (inr (inr amid)) =
-    let table = table_there old now h.entries (h.entries ++ d ∷ []) amid.table sound.safe.diversions in
-    recording_opens h old now sound (recorded_same (moves_node rename seen.listed (sight_of rename old d.path d.target)) d.path d.target old now path target amid.rest) amid.ready table.0 table.1
-
--- a truename is shipped, where the path is
-true_ships : (entries : List Diversion) (path : Path) → IsTable entries → is_ship_text path ≡ true → is_ship_text (truename entries path) ≡ true
-true_ships [] path table ships = ships
-true_ships (d ∷ entries) path table ships = by (bytes_eq path d.path) (true_ships entries path table.3 ships)
-  where
-    by : (b : Bool) → is_ship_text (truename entries path) ≡ true → is_ship_text (target_of (cond b (Some d) (entry_of entries path)) path) ≡ true
-    by true rest = table.0.target.path
-    by false rest = rest
+    let from = resolved h.ways.aliases d.path in
+    let to = resolved h.ways.aliases d.target in
+    let table = table_there old now h.ways.entries (h.ways.entries ++ d ∷ []) amid.table sound.safe.diversions in
+    recording_opens h old now sound
+    (recorded_same (moves_node rename seen.listed (sight_of rename old from to)) from to old now (resolved_shipped h.ways.aliases d.path path) (resolved_shipped h.ways.aliases d.target target) amid.rest)
+    amid.ready (with_entries h.ways table.0) table.1
 
 read_table : (node : Option Node) (entries : List Diversion) → HasEntries node entries → IsTable entries
 read_table None entries has = subst IsTable (sym has) tt
@@ -125,10 +126,16 @@ read_table (Some (File bytes access)) entries has = has.table
 read_table (Some (Dir access)) entries has = absurd has
 read_table (Some (Link target)) entries has = absurd has
 
-pub removing_opens : (h : Held) (path : Path) (rename : Bool) (old now : World) → IsSound h old → is_ship_text path ≡ true → IsRemoving h.entries path rename old now → CanBeOpened now
+pub removing_opens : (h : Held) (path : Path) (rename : Bool) (old now : World) → IsSound h old → is_ship_text path ≡ true → IsRemoving h.ways path rename old now → CanBeOpened now
 removing_opens h path rename old now sound ships (inl still) = subst CanBeOpened (sym still) (sound_opens h old sound)
-removing_opens h path rename old now sound ships (inr (inl both)) = let target = truename h.entries path in doubled_opens h (moves_node rename false (sight_of rename old target path)) target path old now sound ships both.0 both.1
+removing_opens h path rename old now sound ships (inr (inl both)) =
+    let target = truename h.ways path in
+    let place = resolved h.ways.aliases path in
+    doubled_opens h (moves_back rename old target place) target place old now sound (resolved_shipped h.ways.aliases path ships) both.0 both.1
 removing_opens h path rename old now sound ships (inr (inr amid)) =
-    let target = truename h.entries path in
-    let table = table_there old now h.entries (without path h.entries) amid.table sound.safe.diversions in
-    recording_opens h old now sound (recorded_same (moves_node rename false (sight_of rename old target path)) target path old now (true_ships h.entries path (read_table (old diversions_path) h.entries sound.safe.diversions) ships) ships amid.rest) amid.ready table.0 table.1
+    let target = truename h.ways path in
+    let place = resolved h.ways.aliases path in
+    let table = table_there old now h.ways.entries (without path h.ways.entries) amid.table sound.safe.diversions in
+    recording_opens h old now sound
+    (recorded_same (moves_back rename old target place) target place old now (truename_shipped h.ways path (read_table (old diversions_path) h.ways.entries sound.safe.diversions) ships) (resolved_shipped h.ways.aliases path ships) amid.rest)
+    amid.ready (with_entries h.ways table.0) table.1

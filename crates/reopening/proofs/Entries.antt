@@ -11,7 +11,7 @@ use Rattle.administration.specs.Directories.{HasBadName}
 use Rattle.administration.specs.Files.{NoDirectory}
 use Rattle.administration.specs.Places.{diversions_path, info_path, list_path, script_path, temporary}
 use Rattle.administration.proofs.WholeFiles.{no_directory_at}
-use Rattle.diversions.specs.declared.entry.Diversion.{Diversion}
+use Rattle.diversions.specs.Ways.{Ways}
 use Rattle.diversions.specs.Lines.{HasDiversions, HasEntries}
 use Rattle.file_lists.specs.Info.{AreLoose, AreSound, IsLink, IsListOf, IsScriptOf, IsSound, entry_path, is_foreign}
 use Rattle.file_lists.specs.Lists.{IsReadable}
@@ -20,16 +20,16 @@ use Rattle.reopening.proofs.Names.{diversions_unnamed, info_unnamed, spare_unnam
 
 -- what stands beside the records: the directory, names that are text, entries without a fault for packages of these names, and the
 -- diversions
-pub record IsSafe (names : List (List ℕ)) (entries : List Diversion) (w : World) : Type 0 where
+pub record IsSafe (names : List (List ℕ)) (ways : Ways) (w : World) : Type 0 where
   pub info : IsDirectory (w info_path)
   pub text : HasBadName w info_path → ⊥
   pub sound : AreSound w names
-  pub diversions : HasDiversions w entries
+  pub diversions : HasDiversions w ways.entries
   pub spare : NoDirectory (w (temporary diversions_path))
 
 -- for fewer packages it is likewise
-pub safe_fewer : (names less : List (List ℕ)) (entries : List Diversion) (w : World) → ((q : List ℕ) → Contains less q → Contains names q) → IsSafe names entries w → IsSafe less entries w
-safe_fewer names less entries w fewer safe = record {
+pub safe_fewer : (names less : List (List ℕ)) (ways : Ways) (w : World) → ((q : List ℕ) → Contains less q → Contains names q) → IsSafe names ways w → IsSafe less ways w
+safe_fewer names less ways w fewer safe = record {
   info = safe.info;
   text = safe.text;
   diversions = safe.diversions;
@@ -43,8 +43,8 @@ safe_fewer names less entries w fewer safe = record {
 }
 
 -- for one more, of which nothing stands there
-pub safe_more : (names : List (List ℕ)) (own : List ℕ) (entries : List Diversion) (w : World) → w (list_path own) ≡ None → ((script : Script) → w (script_path own script) ≡ None) → IsSafe names entries w → IsSafe (own ∷ names) entries w
-safe_more names own entries w no_list no_script safe = record {
+pub safe_more : (names : List (List ℕ)) (own : List ℕ) (ways : Ways) (w : World) → w (list_path own) ≡ None → ((script : Script) → w (script_path own script) ≡ None) → IsSafe names ways w → IsSafe (own ∷ names) ways w
+safe_more names own ways w no_list no_script safe = record {
   info = safe.info;
   text = safe.text;
   diversions = safe.diversions;
@@ -73,7 +73,7 @@ safe_more names own entries w no_list no_script safe = record {
     at_script entry is (script, q, (suc k, lt, same), e) link = is.script (script, q, (k, omega (arith, lt), same), e) link
 
 -- at a moment
-module _ (names : List (List ℕ)) (entries : List Diversion) (old now : World) (quiet : IsQuiet old now) (safe : IsSafe names entries old) where
+module _ (names : List (List ℕ)) (ways : Ways) (old now : World) (quiet : IsQuiet old now) (safe : IsSafe names ways old) where
   text_still : HasBadName now info_path → ⊥
   text_still bad = safe.text (bad.0, bad.1, bad.2, subst IsSome (quiet.stays (entry_path bad.0) (strange_unnamed bad.0 (inl bad.2))) bad.3)
 
@@ -89,7 +89,7 @@ module _ (names : List (List ℕ)) (entries : List Diversion) (old now : World) 
   script_still entry is of link =
       is.script of (subst (λ (x : Path). IsLink (old (entry_path x))) (sym of.3) (quiet.links of.1 of.0 (subst (λ (x : Path). IsLink (now (entry_path x))) of.3 link)))
 
-  pub safe_quiet : AreLoose now → IsSafe names entries now
+  pub safe_quiet : AreLoose now → IsSafe names ways now
   safe_quiet loose = record {
     info = subst IsDirectory (sym (quiet.stays info_path info_unnamed)) safe.info;
     text = text_still;
@@ -99,6 +99,6 @@ module _ (names : List (List ℕ)) (entries : List Diversion) (old now : World) 
       list = λ of. list_still entry (safe.sound entry plain) of;
       script = λ of link. script_still entry (safe.sound entry plain) of link;
     };
-    diversions = subst (λ (n : Option Node). HasEntries n entries) (sym (quiet.stays diversions_path diversions_unnamed)) safe.diversions;
+    diversions = subst (λ (n : Option Node). HasEntries n ways.entries) (sym (quiet.stays diversions_path diversions_unnamed)) safe.diversions;
     spare = no_directory_at (now (temporary diversions_path)) (old (temporary diversions_path)) (quiet.stays (temporary diversions_path) spare_unnamed) safe.spare;
   }

@@ -157,7 +157,7 @@ found_like table notes lists entries w left like found = record {
 pub stands_lost : (h : Held) (begun t : State) (session : List Event) (left : World) → IsTrue t.honest → IsSettled t.events → t.events ≡ begun.events ++ session → Avoids is_own (changes_of session) → Stands h t.world → LosesSince begun t t left → Stands h left
 stands_lost h begun t session left honest settled events avoids stands loses =
     let one = since_loss_one is_own (λ so_far. Stands h) begun t t left honest settled (avoid_added is_own session begun t events avoids) (since_start (λ so_far. Stands h) t stands) loses in
-    found_like h.records.records h.records.notes h.lists h.entries one.1 left one.4 one.2
+    found_like h.records.records h.records.notes h.lists h.ways.entries one.1 left one.4 one.2
 
 pub opened_lost : (begun s t : State) (session : List Event) (left : World) → IsTrue t.honest → IsSettled t.events → t.events ≡ begun.events ++ session → Avoids is_own (changes_of session) → Opened s t → LosesSince begun s t left → CanBeOpened left
 opened_lost begun s t session left h settled events avoids opened loses =

@@ -10,7 +10,7 @@ use Rattle.configure_engine.specs.Settled.{settled}
 use Rattle.configure_engine.specs.Stages.{AreFirstParts, SettlesThese, half, list_parts}
 use Rattle.configure_engine.specs.Units.{IsPlanFor as IsConfigurePlanFor}
 use Rattle.configure_engine.specs.Waiting.{going_paths}
-use Rattle.diversions.specs.declared.entry.Diversion.{Diversion}
+use Rattle.diversions.specs.Ways.{Ways}
 use Rattle.file_lists.specs.Owners.{paths_of}
 use Rattle.file_lists.specs.declared.paths.PackageList.{PackageList}
 use Rattle.removal_engine.proofs.Elsewhere.{cleared_elsewhere, purged_elsewhere, waiting_elsewhere}
@@ -83,7 +83,7 @@ planned_safe name (s ∷ ss) safe = (record { parts = deeds_parts name s.parts.i
 pub gone_safe : (name : List ℕ) (r : Record) → IsSafePlanned name (gone_stage r)
 gone_safe name r = record { parts = (tt, (good_none, (tt, (tt, tt)))); restore = tt }
 
-module _ (entries : List Diversion) (lists : List PackageList) (name : List ℕ) (stored : Stored) where
+module _ (entries : Ways) (lists : List PackageList) (name : List ℕ) (stored : Stored) where
   module _ (r : Record) (own : r.name ≡ name) where
     files_safe : (to_come : List Path) → AreGood to_come → IsSafePlanned name (files_stage entries lists r stored to_come)
     files_safe to_come good = record {
@@ -143,7 +143,7 @@ to_come_good r stored to_come comes =
     good_paths to_come comes.are_paths
     (with_parents_text _ _ to_come comes.are (λ q has. entries_text _ q has) (λ q has. housed_text (goes_at_once r stored) r.conffiles q has))
 
-pub removal_plan_safe : (entries : List Diversion) (lists : List PackageList) (r : Record) (extent : Extent) (w : World) (honest : Bool) (stages : List Stage) (name : List ℕ) → r.name ≡ name → IsPlanFor entries lists r extent w honest stages → AreSafeStages name stages
+pub removal_plan_safe : (entries : Ways) (lists : List PackageList) (r : Record) (extent : Extent) (w : World) (honest : Bool) (stages : List Stage) (name : List ℕ) → r.name ≡ name → IsPlanFor entries lists r extent w honest stages → AreSafeStages name stages
 removal_plan_safe entries lists r extent w honest stages name own plan =
     planned_safe name stages (subst (AreSafePlanned name) (sym plan.are) (removal_safe entries lists name plan.stored r own plan.to_come (to_come_good r plan.stored plan.to_come plan.comes) extent))
 
@@ -169,7 +169,7 @@ first_safe r name own listed good [] parts are = subst (AreSafeParts name) (sym 
 first_safe r name own listed good (e ∷ es) parts are =
     subst (AreSafeParts name) (sym are.2) ((own, refl), (settles_safe name (e ∷ es) are.0 are.1, listing_safe name (going_paths r) listed (part.Note (half (settled r)) ∷ []) good ((own, refl), tt)))
 
-pub configure_plan_safe : (r : Record) (policy : ConfPolicy) (listed : List Path) (w : World) (honest : Bool) (stages : List Stage) (name : List ℕ) → r.name ≡ name → AreGood listed → IsConfigurePlanFor r policy listed w honest stages → AreSafeStages name stages
+pub configure_plan_safe : {ways : Ways} (r : Record) (policy : ConfPolicy) (listed : List Path) (w : World) (honest : Bool) (stages : List Stage) (name : List ℕ) → r.name ≡ name → AreGood listed → IsConfigurePlanFor r policy ways listed w honest stages → AreSafeStages name stages
 configure_plan_safe r policy listed w honest stages name own good plan =
     let is = plan.stages_are in
     subst (AreSafeStages name) (sym is.are) (

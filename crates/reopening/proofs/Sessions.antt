@@ -3,7 +3,7 @@ use Rattle.std.proofs.Common.{◌≡◌, inl, inr, ℕ, zero, suc, IsTrue, Bool,
 use Rattle.std.specs.Str.{IsUtf8}
 use Rattle.conffiles.specs.declared.decisions.ConfPolicy.{ConfPolicy}
 use Rattle.displaced_packages.specs.Losing.{losing_beside}
-use Rattle.diversions.specs.declared.entry.Diversion.{Diversion}
+use Rattle.diversions.specs.Ways.{Ways}
 use Rattle.file_lists.specs.declared.paths.PackageList.{PackageList}
 use Rattle.host_core.specs.Events.{Event}
 use Rattle.host_core.specs.Host.{State}
@@ -93,12 +93,12 @@ module _ (p : Package) (texts : ShipsText p) (beside : Beside) (before : Held) (
 
   held_from : (went : Bool)
       → From job ground plan is.unpacked.plan_for.planned refl refl sound.standing is.have_rows.apart.recorded is.have_rows.apart.unnamed texts s.world before.records refl sound.order (sound_lists before s.world sound) went end_records m.world
-      → IsHeld (names_left went) before.entries records.records m.world
+      → IsHeld (names_left went) before.ways records.records m.world
   held_from true from = record {
     all = subst (AreOf _) (sym is.unpacked.carried_out.records)
         (of_from _ _ standing_end (amid_names job ground plan is.unpacked.plan_for.planned refl sound.standing is.have_rows.apart.recorded end_records table));
     base = from.cleared;
-    safe = from.clears.1 (record_names before.records.records) before.entries (found_among job ground plan is.unpacked.plan_for.planned refl sound.standing is.have_rows.apart.recorded) sound.safe;
+    safe = from.clears.1 (record_names before.records.records) before.ways (found_among job ground plan is.unpacked.plan_for.planned refl sound.standing is.have_rows.apart.recorded) sound.safe;
     quiet = from.quiet;
     empty = (is.unpacked.carried_out.leaves h).removed.inside;
     has = subst (HasRecords m.world) (sym is.unpacked.carried_out.records) has_end;
@@ -112,7 +112,7 @@ module _ (p : Package) (texts : ShipsText p) (beside : Beside) (before : Held) (
     has = subst (HasRecords m.world) (sym is.unpacked.carried_out.records) has_end;
   }
 
-  pub unpacked_held : IsHeld (names_left (went_on plan (ended_as unwinding))) before.entries records.records m.world
+  pub unpacked_held : IsHeld (names_left (went_on plan (ended_as unwinding))) before.ways records.records m.world
   unpacked_held = held_from (went_on plan (ended_as unwinding))
       (carried_from job ground plan is.unpacked.plan_for.planned refl refl sound.standing is.have_rows.apart.recorded is.have_rows.apart.unnamed texts s.world before.records refl sound.order (sound_lists before s.world sound)
       (ended_as unwinding) is.unpacked.carried_out.mid is.unpacked.carried_out.ran.begun is.unpacked.carried_out.last m.world (is.unpacked.carried_out.ran.begins_so at_last) is.unpacked.carried_out.ran.rows_end at_last (is.unpacked.carried_out.leaves h))
@@ -125,14 +125,14 @@ held_names p beside before unwinding records lists s m told now is =
     cond (went_on is.unpacked.plan (ended_as unwinding))
     (package_name (ground_of (given_by p before is.others (yielding beside)) (places_of before)) is.unpacked.plan ∷ record_names before.records.records) (record_names before.records.records)
 
-displaced_held : (names : List (List ℕ)) (unwinding : Option Unwinding) (p : Package) (beside : Beside) (before : Held) (displaced : List (List ℕ)) (failed : Option Call) (mid after : Held) (m t : State) (told now : List Called) → mid.entries ≡ before.entries
-    → (IsTrue m.honest → IsHeld names before.entries mid.records.records m.world) → HasDisplaced unwinding (displacing_by p beside before.lists) displaced failed mid after m t told now
-    → IsTrue t.honest → IsHeld names before.entries after.records.records t.world
+displaced_held : (names : List (List ℕ)) (unwinding : Option Unwinding) (p : Package) (beside : Beside) (before : Held) (displaced : List (List ℕ)) (failed : Option Call) (mid after : Held) (m t : State) (told now : List Called) → mid.ways ≡ before.ways
+    → (IsTrue m.honest → IsHeld names before.ways mid.records.records m.world) → HasDisplaced unwinding (displacing_by p beside before.lists) displaced failed mid after m t told now
+    → IsTrue t.honest → IsHeld names before.ways after.records.records t.world
 displaced_held names (Some u) p beside before displaced failed mid after m t told now same held is h =
     let here : m.honest ≡ t.honest = ap (λ (x : State). x.honest) (sym is.here) in
-    subst (λ (x : Held). IsHeld names before.entries x.records.records t.world) (sym is.held) (held_same names before.entries mid.records.records m.world t.world (ap (λ (x : State). x.world) is.here) (held (subst IsTrue (sym here) h)))
+    subst (λ (x : Held). IsHeld names before.ways x.records.records t.world) (sym is.held) (held_same names before.ways mid.records.records m.world t.world (ap (λ (x : State). x.world) is.here) (held (subst IsTrue (sym here) h)))
 displaced_held names None p beside before displaced failed mid after m t told now same held is h =
-    (displaced_lead names before.entries mid.entries p.name p.version (losing_beside before.lists beside) beside.conflicting displaced failed (holding_of mid) (holding_of after) m t told now held is).held h
+    (displaced_lead names before.ways mid.ways p.name p.version (losing_beside before.lists beside) beside.conflicting displaced failed (holding_of mid) (holding_of after) m t told now held is).held h
 
 unpacked_goes : (p : Package) (beside : Beside) (before after : Held) (u : AUnit) (s t : State) → ShipsText p → (IsTrue t.honest → IsTrue s.honest) → IsUnpacked p beside before after u s t → Goes before after s t
 unpacked_goes p beside before after u s t texts falls is =
@@ -142,7 +142,7 @@ unpacked_goes p beside before after u s t texts falls is =
       falls = falls;
       sound = λ h sound.
           held_sound names after t.world
-          (subst (λ (l : List Diversion). IsHeld names l after.records.records t.world) (sym is.entries)
+          (subst (λ (l : Ways). IsHeld names l after.records.records t.world) (sym is.ways)
           (displaced_held names is.unwinding p beside before is.displaced is.failed (held_with before whole.records whole.lists) after whole.m t whole.between u.calls.items refl
           (λ at_m. unpacked_held p texts beside before is.unwinding whole.records whole.lists s whole.m [] whole.between whole.unpacked at_m sound) whole.behind h))
           (is.order h);
@@ -165,11 +165,11 @@ module _ (p : Package) (texts : ShipsText p) (beside : Beside) (before : Held) (
   beside_opens so_far now (inr (others, rows, inr amid)) =
       let g = given_by p before others (yielding beside) in
       under_way_opens (job_of g amid.plan_for.stored) (ground_of g (places_of before)) amid.plan amid.plan_for.planned refl refl sound.standing rows.apart.recorded rows.apart.unnamed texts old before.records refl sound.order (sound_lists before old sound)
-      before.entries so_far now sound.safe amid.under_way
+      before.ways so_far now sound.safe amid.under_way
 
   behind_opens : (so_far : List Event) (now : World) → IsAmidBehind p beside before old so_far now → CanBeOpened now
   behind_opens so_far now amid =
-      displacing_open _ before.entries before.entries p.name p.version (losing_beside before.lists beside) beside.conflicting (holding_of (held_with before amid.records amid.lists)) amid.m amid.rest now
+      displacing_open _ before.ways before.ways p.name p.version (losing_beside before.lists beside) beside.conflicting (holding_of (held_with before amid.records amid.lists)) amid.m amid.rest now
       (λ h. unpacked_held p texts beside before None amid.records amid.lists amid.s amid.m [] amid.between amid.unpacked h (subst (IsSound before) (sym amid.from) sound)) amid.displacing
 
   unpack_opens : (so_far : List Event) (now : World) → IsAmidUnpack p beside before old so_far now → CanBeOpened now

@@ -7,7 +7,7 @@ use Rattle.host_core.specs.Host.{AllFailed, Happens, Needs, Reads, Since, State,
 use Rattle.host_core.proofs.Moments.{since_then, unmoved}
 use Rattle.host_core.specs.World.{Barrier, World}
 use Rattle.host_core.specs.declared.call.Call.{Call}
-use Rattle.diversions.specs.declared.entry.Diversion.{Diversion}
+use Rattle.diversions.specs.Ways.{Ways}
 use Rattle.file_lists.specs.Owners.{paths_of}
 use Rattle.removal_run.specs.Units.{holding_of}
 use Rattle.status_db.specs.Held.{HasRecords}
@@ -32,23 +32,23 @@ use Rattle.reopening.specs.Opens.{CanBeOpened}
 
 pub record IsSound (h : Held) (w : World) : Type 0 where
   pub order : IsInOrder h.records h.lists w
-  pub safe : IsSafe (record_names h.records.records) h.entries w
+  pub safe : IsSafe (record_names h.records.records) h.ways w
   pub standing : AreStanding h.records.records
   pub empty : IsEmptied w
 
-pub sound_held : (h : Held) (w : World) → IsSound h w → IsHeld (record_names h.records.records) h.entries h.records.records w
+pub sound_held : (h : Held) (w : World) → IsSound h w → IsHeld (record_names h.records.records) h.ways h.records.records w
 sound_held h w sound = record { all = of_own h.records.records sound.standing; base = w; safe = sound.safe; quiet = quiet_here w; empty = sound.empty; has = sound.order.kept.holds }
 
 pub sound_opens : (h : Held) (w : World) → IsSound h w → CanBeOpened w
-sound_opens h w sound = held_opens (record_names h.records.records) h.entries h.records.records w (sound_held h w sound) (kept_opens h.records w sound.order.kept) sound.order.loose
+sound_opens h w sound = held_opens (record_names h.records.records) h.ways h.records.records w (sound_held h w sound) (kept_opens h.records w sound.order.kept) sound.order.loose
 
 pub still_opens : (h : Held) (old now : World) → IsSound h old → now ≡ old → CanBeOpened now
 still_opens h old now sound same = subst CanBeOpened (sym same) (sound_opens h old sound)
 
-pub held_sound : (names : List (List ℕ)) (h : Held) (w : World) → IsHeld names h.entries h.records.records w → IsInOrder h.records h.lists w → IsSound h w
+pub held_sound : (names : List (List ℕ)) (h : Held) (w : World) → IsHeld names h.ways h.records.records w → IsInOrder h.records h.lists w → IsSound h w
 held_sound names h w held order = record {
   order = order;
-  safe = safe_fewer names (record_names h.records.records) h.entries w (of_names names h.records.records held.all) (held_safe names h.entries h.records.records w held order.loose);
+  safe = safe_fewer names (record_names h.records.records) h.ways w (of_names names h.records.records held.all) (held_safe names h.ways h.records.records w held order.loose);
   standing = of_standing names h.records.records held.all;
   empty = held.empty;
 }
@@ -82,20 +82,20 @@ goes_refused rule name before after u s t is = goes_still before after s t is.he
 
 -- the stages of a package that is recorded, and all of it brought to the disk
 pub goes_stages : (name : List ℕ) (stages : List Stage) (failed : Option Call) (before after : Held) (s left t : State) (told now : List Called) → ((r : Record) → record_in before.records.records name ≡ Some r → AreSafeStages name stages)
-    → (r : Record) → record_in before.records.records name ≡ Some r → HaveRun name before.entries stages failed (holding_of before) (holding_of after) s left told now → Happens (Did Barrier ∷ []) left t
-    → Needs t (IsInOrder after.records after.lists) → after.entries ≡ before.entries → Goes before after s t
-goes_stages name stages failed before after s left t told now safe r found run behind order entries =
+    → (r : Record) → record_in before.records.records name ≡ Some r → HaveRun name before.ways stages failed (holding_of before) (holding_of after) s left told now → Happens (Did Barrier ∷ []) left t
+    → Needs t (IsInOrder after.records after.lists) → after.ways ≡ before.ways → Goes before after s t
+goes_stages name stages failed before after s left t told now safe r found run behind order ways =
     let named = found_is_named before.records.records name r found in
-    let falls = run_falls name named before.entries stages failed (holding_of before) (holding_of after) s left told now run in
+    let falls = run_falls name named before.ways stages failed (holding_of before) (holding_of after) s left told now run in
     record {
       falls = λ h. falls (behind.honest h);
       sound = λ h sound. (let there = order h in let held = sound_held before s.world sound in
           let names = record_names before.records.records in
           let same : left.world ≡ t.world = sym behind.world in
-          let ends = stages_held names before.entries name named (found_has names before.records.records held.all name r found) before.entries stages failed (holding_of before) (holding_of after) s left told now (safe r found) held run (behind.honest h)
+          let ends = stages_held names before.ways name named (found_has names before.records.records held.all name r found) before.ways stages failed (holding_of before) (holding_of after) s left told now (safe r found) held run (behind.honest h)
           (subst (λ (w : World). HasRecords w after.records.records) (sym same) there.kept.holds) in
           held_sound names after t.world
-          (subst (λ (l : List Diversion). IsHeld names l after.records.records t.world) (sym entries) (subst (IsHeld names before.entries after.records.records) same ends)) there);
+          (subst (λ (l : Ways). IsHeld names l after.records.records t.world) (sym ways) (subst (IsHeld names before.ways after.records.records) same ends)) there);
     }
 
 -- what holds at each moment from one state to a later one

@@ -19,7 +19,7 @@ use Rattle.control_members.specs.Members.{member_of, node_of}
 use Rattle.control_members.specs.Names.{is_member_name}
 use Rattle.control_members.specs.Stored.{AreReplaced, AreReplacing, AreTaken, AreTaking, is_among, over, stored_member_path}
 use Rattle.control_members.specs.declared.member.Member.{Member}
-use Rattle.diversions.specs.declared.entry.Diversion.{Diversion}
+use Rattle.diversions.specs.Ways.{Ways}
 use Rattle.file_lists.specs.Info.{IsLink}
 use Rattle.file_lists.specs.Lists.{IsReadable}
 use Rattle.file_lists.specs.Owners.{IsListable, paths_of}
@@ -172,24 +172,24 @@ filter_all P keep (x ∷ xs) all = by (keep x) (filter_all P keep xs all.1)
 pub good_filter : (keep : Path → Bool) (paths : List Path) → AreGood paths → AreGood (filter keep paths)
 good_filter keep paths good = record { can = filter_all IsListable keep paths good.can; texts = filter_all IsUtf8 keep paths good.texts }
 
-module _ (entries : List Diversion) (places from : List Path) (had : List PackageList) (named : (name : Path) → Contains from name → is_package_name name ≡ true)
+module _ (ways : Ways) (places from : List Path) (had : List PackageList) (named : (name : Path) → Contains from name → is_package_name name ≡ true)
     (good : (name : Path) → Contains from name → AreGood (paths_of had name)) (old now : World) where
-  pub releasing_quiet : IsTaking entries places from had old now → IsQuiet old now
+  pub releasing_quiet : IsTaking ways places from had old now → IsQuiet old now
   releasing_quiet is = record {
     stays = λ q unnamed. is.rest q (λ name has. (unnamed.others name (named name has)).list);
     links = λ owner script link. subst IsLink (is.rest (script_path owner script) (λ name has. (script_no_list owner name script, script_no_spare owner (list_path name) script))) link;
     lists = λ q readable. elim (among from q) [
-      | inl has ↦ one_written (old (list_path q)) (now (list_path q)) (left_paths entries places q (paths_of had q)) (good_filter _ (paths_of had q) (good q has)) (is.lists q has) readable
+      | inl has ↦ one_written (old (list_path q)) (now (list_path q)) (left_paths ways places q (paths_of had q)) (good_filter _ (paths_of had q) (good q has)) (is.lists q has) readable
       | inr none ↦ subst IsReadable (sym (is.rest (list_path q) (no_other from q none))) readable
     ];
   }
 
-  pub released_quiet : HasTakenAll entries places from had old now → IsQuiet old now
+  pub released_quiet : HasTakenAll ways places from had old now → IsQuiet old now
   released_quiet is = record {
     stays = λ q unnamed. is.rest q (λ name has. (unnamed.others name (named name has)).list);
     links = λ owner script link. subst IsLink (is.rest (script_path owner script) (λ name has. (script_no_list owner name script, script_no_spare owner (list_path name) script))) link;
     lists = λ q readable. elim (among from q) [
-      | inl has ↦ one_written (old (list_path q)) (now (list_path q)) (left_paths entries places q (paths_of had q)) (good_filter _ (paths_of had q) (good q has)) (inr (is.lists q has)) readable
+      | inl has ↦ one_written (old (list_path q)) (now (list_path q)) (left_paths ways places q (paths_of had q)) (good_filter _ (paths_of had q) (good q has)) (inr (is.lists q has)) readable
       | inr none ↦ subst IsReadable (sym (is.rest (list_path q) (no_other from q none))) readable
     ];
   }

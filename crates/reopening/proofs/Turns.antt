@@ -75,7 +75,7 @@ module _ (policy : ConfPolicy) where
       let plan = whole.plan in
       goes_stages name whole.stages is.failed before after s is.configured.left t [] u.calls.items
       (λ r found. configure_plan_safe plan.entry policy (paths_of before.lists name) s.world is.configured.left.honest whole.stages name (is_named before.records.records name plan.entry plan.found) (sound_lists before s.world sound name) plan.plan)
-      plan.entry plan.found whole.run is.configured.flushed is.order is.entries
+      plan.entry plan.found whole.run is.configured.flushed is.order is.ways
 
   -- where what it begins with is sound
   sound_goes : (before after : Held) (s t : State) → (IsTrue t.honest → IsTrue s.honest) → (IsSound before s.world → Goes before after s t) → Goes before after s t
@@ -93,7 +93,7 @@ module _ (policy : ConfPolicy) where
   configure_opens : (name : List ℕ) (before : Held) (old : World) (so_far : List Event) (now : World) → IsSound before old → IsAmidConfigure policy name before old so_far now → CanBeOpened now
   configure_opens name before old so_far now sound (inl still) = still_opens before old now sound still.same
   configure_opens name before old so_far now sound (inr amid) =
-      configuring_opens (record_names before.records.records) before.entries (configure_given policy name before) old amid.during now (sound_held before old sound) (sound_opens before old sound) (sound_lists before old sound name) amid.holds
+      configuring_opens (record_names before.records.records) before.ways (configure_given policy name before) old amid.during now (sound_held before old sound) (sound_opens before old sound) (sound_lists before old sound name) amid.holds
 
   module _ (silent : ℕ → Bool) where
     turn_runs : (q : Waiting) (before : Held) (u : AUnit) (later : Waiting) (after : Held) (s t : State) → IsConfigureTurn policy silent q before u later after s t → Runs before after s t
@@ -125,12 +125,12 @@ module _ (purge : Bool) where
       let whole = is.removed.removed in
       let plan = whole.plan in
       goes_stages name whole.stages is.failed before after s is.removed.m t [] u.calls.items
-      (λ r found. removal_plan_safe before.entries before.lists plan.entry (extent_of purge) s.world is.removed.m.honest whole.stages name (is_named before.records.records name plan.entry plan.found) plan.plan)
-      plan.entry plan.found whole.run is.removed.disk is.order is.entries
+      (λ r found. removal_plan_safe before.ways before.lists plan.entry (extent_of purge) s.world is.removed.m.honest whole.stages name (is_named before.records.records name plan.entry plan.found) plan.plan)
+      plan.entry plan.found whole.run is.removed.disk is.order is.ways
 
   removal_opens : (name : List ℕ) (before : Held) (old : World) (so_far : List Event) (now : World) → IsSound before old → IsAmidRemoval purge name before old so_far now → CanBeOpened now
   removal_opens name before old so_far now sound amid =
-      removing_opens (record_names before.records.records) before.entries (removal_given purge name before) old amid.front now (sound_held before old sound) (still_opens before old now sound) amid.amid
+      removing_opens (record_names before.records.records) before.ways (removal_given purge name before) old amid.front now (sound_held before old sound) (still_opens before old now sound) amid.amid
 
   module _ (packages : List Package) where
     removal_runs : (q : List (List ℕ)) (before : Held) (u : AUnit) (left : List (List ℕ)) (after : Held) (s t : State) → IsRemovalTurn purge packages q before u left after s t → Runs before after s t

@@ -14,7 +14,7 @@ use Rattle.administration.proofs.Within.{within_is}
 use Rattle.administration.specs.Places.{tmp_path, is_within}
 use Rattle.configure_engine.specs.Units.{Given as Configuring, IsAmidUnit as IsAmidConfiguring}
 use Rattle.control_members.specs.LaidOut.{IsIncoming, laid_path}
-use Rattle.diversions.specs.declared.entry.Diversion.{Diversion}
+use Rattle.diversions.specs.Ways.{Ways}
 use Rattle.file_lists.specs.Info.{AreLoose}
 use Rattle.file_lists.specs.Owners.{paths_of}
 use Rattle.removal_engine.proofs.Tables.{is_named}
@@ -89,43 +89,43 @@ emptied_incoming w empty = record {
 }
 
 -- what is found: these records stand, of packages of these names, and since a world in which no opening refuses anything all was quiet
-pub record IsHeld (names : List (List ℕ)) (entries : List Diversion) (rs : List Record) (w : World) : Type 0 where
+pub record IsHeld (names : List (List ℕ)) (ways : Ways) (rs : List Record) (w : World) : Type 0 where
   pub all : AreOf names rs
   pub base : World
-  pub safe : IsSafe names entries base
+  pub safe : IsSafe names ways base
   pub quiet : IsQuiet base w
   pub empty : IsEmptied w
   pub has : HasRecords w rs
 
-pub held_safe : (names : List (List ℕ)) (entries : List Diversion) (rs : List Record) (w : World) → IsHeld names entries rs w → AreLoose w → IsSafe names entries w
-held_safe names entries rs w held loose = safe_quiet names entries held.base w held.quiet held.safe loose
+pub held_safe : (names : List (List ℕ)) (ways : Ways) (rs : List Record) (w : World) → IsHeld names ways rs w → AreLoose w → IsSafe names ways w
+held_safe names ways rs w held loose = safe_quiet names ways held.base w held.quiet held.safe loose
 
-pub held_opens : (names : List (List ℕ)) (entries : List Diversion) (rs : List Record) (w : World) → IsHeld names entries rs w → CanOpenRecords w → AreLoose w → CanBeOpened w
-held_opens names entries rs w held opens loose =
-    opened_by names entries rs w held.has opens (of_standing names rs held.all) (of_names names rs held.all) (held_safe names entries rs w held loose) (emptied_incoming w held.empty)
+pub held_opens : (names : List (List ℕ)) (ways : Ways) (rs : List Record) (w : World) → IsHeld names ways rs w → CanOpenRecords w → AreLoose w → CanBeOpened w
+held_opens names ways rs w held opens loose =
+    opened_by names ways rs w held.has opens (of_standing names rs held.all) (of_names names rs held.all) (held_safe names ways rs w held loose) (emptied_incoming w held.empty)
 
-pub held_same : (names : List (List ℕ)) (entries : List Diversion) (rs : List Record) (v w : World) → w ≡ v → IsHeld names entries rs v → IsHeld names entries rs w
-held_same names entries rs v w same held = subst (IsHeld names entries rs) (sym same) held
+pub held_same : (names : List (List ℕ)) (ways : Ways) (rs : List Record) (v w : World) → w ≡ v → IsHeld names ways rs v → IsHeld names ways rs w
+held_same names ways rs v w same held = subst (IsHeld names ways rs) (sym same) held
 
 -- stages of a package that is recorded
-module _ (names : List (List ℕ)) (held_entries : List Diversion) (name : List ℕ) (named : is_package_name name ≡ true) (has : Contains names name) (entries : List Diversion) where
+module _ (names : List (List ℕ)) (held_entries : Ways) (name : List ℕ) (named : is_package_name name ≡ true) (has : Contains names name) (ways : Ways) where
   -- where all was calm before them
-  pub stages_amid : (stages : List Stage) (h : Holding) (old : World) (so_far : List Event) (now : World) → AreSafeStages name stages → (first : World) → IsCalm first old → IsHeld names held_entries h.records first → AreRunning name entries stages h old so_far now → CanBeOpened now
+  pub stages_amid : (stages : List Stage) (h : Holding) (old : World) (so_far : List Event) (now : World) → AreSafeStages name stages → (first : World) → IsCalm first old → IsHeld names held_entries h.records first → AreRunning name ways stages h old so_far now → CanBeOpened now
   stages_amid stages h old so_far now safe first before held running =
-      let calm = calm_then first old now before (running_calm name named entries stages h old so_far now safe running) in
-      let all = running_of name named entries names has stages h old so_far now safe held.all running in
+      let calm = calm_then first old now before (running_calm name named ways stages h old so_far now safe running) in
+      let all = running_of name named ways names has stages h old so_far now safe held.all running in
       opened_by names held_entries running.table now running.opens.records running.opens.opens (of_standing names running.table all) (of_names names running.table all)
       (safe_quiet names held_entries held.base now (quiet_then held.base first now held.quiet calm.quiet) held.safe running.opens.loose) (emptied_incoming now (λ q within. calm.tmp q within ∙ held.empty q within))
 
-  pub stages_open : (stages : List Stage) (h : Holding) (old : World) (so_far : List Event) (now : World) → AreSafeStages name stages → IsHeld names held_entries h.records old → AreRunning name entries stages h old so_far now → CanBeOpened now
+  pub stages_open : (stages : List Stage) (h : Holding) (old : World) (so_far : List Event) (now : World) → AreSafeStages name stages → IsHeld names held_entries h.records old → AreRunning name ways stages h old so_far now → CanBeOpened now
   stages_open stages h old so_far now safe held running = stages_amid stages h old so_far now safe old (calm_here old) held running
 
-  pub stages_held : (stages : List Stage) (failed : Option Call) (before after : Holding) (s t : State) (told now : List Called) → AreSafeStages name stages → IsHeld names held_entries before.records s.world → HaveRun name entries stages failed before after s t told now
+  pub stages_held : (stages : List Stage) (failed : Option Call) (before after : Holding) (s t : State) (told now : List Called) → AreSafeStages name stages → IsHeld names held_entries before.records s.world → HaveRun name ways stages failed before after s t told now
       → IsTrue t.honest → HasRecords t.world after.records → IsHeld names held_entries after.records t.world
   stages_held stages failed before after s t told now safe held run honest stands =
-      let calm = run_calm name named entries stages failed before after s t told now safe run honest in
+      let calm = run_calm name named ways stages failed before after s t told now safe run honest in
       record {
-        all = run_of name named entries names has stages failed before after s t told now safe run held.all;
+        all = run_of name named ways names has stages failed before after s t told now safe run held.all;
         base = held.base;
         safe = held.safe;
         quiet = quiet_then held.base s.world t.world held.quiet calm.quiet;
@@ -140,13 +140,13 @@ found_has names rs all name r found = of_names names rs all name (has_name rs na
 pub found_is_named : (rs : List Record) (name : List ℕ) (r : Record) → record_in rs name ≡ Some r → is_package_name name ≡ true
 found_is_named rs name r found = found_named name rs (ap is_some found)
 
-module _ (names : List (List ℕ)) (held_entries : List Diversion) where
+module _ (names : List (List ℕ)) (held_entries : Ways) where
   -- the unit that configures a package
   pub configuring_opens : (g : Configuring) (old : World) (so_far : List Event) (now : World) → IsHeld names held_entries g.before.records old → CanBeOpened old → AreGood (paths_of g.before.lists g.name) → IsAmidConfiguring g old so_far now → CanBeOpened now
   configuring_opens g old so_far now held opens good (inl still) = subst CanBeOpened (sym still.0) opens
   configuring_opens g old so_far now held opens good (inr amid) =
       let plan = amid.plan in
-      stages_open names held_entries g.name (found_is_named g.before.records g.name plan.entry plan.found) (found_has names g.before.records held.all g.name plan.entry plan.found) g.entries amid.stages g.before old so_far now
+      stages_open names held_entries g.name (found_is_named g.before.records g.name plan.entry plan.found) (found_has names g.before.records held.all g.name plan.entry plan.found) g.ways amid.stages g.before old so_far now
       (configure_plan_safe plan.entry g.policy (paths_of g.before.lists g.name) old true amid.stages g.name (is_named g.before.records g.name plan.entry plan.found) good plan.plan) held amid.running
 
   -- the unit that removes or purges one
@@ -154,5 +154,5 @@ module _ (names : List (List ℕ)) (held_entries : List Diversion) where
   removing_opens g old so_far now held opens (inl still) = opens still.0
   removing_opens g old so_far now held opens (inr amid) =
       let plan = amid.plan in
-      stages_open names held_entries g.name (found_is_named g.before.records g.name plan.entry plan.found) (found_has names g.before.records held.all g.name plan.entry plan.found) g.entries amid.stages g.before old so_far now
-      (removal_plan_safe g.entries g.before.lists plan.entry g.extent old true amid.stages g.name (is_named g.before.records g.name plan.entry plan.found) plan.plan) held amid.running
+      stages_open names held_entries g.name (found_is_named g.before.records g.name plan.entry plan.found) (found_has names g.before.records held.all g.name plan.entry plan.found) g.ways amid.stages g.before old so_far now
+      (removal_plan_safe g.ways g.before.lists plan.entry g.extent old true amid.stages g.name (is_named g.before.records g.name plan.entry plan.found) plan.plan) held amid.running

@@ -13,7 +13,7 @@ use Rattle.host_core.specs.World.{Change, World}
 use Rattle.undo_rows.specs.Place.{Place, Back, Forward}
 use Rattle.undo_rows.specs.Transcripts.{Ended, Committed, Unwound}
 use Rattle.control_members.specs.LaidOut.{IsIncoming}
-use Rattle.diversions.specs.declared.entry.Diversion.{Diversion}
+use Rattle.diversions.specs.Ways.{Ways}
 use Rattle.file_lists.proofs.TakingAll.{paths_with}
 use Rattle.file_lists.specs.Info.{AreLoose}
 use Rattle.file_lists.specs.Owners.{paths_of}
@@ -63,15 +63,15 @@ use Rattle.reopening.proofs.Texts.{entries_text, good_paths, new_list_text}
 use Rattle.reopening.specs.Opens.{CanBeOpened}
 
 -- what has been found: records that stand for a table of these names, entries without a fault, and what can be taken away
-pub opened_by : (names : List (List ℕ)) (entries : List Diversion) (table : List Record) (w : World) → HasRecords w table → CanOpenRecords w → AreStanding table → ((q : List ℕ) → Contains (record_names table) q → Contains names q)
-    → IsSafe names entries w → IsIncoming w → CanBeOpened w
-opened_by names entries table w has opens standing known safe incoming =
-    let fewer = safe_fewer names (record_names table) entries w known safe in
+pub opened_by : (names : List (List ℕ)) (ways : Ways) (table : List Record) (w : World) → HasRecords w table → CanOpenRecords w → AreStanding table → ((q : List ℕ) → Contains (record_names table) q → Contains names q)
+    → IsSafe names ways w → IsIncoming w → CanBeOpened w
+opened_by names ways table w has opens standing known safe incoming =
+    let fewer = safe_fewer names (record_names table) ways w known safe in
     record {
       records = opens;
       info = safe.info;
       readable = record { table = table; is_table = record { records = has; standing = standing_same table standing }; text = safe.text; sound = fewer.sound };
-      diversions = (entries, safe.diversions);
+      diversions = (ways.entries, safe.diversions);
       spare = safe.spare;
       incoming = incoming;
     }
@@ -144,14 +144,14 @@ module _ (j : Job) (g : Ground) (p : Planned) (planned : IsPlanned j p) (same : 
     rows_table = table_after g p place
 
     abbrev losing : List Record
-    losing = losing_records g.entries (taken_places works) (unit_losers g p works lists) rows_table
+    losing = losing_records g.ways (taken_places works) (unit_losers g p works lists) rows_table
 
     commit_standing : AreStanding (commit_records g p works lists rows_table)
-    commit_standing = stands_both losing (p.fresh ∷ []) (losing_stand g.entries (taken_places works) (unit_losers g p works lists) rows_table (known_standing known_names own rows_table (rows_all place))) (ap is_not_installed planned.records_are.fresh_is.is.state_is, tt)
+    commit_standing = stands_both losing (p.fresh ∷ []) (losing_stand g.ways (taken_places works) (unit_losers g p works lists) rows_table (known_standing known_names own rows_table (rows_all place))) (ap is_not_installed planned.records_are.fresh_is.is.state_is, tt)
 
     commit_names : (q : List ℕ) → Contains (record_names (commit_records g p works lists rows_table)) q → Contains (own ∷ known_names) q
     commit_names q has = elim (Contains-append_cases (record_names losing) (p.fresh.name ∷ []) q (subst (λ (l : List (List ℕ)). Contains l q) (map-append (λ (r : Record). r.name) losing (p.fresh ∷ [])) has)) [
-      | inl loses ↦ rows_names place q (losing_named g.entries (taken_places works) (unit_losers g p works lists) rows_table q loses)
+      | inl loses ↦ rows_names place q (losing_named g.ways (taken_places works) (unit_losers g p works lists) rows_table q loses)
       | inr fresh ↦ in_front q (inr (sym (one_of p.fresh.name q fresh) ∙ planned.records_are.fresh_is.is.name_is ∙ sym own_is))
     ]
 
@@ -231,7 +231,7 @@ module _ (j : Job) (g : Ground) (p : Planned) (planned : IsPlanned j p) (same : 
   -- from the world in which nothing is left of a package without a record
   pub record IsFrom (now : World) : Type 0 where
     pub cleared : World
-    pub clears : AreLoose cleared × ((names : List (List ℕ)) (entries : List Diversion) → ((r : Record) → p.found ≡ Some r → Contains names unit_name) → IsSafe names entries old → IsSafe (unit_name ∷ names) entries cleared)
+    pub clears : AreLoose cleared × ((names : List (List ℕ)) (ways : Ways) → ((r : Record) → p.found ≡ Some r → Contains names unit_name) → IsSafe names ways old → IsSafe (unit_name ∷ names) ways cleared)
     pub quiet : IsQuiet cleared now
 
   -- at a place of its rows
@@ -239,19 +239,19 @@ module _ (j : Job) (g : Ground) (p : Planned) (planned : IsPlanned j p) (same : 
     laid_loosely : AreLoose begins.begun
     laid_loosely = laid_loose old begins.begun begins.begins.lays order.loose
 
-    laid_safe : (names : List (List ℕ)) (entries : List Diversion) → IsSafe names entries old → IsSafe names entries begins.begun
-    laid_safe names entries safe = safe_quiet names entries old begins.begun (quiet_laid old begins.begun begins.begins.lays) safe laid_loosely
+    laid_safe : (names : List (List ℕ)) (ways : Ways) → IsSafe names ways old → IsSafe names ways begins.begun
+    laid_safe names ways safe = safe_quiet names ways old begins.begun (quiet_laid old begins.begun begins.begins.lays) safe laid_loosely
 
     base_loose : AreLoose base
     base_loose = begun_loose g p place old base begins named (info_there d g.lists old order) order.loose
 
     base_safe : (found : Option Record) → p.found ≡ found → (found ≡ None → is_gone found (length p.others) place ≡ true)
         → MayClear (is_gone found (length p.others) place) (is_gone found (length p.others) (next_ready place)) unit_name begins.begun base
-        → (names : List (List ℕ)) (entries : List Diversion) → ((r : Record) → p.found ≡ Some r → Contains names unit_name) → IsSafe names entries old → IsSafe (unit_name ∷ names) entries base
-    base_safe None is gone may names entries known safe =
-        cleared_safe names entries unit_name begins.begun base named (cleared_if _ _ unit_name begins.begun base (gone refl) may) base_loose (laid_safe names entries safe)
-    base_safe (Some r) is gone kept names entries known safe =
-        recorded_safe names entries unit_name base (known r is) (subst (IsSafe names entries) (sym kept) (laid_safe names entries safe))
+        → (names : List (List ℕ)) (ways : Ways) → ((r : Record) → p.found ≡ Some r → Contains names unit_name) → IsSafe names ways old → IsSafe (unit_name ∷ names) ways base
+    base_safe None is gone may names ways known safe =
+        cleared_safe names ways unit_name begins.begun base named (cleared_if _ _ unit_name begins.begun base (gone refl) may) base_loose (laid_safe names ways safe)
+    base_safe (Some r) is gone kept names ways known safe =
+        recorded_safe names ways unit_name base (known r is) (subst (IsSafe names ways) (sym kept) (laid_safe names ways safe))
 
     -- where nothing is left under the name of a package without a record
     from_base : (p.found ≡ None → is_gone p.found (length p.others) place ≡ true) → IsFrom base
@@ -279,9 +279,9 @@ module _ (j : Job) (g : Ground) (p : Planned) (planned : IsPlanned j p) (same : 
   from_then : (v w : World) → IsFrom v → IsQuiet v w → IsFrom w
   from_then v w from next = record { cleared = from.cleared; clears = from.clears; quiet = quiet_then from.cleared v w from.quiet next }
 
-  pub from_safe : (entries : List Diversion) (now : World) → IsFrom now → AreLoose now → IsSafe (record_names g.records) entries old → IsSafe (unit_name ∷ record_names g.records) entries now
-  from_safe entries now from loose safe =
-      safe_quiet (unit_name ∷ record_names g.records) entries from.cleared now from.quiet (from.clears.1 (record_names g.records) entries (found_among j g p planned same standing recorded) safe) loose
+  pub from_safe : (ways : Ways) (now : World) → IsFrom now → AreLoose now → IsSafe (record_names g.records) ways old → IsSafe (unit_name ∷ record_names g.records) ways now
+  from_safe ways now from loose safe =
+      safe_quiet (unit_name ∷ record_names g.records) ways from.cleared now from.quiet (from.clears.1 (record_names g.records) ways (found_among j g p planned same standing recorded) safe) loose
 
   -- the lists then
 
@@ -306,15 +306,15 @@ module _ (j : Job) (g : Ground) (p : Planned) (planned : IsPlanned j p) (same : 
 
   leaves_quietly : (ended : Ended) (begun : State) (works : List Work) (last now : World) → AreWorksAt (task_from g p begun) (last_place g p ended) (stage_of (kinds_of p.found p.others) (last_place g p ended)) works → (change : Change)
       → HasCome (task_from g p begun) (stage_of (kinds_of p.found p.others) (last_place g p ended)) works change last
-      → MayLeave (changes g p works (lists_after g p ended begun)) (commit_records g p works (lists_after g p ended begun) (table_after g p (last_place g p ended))) g.entries (lists_after g p ended begun) (table_after g p (last_place g p ended)) (length p.others) ended last now
+      → MayLeave (changes g p works (lists_after g p ended begun)) (commit_records g p works (lists_after g p ended begun) (table_after g p (last_place g p ended))) g.ways (lists_after g p ended begun) (table_after g p (last_place g p ended)) (length p.others) ended last now
       → IsQuiet begun.world now
   leaves_quietly ended begun works last now are change come may =
       let stage = stage_of (kinds_of p.found p.others) (last_place g p ended) in
       let lists = lists_after g p ended begun in
       quiet_then begun.world last now
       (come_quiet (task_from g p begun) named planned.works_are.named (union_good j p planned texts job_good) (listed_good j p planned texts job_good) (last_place g p ended) stage works are change last come)
-      (leaving_quiet (changes g p works lists) g.entries lists named planned.lists_are.spares planned.names_are.elsewhere (new_good j p planned texts job_good)
-      (λ q has. loser_named g.entries (taken_places works) lists unit_name g.yields q has)
+      (leaving_quiet (changes g p works lists) g.ways lists named planned.lists_are.spares planned.names_are.elsewhere (new_good j p planned texts job_good)
+      (λ q has. loser_named g.ways (taken_places works) lists unit_name g.yields q has)
       (λ q has. with_good unit_name p.new_list lists (new_good j p planned texts job_good) (lists_good begun stage) q)
       (commit_records g p works lists (table_after g p (last_place g p ended))) (table_after g p (last_place g p ended)) (length p.others) ended last now may)
 
@@ -341,30 +341,30 @@ module _ (j : Job) (g : Ground) (p : Planned) (planned : IsPlanned j p) (same : 
   stage_table so_far now (IsStage.leaving Committed works begun last begins are come may) =
       let lists = lists_after g p Committed begun in
       let rows = table_after g p (last_place g p Committed) in
-      let first = noted_first (changes g p works lists) (commit_records g p works lists rows) g.entries lists rows (length p.others) last now Committed may in
-      IsUnitTable.in_commit works lists (noted_so_far (changes g p works lists) (commit_records g p works lists rows) g.entries lists rows (length p.others) Committed last now may) first.0 first.1 refl
+      let first = noted_first (changes g p works lists) (commit_records g p works lists rows) g.ways lists rows (length p.others) last now Committed may in
+      IsUnitTable.in_commit works lists (noted_so_far (changes g p works lists) (commit_records g p works lists rows) g.ways lists rows (length p.others) Committed last now may) first.0 first.1 refl
   stage_table so_far now (IsStage.leaving (Unwound fall failed) works begun last begins are come may) = IsUnitTable.in_rows (last_place g p (Unwound fall failed)) refl
 
   -- where it ends
   pub carried_from : (ended : Ended) (mid : Holding) (begun last : State) (new : World) → Begins g p old begun.world → At (task_from g p begun) mid last (last_place g p ended) → IsTrue last.honest
-      → HasLeft (changes g p mid.works mid.lists) (commit_records g p mid.works mid.lists mid.database.records) g.entries mid.lists mid.database.records (length p.others) ended last.world new
+      → HasLeft (changes g p mid.works mid.lists) (commit_records g p mid.works mid.lists mid.database.records) g.ways mid.lists mid.database.records (length p.others) ended last.world new
       → From (went_on p ended) (end_table g p ended mid.works mid.lists mid.database.records) new
   carried_from ended mid begun last new begins at h left = by ended at left
     where
       ends_quietly : (e : Ended) (there : At (task_from g p begun) mid last (last_place g p e))
-          → HasLeft (changes g p mid.works mid.lists) (commit_records g p mid.works mid.lists mid.database.records) g.entries mid.lists mid.database.records (length p.others) e last.world new → IsQuiet there.base new
+          → HasLeft (changes g p mid.works mid.lists) (commit_records g p mid.works mid.lists mid.database.records) g.ways mid.lists mid.database.records (length p.others) e last.world new → IsQuiet there.base new
       ends_quietly e there gone =
           let stage = stage_of (kinds_of p.found p.others) (last_place g p e) in
           quiet_then there.base last.world new
           (come_quiet (task_from g p (state_on begun there.base)) named planned.works_are.named (union_good j p planned texts job_good) (listed_good j p planned texts job_good) (last_place g p e) stage mid.works
           (works_on g p (last_place g p e) begun there.base mid.works there.works) (changes_of there.since) last.world (there.world h).came)
-          (left_quiet (changes g p mid.works mid.lists) g.entries mid.lists named planned.lists_are.spares planned.names_are.elsewhere (new_good j p planned texts job_good)
-          (λ q has. loser_named g.entries (taken_places mid.works) mid.lists unit_name g.yields q has)
+          (left_quiet (changes g p mid.works mid.lists) g.ways mid.lists named planned.lists_are.spares planned.names_are.elsewhere (new_good j p planned texts job_good)
+          (λ q has. loser_named g.ways (taken_places mid.works) mid.lists unit_name g.yields q has)
           (λ q has. with_good unit_name p.new_list mid.lists (new_good j p planned texts job_good) (λ n. subst (λ (l : List PackageList). AreGood (paths_of l n)) (sym there.lists) (lists_good begun stage n)) q)
           (commit_records g p mid.works mid.lists mid.database.records) mid.database.records (length p.others) e last.world new gone)
 
       by : (e : Ended) (there : At (task_from g p begun) mid last (last_place g p e))
-          → HasLeft (changes g p mid.works mid.lists) (commit_records g p mid.works mid.lists mid.database.records) g.entries mid.lists mid.database.records (length p.others) e last.world new
+          → HasLeft (changes g p mid.works mid.lists) (commit_records g p mid.works mid.lists mid.database.records) g.ways mid.lists mid.database.records (length p.others) e last.world new
           → From (went_on p e) (end_table g p e mid.works mid.lists mid.database.records) new
       by Committed there gone =
           from_then there.base new (from_base (last_place g p Committed) there.base (begun_at g p (last_place g p Committed) old begun mid last begins there h) committed_gone) (ends_quietly Committed there gone)
@@ -380,21 +380,21 @@ module _ (j : Job) (g : Ground) (p : Planned) (planned : IsPlanned j p) (same : 
   ended_table (Unwound fall failed) mid begun last at = IsUnitTable.in_rows (last_place g p (Unwound fall failed)) at.records
 
   pub left_records : (ended : Ended) (mid : Holding) (begun last : State) (new : World) → At (task_from g p begun) mid last (last_place g p ended) → IsTrue last.honest
-      → HasLeft (changes g p mid.works mid.lists) (commit_records g p mid.works mid.lists mid.database.records) g.entries mid.lists mid.database.records (length p.others) ended last.world new → HasRecords new (end_table g p ended mid.works mid.lists mid.database.records)
+      → HasLeft (changes g p mid.works mid.lists) (commit_records g p mid.works mid.lists mid.database.records) g.ways mid.lists mid.database.records (length p.others) ended last.world new → HasRecords new (end_table g p ended mid.works mid.lists mid.database.records)
   left_records Committed mid begun last new at h left = laying_records left.followed new left.removed.rest _ left.has_followed.noted.has
   left_records (Unwound fall failed) mid begun last new at h left =
       laying_records left.followed new left.removed.rest mid.database.records (dropped_kept (nat_le (length p.others) fall.row) (record_in mid.database.records unit_name) unit_name last.world left.followed left.has_followed mid.database (at.world h).kept).holds
 
-  opens_from : (entries : List Diversion) (table : List Record) (now : World) → IsUnitTable g p table → HasRecords now table → CanOpenRecords now → IsIncoming now → AreLoose now → IsSafe (record_names g.records) entries old
+  opens_from : (ways : Ways) (table : List Record) (now : World) → IsUnitTable g p table → HasRecords now table → CanOpenRecords now → IsIncoming now → AreLoose now → IsSafe (record_names g.records) ways old
       → (went : Bool) → From went table now → CanBeOpened now
-  opens_from entries table now is has opens incoming loose safe true from =
-      opened_by (unit_name ∷ record_names g.records) entries table now has opens (amid_standing j g p planned same standing recorded table is)
-      (amid_names j g p planned same standing recorded table is) (from_safe entries now from loose safe) incoming
-  opens_from entries table now is has opens incoming loose safe false quiet =
-      opened_by (record_names g.records) entries table now has opens (amid_standing j g p planned same standing recorded table is) quiet.1
-      (safe_quiet (record_names g.records) entries old now quiet.0 safe loose) incoming
+  opens_from ways table now is has opens incoming loose safe true from =
+      opened_by (unit_name ∷ record_names g.records) ways table now has opens (amid_standing j g p planned same standing recorded table is)
+      (amid_names j g p planned same standing recorded table is) (from_safe ways now from loose safe) incoming
+  opens_from ways table now is has opens incoming loose safe false quiet =
+      opened_by (record_names g.records) ways table now has opens (amid_standing j g p planned same standing recorded table is) quiet.1
+      (safe_quiet (record_names g.records) ways old now quiet.0 safe loose) incoming
 
-  pub under_way_opens : (entries : List Diversion) (so_far : List Event) (now : World) → IsSafe (record_names g.records) entries old → IsUnderWay g p old so_far now → CanBeOpened now
-  under_way_opens entries so_far now safe way =
+  pub under_way_opens : (ways : Ways) (so_far : List Event) (now : World) → IsSafe (record_names g.records) ways old → IsUnderWay g p old so_far now → CanBeOpened now
+  under_way_opens ways so_far now safe way =
       let from = stage_from so_far now way.stage in
-      opens_from entries (stage_records g p old so_far now way.stage) now (stage_table so_far now way.stage) way.records way.opens way.incoming way.loose safe from.0 from.1
+      opens_from ways (stage_records g p old so_far now way.stage) now (stage_table so_far now way.stage) way.records way.opens way.incoming way.loose safe from.0 from.1

@@ -75,11 +75,11 @@ pub fn a_removal_can_be_opened_amid()
 pub fn a_diversion_can_be_opened_amid()
     ensures divert { (asked : ADiverting) (seen : ASeen) (before : Held) (s t : State)
         → is_ship_text asked.path ≡ true → is_ship_text asked.target ≡ true → FindsStanding before s
-        → AtEachMoment (IsAdding before.entries (asked_entry asked) asked.rename seen) s t
+        → AtEachMoment (IsAdding before.ways (asked_entry asked) asked.rename seen) s t
         → CanBeOpenedAmid s t }
     ensures undivert { (asked : AnUndiverting) (before : Held) (s t : State)
         → is_ship_text asked.path ≡ true → FindsStanding before s → AtEachMoment
-        (IsRemoving before.entries asked.path asked.rename) s t → CanBeOpenedAmid s t }
+        (IsRemoving before.ways asked.path asked.rename) s t → CanBeOpenedAmid s t }
 {}
 
 /// At each moment of an opening of what can be opened, as a stop or a loss of power left it, so can what is there. Of any

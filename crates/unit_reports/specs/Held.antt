@@ -2,7 +2,7 @@
 use Rattle.std.specs.Prelude.{List}
 use Rattle.host_core.specs.Paths.{Path}
 use Rattle.diversions.specs.Diverted.{Diverted}
-use Rattle.diversions.specs.declared.entry.Diversion.{Diversion}
+use Rattle.diversions.specs.Ways.{Ways}
 use Rattle.file_lists.specs.Filed.{Filed}
 use Rattle.file_lists.specs.Owners.{places_in}
 use Rattle.file_lists.specs.declared.paths.PackageList.{PackageList}
@@ -13,11 +13,11 @@ use Rattle.status_db.specs.Recorded.{Recorded}
 pub record Held : Type 0 where
   pub records : Recorded
   pub lists : List PackageList
-  pub entries : List Diversion
+  pub ways : Ways
 
 -- what the values of a session hold
 abbrev pub held : Recorded → Filed → Diverted → Held
-held database lists diversions = record { records = database; lists = lists.lists; entries = diversions.entries }
+held database lists diversions = record { records = database; lists = lists.lists; ways = diversions.ways }
 
 -- what an administration holds, with these diversions
 abbrev pub held_by : Administration → Diverted → Held
@@ -25,4 +25,4 @@ held_by administration diversions = held administration.database administration.
 
 -- the places of all listed paths, which running scripts leave alone
 abbrev pub places_of : Held → List Path
-places_of h = places_in h.entries h.lists
+places_of h = places_in h.ways h.lists

@@ -107,7 +107,7 @@ pub fn refresh(
     diversions: &Diversions,
     places: &mut Places,
 ) -> Result<(), AllocError>
-    ensures { OnOk result (places.new ≡ places_in diversions.now.entries lists.now.lists) }
+    ensures { OnOk result (places.new ≡ places_in diversions.now.ways lists.now.lists) }
 {
     *places = lists.places(alloc, diversions)?;
     Ok(())

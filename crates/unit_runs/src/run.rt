@@ -36,7 +36,7 @@ fn run_one<H: Host, T: Turns<H>, W: Watcher>(
     watcher: &mut W,
 ) -> Result<bool, Unit>
     requires between { T.between turns.old administration.old }
-    requires open { IsOpen diversions.now.entries administration.old }
+    requires open { IsOpen diversions.now.ways administration.old }
     requires order { Needs (H.state host.old)
         (IsInOrder administration.old.database administration.old.lists.lists) }
     ensures ok { IfOk result (GoesOn (T.turn (T.task turns.old)) (T.over turns.new)
@@ -44,7 +44,7 @@ fn run_one<H: Host, T: Turns<H>, W: Watcher>(
         (held_by administration.new diversions.now) (H.state host.old) (H.state host.new)
         units.old.items units.new.items) }
     ensures between { OnOk result (T.between turns.new administration.new) }
-    ensures open { OnOk result (IsOpen diversions.now.entries administration.new) }
+    ensures open { OnOk result (IsOpen diversions.now.ways administration.new) }
     ensures order { OnOk result (Needs (H.state host.new)
         (IsInOrder administration.new.database administration.new.lists.lists)) }
     ensures answered { OnOk result (IsAnswered (H.state host.old) (H.state host.new)) }
@@ -94,7 +94,7 @@ pub fn run_units<H: Host, T: Turns<H>, W: Watcher>(
     watcher: &mut W,
 ) -> Result<(), Unit>
     requires between { T.between turns.old administration.old }
-    requires open { IsOpen diversions.now.entries administration.old }
+    requires open { IsOpen diversions.now.ways administration.old }
     requires order { Needs (H.state host.old)
         (IsInOrder administration.old.database administration.old.lists.lists) }
     ensures turned { OnOk result (HaveAllTurned (T.turn (T.task turns.old)) (T.over turns.new)
@@ -102,7 +102,7 @@ pub fn run_units<H: Host, T: Turns<H>, W: Watcher>(
         units.old.items units.new.items (held_by administration.new diversions.now)
         (H.state host.new)) }
     ensures between { OnOk result (T.between turns.new administration.new) }
-    ensures open { OnOk result (IsOpen diversions.now.entries administration.new) }
+    ensures open { OnOk result (IsOpen diversions.now.ways administration.new) }
     ensures order { OnOk result (Needs (H.state host.new)
         (IsInOrder administration.new.database administration.new.lists.lists)) }
     ensures answered { OnOk result (IsAnswered (H.state host.old) (H.state host.new)) }

@@ -64,7 +64,7 @@ pub trait Turns<H: Host> {
         room: bool,
     ) -> Result<Option<Unit>, Unit>
         requires between { between self.old administration.old }
-        requires open { IsOpen diversions.now.entries administration.old }
+        requires open { IsOpen diversions.now.ways administration.old }
         requires order { Needs (H.state host.old)
             (IsInOrder administration.old.database administration.old.lists.lists) }
         ensures taken { IsTaken (turn (task self.old)) (called (task self.old)) (over self.new)
@@ -73,7 +73,7 @@ pub trait Turns<H: Host> {
             result }
         ensures room { room ≡ false → IfOk result (λ found. found ≡ None) }
         ensures between { OnOk result (between self.new administration.new) }
-        ensures open { OnOk result (IsOpen diversions.now.entries administration.new) }
+        ensures open { OnOk result (IsOpen diversions.now.ways administration.new) }
         ensures order { OnOk result (Needs (H.state host.new)
             (IsInOrder administration.new.database administration.new.lists.lists)) }
         ensures answered { OnOk result (IsAnswered (H.state host.old) (H.state host.new)) }

@@ -8,8 +8,7 @@ use Rattle.std.proofs.lemmas.Grind.{flat_map-append}
 use Rattle.host_core.specs.Host.{NoFault, Reads, State, faults}
 use Rattle.host_core.specs.Paths.{Path}
 use Rattle.host_core.specs.World.{World}
-use Rattle.diversions.specs.Places.{place as place_of}
-use Rattle.diversions.specs.declared.entry.Diversion.{Diversion}
+use Rattle.diversions.specs.Ways.{place as place_of, Ways}
 use Rattle.status_records.specs.declared.record.Record.{Record}
 use Rattle.verification.specs.Differences.{conffile_of, difference_lines, known_digest, known_of}
 use Rattle.verification.specs.Sums.{sum_in, sums_at, sums_path}
@@ -20,17 +19,17 @@ use Rattle.verification.specs.declared.difference.Difference.{Difference}
 use Rattle.verification.specs.declared.sums.Sum.{Sum}
 
 -- none
-pub adds_none : (entries : List Diversion) (s : State) (text : List ℕ) → AddsLooks entries [] s s text text
-adds_none entries s text = record { looks = []; each = refl; failed = omega arith; told = λ h. sym (append-nil text) }
+pub adds_none : (ways : Ways) (s : State) (text : List ℕ) → AddsLooks ways [] s s text text
+adds_none ways s text = record { looks = []; each = refl; failed = omega arith; told = λ h. sym (append-nil text) }
 
 -- of other paths, where these are the same
-pub adds_of : (entries : List Diversion) (a b : List Listing) (s t : State) (x y : List ℕ) → a ≡ b → AddsLooks entries a s t x y → AddsLooks entries b s t x y
-adds_of entries a b s t x y same adds = subst (λ (l : List Listing). AddsLooks entries l s t x y) same adds
+pub adds_of : (ways : Ways) (a b : List Listing) (s t : State) (x y : List ℕ) → a ≡ b → AddsLooks ways a s t x y → AddsLooks ways b s t x y
+adds_of ways a b s t x y same adds = subst (λ (l : List Listing). AddsLooks ways l s t x y) same adds
 
 -- first some, then others
-pub adds_then : (entries : List Diversion) (a b : List Listing) (s t u : State) (x y z : List ℕ) → AddsLooks entries a s t x y → Reads t u → AddsLooks entries b t u y z → AddsLooks entries (a ++ b) s u x z
-adds_then entries a b s t u x y z first reads second =
-    let lines : World → List Look → List ℕ = λ w l. flat_map (look_lines entries w) l in
+pub adds_then : (ways : Ways) (a b : List Listing) (s t u : State) (x y z : List ℕ) → AddsLooks ways a s t x y → Reads t u → AddsLooks ways b t u y z → AddsLooks ways (a ++ b) s u x z
+adds_then ways a b s t u x y z first reads second =
+    let lines : World → List Look → List ℕ = λ w l. flat_map (look_lines ways w) l in
     let count : List Look → ℕ = λ l. count_by (λ (k : Look). k.failed) l in
     let sums : count (first.looks ++ second.looks) ≡ count first.looks + count second.looks = sum_by-append (λ (k : Look). cond k.failed 1 0) first.looks second.looks in
     record {
@@ -39,12 +38,12 @@ adds_then entries a b s t u x y z first reads second =
       failed = omega (arith, first.failed, second.failed, sums);
       told = λ h.
           second.told h ∙ ap (λ (l : List ℕ). l ++ lines u.world second.looks) (first.told (reads.honest h) ∙ ap (λ (w : World). x ++ lines w first.looks) (sym reads.world))
-          ∙ append_assoc x (lines u.world first.looks) (lines u.world second.looks) ∙ ap (λ (l : List ℕ). x ++ l) (sym (flat_map-append (look_lines entries u.world) first.looks second.looks));
+          ∙ append_assoc x (lines u.world first.looks) (lines u.world second.looks) ∙ ap (λ (l : List ℕ). x ++ l) (sym (flat_map-append (look_lines ways u.world) first.looks second.looks));
     }
 
 -- behind looks at other places, none of which failed
-pub adds_behind : (entries : List Diversion) (a : List Listing) (s t u : State) (x y : List ℕ) → NoFault s t → AddsLooks entries a t u x y → AddsLooks entries a s u x y
-adds_behind entries a s t u x y none adds = record {
+pub adds_behind : (ways : Ways) (a : List Listing) (s t u : State) (x y : List ℕ) → NoFault s t → AddsLooks ways a t u x y → AddsLooks ways a s u x y
+adds_behind ways a s t u x y none adds = record {
   looks = adds.looks;
   each = adds.each;
   failed = adds.failed ∙ ap (λ (n : ℕ). n + count_by (λ (k : Look). k.failed) adds.looks) none.faults;
@@ -55,10 +54,10 @@ one_failed : (b : Bool) (n m : ℕ) → n ≡ m + cond b 1 0 → n ≡ m + (0 + 
 one_failed b n m e = omega (arith, e)
 
 -- one look
-pub adds_one : (entries : List Diversion) (r : Record) (path at : Path) (sums : List Sum) (known : Option (List ℕ)) (s t : State) (found : Option Difference) (x y : List ℕ) → at ≡ place_of entries r.name path
+pub adds_one : (ways : Ways) (r : Record) (path at : Path) (sums : List Sum) (known : Option (List ℕ)) (s t : State) (found : Option Difference) (x y : List ℕ) → at ≡ place_of ways r.name path
     → known ≡ known_of (conffile_of r.conffiles path) (given sums path) → (IsTrue s.honest → AreSums (sums_at (s.world (sums_path r.name))) sums) → Reads s t → IsTold at known s t found
-    → y ≡ x ++ difference_lines path r.name found → AddsLooks entries ((r, path) ∷ []) s t x y
-adds_one entries r path at sums known s t found x y place is are reads told more = record {
+    → y ≡ x ++ difference_lines path r.name found → AddsLooks ways ((r, path) ∷ []) s t x y
+adds_one ways r path at sums known s t found x y place is are reads told more = record {
   looks = record { at = (r, path); failed = told.failed } ∷ [];
   each = refl;
   failed = one_failed told.failed (faults t) (faults s) told.count;
@@ -66,7 +65,7 @@ adds_one entries r path at sums known s t found x y place is are reads told more
       let lines : List (List ℕ) = sums_at (t.world (sums_path r.name)) in
       let same : given sums path ≡ sum_in lines path = are (reads.honest h) path ∙ ap (λ (w : World). sum_in (sums_at (w (sums_path r.name))) path) (sym reads.world) in
       let right : known ≡ known_digest r.conffiles lines path = is ∙ ap (known_of (conffile_of r.conffiles path)) same in
-      let difference : found ≡ told_by told.failed (t.world (place_of entries r.name path)) (known_digest r.conffiles lines path) =
-      told.told h ∙ ap (λ (p : Path). told_by told.failed (t.world p) known) place ∙ ap (told_by told.failed (t.world (place_of entries r.name path))) right in
-      more ∙ ap (λ (d : Option Difference). x ++ difference_lines path r.name d) difference ∙ ap (λ (l : List ℕ). x ++ l) (sym (append-nil (difference_lines path r.name (told_by told.failed (t.world (place_of entries r.name path)) (known_digest r.conffiles lines path)))));
+      let difference : found ≡ told_by told.failed (t.world (place_of ways r.name path)) (known_digest r.conffiles lines path) =
+      told.told h ∙ ap (λ (p : Path). told_by told.failed (t.world p) known) place ∙ ap (told_by told.failed (t.world (place_of ways r.name path))) right in
+      more ∙ ap (λ (d : Option Difference). x ++ difference_lines path r.name d) difference ∙ ap (λ (l : List ℕ). x ++ l) (sym (append-nil (difference_lines path r.name (told_by told.failed (t.world (place_of ways r.name path)) (known_digest r.conffiles lines path)))));
 }

@@ -50,3 +50,9 @@ counts_behind (Ok x) s t u none counts = no_fault_then s t u none counts
 counts_behind (Err Device) s t u none counts = record { once = counts.once ∙ ap (λ (n : ℕ). n + 1) none.faults; last = counts.last }
 counts_behind (Err NoMemory) s t u none counts = no_fault_then s t u none counts
 counts_behind (Err Declined) s t u none counts = declined_then s t u none counts
+
+-- the whole, which a fault of the host ends behind a reading at which there was none
+pub verified_passed : (T : Type 0) (h : HostFault) (fault : AdministrationFault) (s t u : State) → NoFault s t → CountsLooks {T = T} t u (Err h) → fault ≡ fault_of h → CountsVerified {T = T} s u (Err fault)
+verified_passed T Device fault s t u none counts is = subst (λ (f : AdministrationFault). CountsVerified {T = T} s u (Err f)) (sym is) (omega (arith, none.faults, counts))
+verified_passed T NoMemory fault s t u none counts is = subst (λ (f : AdministrationFault). CountsVerified {T = T} s u (Err f)) (sym is) tt
+verified_passed T Declined fault s t u none counts is = subst (λ (f : AdministrationFault). CountsVerified {T = T} s u (Err f)) (sym is) (omega (arith, none.denials, counts))

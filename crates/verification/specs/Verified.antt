@@ -6,8 +6,7 @@ use Rattle.host_core.specs.Host.{Needs, State, faults}
 use Rattle.host_core.specs.Paths.{Path}
 use Rattle.host_core.specs.World.{World}
 use Rattle.host_core.specs.declared.node.Node.{Node}
-use Rattle.diversions.specs.Places.{place}
-use Rattle.diversions.specs.declared.entry.Diversion.{Diversion}
+use Rattle.diversions.specs.Ways.{place, Ways}
 use Rattle.file_lists.specs.Owners.{AreLists, paths_of}
 use Rattle.file_lists.specs.declared.paths.PackageList.{PackageList}
 use Rattle.status_records.specs.Records.{record_in}
@@ -17,7 +16,7 @@ use Rattle.status_records.specs.declared.words.State.TheVariants.{NotInstalled, 
 use Rattle.status_records.specs.declared.words.State.{State as APackageState}
 use Rattle.shown_lines.specs.Lines.{line}
 use Rattle.queries.specs.Records.{is_settled}
-use Rattle.inquiries.specs.Read.{HasAll}
+use Rattle.inquiries.specs.Read.{HasFollowed}
 use Rattle.verification.specs.Sums.{sums_at, sums_path}
 use Rattle.verification.specs.Differences.{difference_at, difference_lines, known_digest}
 use Rattle.verification.specs.declared.difference.Difference.{Difference}
@@ -67,34 +66,34 @@ told_by true _ known = Some Unread
 told_by false node known = difference_at node known
 
 -- its line, if it has one: what stands at the path's place is compared with what is known of the path
-abbrev pub look_lines : List Diversion → World → Look → List ℕ
-look_lines entries w l =
+abbrev pub look_lines : Ways → World → Look → List ℕ
+look_lines ways w l =
     let r = l.at.0 in
     let path = l.at.1 in
-    difference_lines path r.name (told_by l.failed (w (place entries r.name path)) (known_digest r.conffiles (sums_at (w (sums_path r.name))) path))
+    difference_lines path r.name (told_by l.failed (w (place ways r.name path)) (known_digest r.conffiles (sums_at (w (sums_path r.name))) path))
 
 -- names without a record, packages with which work was cut off, and then each path that differs
-abbrev pub verified_text : List (List ℕ) → List Record → List Diversion → World → List Look → List ℕ
-verified_text names table entries w looks =
-    flat_map (unknown_lines table) names ++ (flat_map cut_lines (wanted names table) ++ flat_map (look_lines entries w) looks)
+abbrev pub verified_text : List (List ℕ) → List Record → Ways → World → List Look → List ℕ
+verified_text names table ways w looks =
+    flat_map (unknown_lines table) names ++ (flat_map cut_lines (wanted names table) ++ flat_map (look_lines ways w) looks)
 
 -- At each of these listed paths one look was taken, in their order; the device failed as often as a look did, and text was
 -- added by what the looks told.
-pub record AddsLooks (entries : List Diversion) (listings : List Listing) (old new : State) (before after : List ℕ) : Type 0 where
+pub record AddsLooks (ways : Ways) (listings : List Listing) (old new : State) (before after : List ℕ) : Type 0 where
   pub looks : List Look
   pub each : map (λ l. l.at) looks ≡ listings
   pub failed : faults new ≡ faults old + count_by (λ l. l.failed) looks
-  pub told : Needs new (λ w. after ≡ before ++ flat_map (look_lines entries w) looks)
+  pub told : Needs new (λ w. after ≡ before ++ flat_map (look_lines ways w) looks)
 
--- The text that is told: of the records, lists and diversions that stand there, with one look at each listed path of the packages
--- that are verified. The device failed as often as a look did.
+-- The text that is told: of the records, lists and diversions that stand there, and the aliases of the root, with one look at each listed
+-- path of the packages that are verified. The device failed as often as a look did.
 pub record IsVerified (names : List (List ℕ)) (old new : State) (text : List ℕ) : Type 0 where
   pub table : List Record
   pub lists : List PackageList
-  pub entries : List Diversion
-  pub read : Needs new (HasAll table lists entries)
+  pub ways : Ways
+  pub read : Needs new (HasFollowed table lists ways)
   pub order : AreLists lists
   pub looks : List Look
   pub each : map (λ l. l.at) looks ≡ flat_map (listings_of lists) (wanted names table)
   pub failed : faults new ≡ faults old + count_by (λ l. l.failed) looks
-  pub told : Needs new (λ w. text ≡ verified_text names table entries w looks)
+  pub told : Needs new (λ w. text ≡ verified_text names table ways w looks)

@@ -2,13 +2,14 @@
 //!
 //! # What is proved
 //!
-//! `verify` reads the records, all lists and the diversions, and then looks once at the place of
-//! each listed path of the packages that are verified; it changes nothing (`reads`, `silent`). Its
-//! text is the definition's of what stands there (`told`, specs/Verified): first the names without
-//! a record, then the packages with which work was cut off, then a line for each path that differs,
-//! and none for another. Bytes are compared where a digest is known: of a conffile the recorded one,
-//! of another path that of the package's `md5sums`. A look at which the device failed is told and
-//! counted, and the next path is looked at (`told`); damage is told as for the audit (`finds`).
+//! `verify` reads the records, all lists, the diversions and the aliases of the root, and then looks
+//! once at the place of each listed path of the packages that are verified; it changes nothing
+//! (`reads`, `silent`). Its text is the definition's of what stands there (`told`, specs/Verified):
+//! first the names without a record, then the packages with which work was cut off, then a line for
+//! each path that differs, and none for another. Bytes are compared where a digest is known: of a
+//! conffile the recorded one, of another path that of the package's `md5sums`. A look at which the
+//! device failed is told and counted, and the next path is looked at (`told`); damage is told as for
+//! the audit (`finds`).
 #![tactic(auto)]
 
 mod difference;

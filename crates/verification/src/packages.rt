@@ -55,7 +55,7 @@ fn add_path<H: Host>(
 ) -> Result<(), HostFault>
     requires { Needs (H.state host.old)
         (λ w. AreSums (sums_at (w (sums_path entry.now.name))) sums.now) }
-    ensures added { OnOk result (AddsLooks diversions.now.entries ((entry.now, path.now) ∷ [])
+    ensures added { OnOk result (AddsLooks diversions.now.ways ((entry.now, path.now) ∷ [])
         (H.state host.old) (H.state host.new) (string_bytes lines.old) (string_bytes lines.new)) }
     ensures reads { Reads (H.state host.old) (H.state host.new) }
     ensures silent { Silent (H.state host.old) (H.state host.new) }
@@ -78,7 +78,7 @@ fn add_paths<H: Host>(
 ) -> Result<(), HostFault>
     requires { Needs (H.state host.old)
         (λ w. AreSums (sums_at (w (sums_path entry.now.name))) sums.now) }
-    ensures added { OnOk result (AddsLooks diversions.now.entries
+    ensures added { OnOk result (AddsLooks diversions.now.ways
         (map (λ path. (entry.now, path)) paths.now) (H.state host.old) (H.state host.new)
         (string_bytes lines.old) (string_bytes lines.new)) }
     ensures reads { Reads (H.state host.old) (H.state host.new) }
@@ -111,7 +111,7 @@ fn add_package<H: Host>(
     entry: &Record,
     lines: &mut String,
 ) -> Result<(), HostFault>
-    ensures added { OnOk result (AddsLooks all.now.diversions.entries
+    ensures added { OnOk result (AddsLooks all.now.diversions.ways
         (listings_of all.now.lists.lists entry.now) (H.state host.old) (H.state host.new)
         (string_bytes lines.old) (string_bytes lines.new)) }
     ensures reads { Reads (H.state host.old) (H.state host.new) }
@@ -147,7 +147,7 @@ pub(crate) fn add_packages<H: Host>(
     names: &[Text],
     lines: &mut String,
 ) -> Result<(), HostFault>
-    ensures added { OnOk result (AddsLooks all.now.diversions.entries
+    ensures added { OnOk result (AddsLooks all.now.diversions.ways
         (flat_map (listings_of all.now.lists.lists) (wanted names.now all.now.database.records))
         (H.state host.old) (H.state host.new) (string_bytes lines.old) (string_bytes lines.new)) }
     ensures reads { Reads (H.state host.old) (H.state host.new) }

@@ -9,7 +9,7 @@ ghost use Rattle.verification.specs.Verified.{AddsLooks, IsVerified, cut_lines, 
 use crate::packages::{add_packages, is_wanted};
 use administration::AdministrationFault;
 use host_core::{Host, HostFault};
-use inquiries::read_all;
+use inquiries::read_followed;
 use opening::Opened;
 use queries::is_settled;
 use shown_lines::line;
@@ -119,7 +119,7 @@ fn verify_read<H: Host>(
     all: &Opened,
     names: &[Text],
 ) -> Result<Verified, HostFault>
-    ensures added { IfOk result (λ v. AddsLooks all.now.diversions.entries
+    ensures added { IfOk result (λ v. AddsLooks all.now.diversions.ways
         (flat_map (listings_of all.now.lists.lists) (wanted names.now all.now.database.records))
         (H.state host.old) (H.state host.new)
         (flat_map (unknown_lines all.now.database.records) names.now
@@ -152,7 +152,7 @@ pub fn verify<H: Host>(
     ensures silent { Silent (H.state host.old) (H.state host.new) }
     ensures counts { CountsVerified (H.state host.old) (H.state host.new) result }
 {
-    let all = read_all(alloc, host)?;
+    let all = read_followed(alloc, host)?;
     all.lists.law();
     match verify_read(alloc, host, &all, names) {
         Ok(verified) => Ok(verified),

@@ -12,7 +12,10 @@ returns-clause-whole g c =
     let old = g.H.Host.state c.args.host.now in
     let new = g.H.Host.state c.add_unit-unit.new.host in
     one_unit _ unit c.report_of.result c.report_of.ensures
-    (subst (λ (seen : Seen). IsBroken unit.reply ⊎ IsDiverted c.args.asked.now seen c.args.diversions.now.entries c.add_unit-unit.new.diversions.entries unit old new) c.seen_of-seen.ensures c.add_unit-unit.ensures.unit)
+    (subst (λ (seen : Seen). IsBroken unit.reply ⊎ IsDiverted c.args.asked.now seen c.args.diversions.now.ways c.add_unit-unit.new.diversions.ways unit old new) c.in-Ok.ensures c.add_unit-unit.ensures.unit)
 
 pub returns-then-is_err-clause-turns : goal.returns-then-is_err-clause-turns
 returns-then-is_err-clause-turns g c = goes_here _
+
+pub returns-in_default-clause-turns : goal.returns-in_default-clause-turns
+returns-in_default-clause-turns g c = goes_here _

@@ -14,7 +14,7 @@ returns-clause-finds g c = λ h.
 
 pub returns-clause-entries : goal.returns-clause-entries
 returns-clause-entries g c =
-    needs_told c.open.result (λ d w. HasDiversions w d.entries) (g.H.Host.state c.check_root.new.host) (g.H.Host.state c.open.new.host) c.open.ensures.reads.world c.open.ensures.entries
+    needs_told c.open.result (λ d w. HasDiversions w d.ways.entries) (g.H.Host.state c.check_root.new.host) (g.H.Host.state c.open.new.host) c.open.ensures.reads.world c.open.ensures.entries
 
 pub returns-clause-reads : goal.returns-clause-reads
 returns-clause-reads g c = reads_then _ _ _ c.check_root.ensures.reads c.open.ensures.reads

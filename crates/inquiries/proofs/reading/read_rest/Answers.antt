@@ -12,7 +12,7 @@ pub returns-clause-held : goal.returns-clause-held
 returns-clause-held g c = λ h.
     let same = sym c.open.ensures.reads.world in (
       subst (λ w. HasLists w (names_of c.args.database.now.records) c.in_ok-lists.lists.lists) same (c.in_ok-lists.ensures.lists (c.open.ensures.silent.honest h)),
-      subst (λ w. HasDiversions w c.in_ok-diversions.diversions.entries) same (c.in_ok-diversions.ensures.entries h),
+      subst (λ w. HasDiversions w c.in_ok-diversions.diversions.ways.entries) same (c.in_ok-diversions.ensures.entries h),
     )
 
 pub returns-clause-reads : goal.returns-clause-reads

@@ -22,7 +22,7 @@ invariant-loop-unit g l =
     record {
       turned : HaveTurned (g.T.Turns.turn task) start before old l.fn.units.items l.units.items left mid now;
       between : g.T.Turns.between l.turns l.administration;
-      is_open : IsOpen l.diversions.entries l.administration;
+      is_open : IsOpen l.diversions.ways l.administration;
       order : Needs now (IsInOrder l.administration.database l.administration.lists.lists);
       answered : IsAnswered old now;
       told : TellsAll old now (calls_of l.fn.units.items) (calls_of l.units.items);

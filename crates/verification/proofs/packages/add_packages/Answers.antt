@@ -19,7 +19,7 @@ returns-in_err-add_package-clause-counts g c =
 pub loop-entry-preserved : goal.loop-entry-preserved
 loop-entry-preserved g c =
     let before = c.loop-entry.invariant in
-    let entries = c.args.all.now.diversions.entries in
+    let ways = c.args.all.now.diversions.ways in
     let names = c.args.names.now in
     let rs = c.records-records.result.now in
     let i = c.loop-entry.entry-index in
@@ -31,13 +31,13 @@ loop-entry-preserved g c =
           let same : listed (wanted names (take i rs)) ++ listings_of c.args.all.now.lists.lists r ≡ listed (wanted names (take (i + 1) rs)) =
           sym (ap listed (wanted_here names rs i r lt c.entry-item.is (sym c.is_wanted.ensures ∙ w.if-is_wanted.true)) ∙ piece_more (listings_of c.args.all.now.lists.lists) (wanted names (take i rs)) r) in
           record {
-            added = rw (w.host-is, w.lines-is) (adds_of entries _ _ _ _ _ _ same (adds_then entries _ _ _ _ _ _ _ _ before.added w.add_package.ensures.reads w.in_ok-add_package.ensures.added));
+            added = rw (w.host-is, w.lines-is) (adds_of ways _ _ _ _ _ _ same (adds_then ways _ _ _ _ _ _ _ _ before.added w.add_package.ensures.reads w.in_ok-add_package.ensures.added));
             reads = rw w.host-is (reads_then _ _ _ before.reads w.add_package.ensures.reads);
             silent = rw w.host-is (silent_then _ _ _ before.silent w.add_package.ensures.silent);
           }
       | else-is_wanted w ↦
           record {
-            added = rw (w.host-is, w.lines-is) (adds_of entries _ _ _ _ _ _ (sym (ap listed (unwanted_here names rs i r lt c.entry-item.is (sym c.is_wanted.ensures ∙ w.if-is_wanted.false)))) before.added);
+            added = rw (w.host-is, w.lines-is) (adds_of ways _ _ _ _ _ _ (sym (ap listed (unwanted_here names rs i r lt c.entry-item.is (sym c.is_wanted.ensures ∙ w.if-is_wanted.false)))) before.added);
             reads = rw w.host-is before.reads;
             silent = rw w.host-is before.silent;
           }

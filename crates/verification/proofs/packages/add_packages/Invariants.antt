@@ -9,7 +9,7 @@ invariant-loop-entry g l =
     let old = g.H.Host.state l.fn.host in
     let now = g.H.Host.state l.host in
     record {
-      added : AddsLooks l.all.diversions.entries (flat_map (listings_of l.all.lists.lists) (wanted l.names (take l.entry-index l.records))) old now (string_bytes l.initial.lines) (string_bytes l.lines);
+      added : AddsLooks l.all.diversions.ways (flat_map (listings_of l.all.lists.lists) (wanted l.names (take l.entry-index l.records))) old now (string_bytes l.initial.lines) (string_bytes l.lines);
       reads : Reads old now;
       silent : Silent old now;
     }

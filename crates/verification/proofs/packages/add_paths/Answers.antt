@@ -25,7 +25,7 @@ loop-path-preserved g c =
     let same : listed (take i paths) ++ (r, path) ∷ [] ≡ listed (take (i + 1) paths) =
     sym (map-append (λ (p : Path). (r, p)) (take i paths) (path ∷ [])) ∙ ap listed (ap (λ (p : Path). take i paths ++ p ∷ []) c.path-item.is ∙ sym (take_more paths i path lt)) in
     record {
-      added = adds_of c.args.diversions.now.entries _ _ _ _ _ _ same (adds_then c.args.diversions.now.entries (listed (take i paths)) ((r, path) ∷ []) _ _ _ _ _ _ before.added c.add_path.ensures.reads c.in_ok-add_path.ensures.added);
+      added = adds_of c.args.diversions.now.ways _ _ _ _ _ _ same (adds_then c.args.diversions.now.ways (listed (take i paths)) ((r, path) ∷ []) _ _ _ _ _ _ before.added c.add_path.ensures.reads c.in_ok-add_path.ensures.added);
       reads = reads_then _ _ _ before.reads c.add_path.ensures.reads;
       silent = silent_then _ _ _ before.silent c.add_path.ensures.silent;
     }

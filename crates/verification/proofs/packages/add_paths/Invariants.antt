@@ -8,7 +8,7 @@ invariant-loop-path g l =
     let old = g.H.Host.state l.fn.host in
     let now = g.H.Host.state l.host in
     record {
-      added : AddsLooks l.diversions.entries (map (λ path. (l.entry, path)) (take l.path-index l.paths)) old now (string_bytes l.initial.lines) (string_bytes l.lines);
+      added : AddsLooks l.diversions.ways (map (λ path. (l.entry, path)) (take l.path-index l.paths)) old now (string_bytes l.initial.lines) (string_bytes l.lines);
       reads : Reads old now;
       silent : Silent old now;
     }

@@ -2,8 +2,11 @@ use Rattle.std.proofs.Common.{◌+◌, ℕ, ◌∙◌, ap, sym, subst, append_as
 use Rattle.std.specs.Prelude.{count_by}
 use Rattle.std.specs.List.{flat_map}
 use Rattle.host_core.proofs.Moments.{reads_then}
-use Rattle.inquiries.specs.Read.{HasAll}
+use Rattle.inquiries.specs.Read.{HasFollowed, all_parts}
+use Rattle.opening.proofs.Finding.{host_damage}
 use Rattle.verification.specs.Verified.{Look, cut_lines, look_lines, unknown_lines, wanted}
+use Rattle.verification.specs.contracts.verifying.Verified.{the_row}
+use Rattle.verification.proofs.Counted.{verified_passed}
 use Rattle.verification.proofs.verifying.verify.Goals as goal
 
 pub returns-in-Ok-clause-told : goal.returns-in-Ok-clause-told
@@ -16,20 +19,26 @@ returns-in-Ok-clause-told g c =
     record {
       table = table;
       lists = all.lists.lists;
-      entries = all.diversions.entries;
-      read = λ h. subst (HasAll table all.lists.lists all.diversions.entries) (sym c.verify_read.ensures.reads.world) (c.in_ok-all.ensures.held (c.verify_read.ensures.silent.honest h));
+      ways = all.diversions.ways;
+      read = λ h. subst (HasFollowed table all.lists.lists all.diversions.ways) (sym c.verify_read.ensures.reads.world) (c.in_ok-all.ensures.held (c.verify_read.ensures.silent.honest h));
       order = c.law.ensures;
       looks = added.looks;
       each = added.each;
       failed = added.failed ∙ ap (λ (n : ℕ). n + count_by (λ (k : Look). k.failed) added.looks) c.in_ok-all.ensures.counts.faults;
-      told = λ h. added.told h ∙ append_assoc (flat_map (unknown_lines table) names) (flat_map cut_lines (wanted names table)) (flat_map (look_lines all.diversions.entries now) added.looks);
+      told = λ h. added.told h ∙ append_assoc (flat_map (unknown_lines table) names) (flat_map cut_lines (wanted names table)) (flat_map (look_lines all.diversions.ways now) added.looks);
     }
 
 pub returns-in-Ok-clause-finds : goal.returns-in-Ok-clause-finds
 returns-in-Ok-clause-finds g c = λ h. c.in_ok-all.ensures.finds (c.verify_read.ensures.silent.honest h)
 
 pub returns-in-Ok-clause-reads : goal.returns-in-Ok-clause-reads
-returns-in-Ok-clause-reads g c = reads_then _ _ _ c.read_all.ensures.reads c.verify_read.ensures.reads
+returns-in-Ok-clause-reads g c = reads_then _ _ _ c.read_followed.ensures.reads c.verify_read.ensures.reads
 
 pub returns-clause-reads : goal.returns-clause-reads
-returns-clause-reads g c = reads_then _ _ _ c.read_all.ensures.reads c.verify_read.ensures.reads
+returns-clause-reads g c = reads_then _ _ _ c.read_followed.ensures.reads c.verify_read.ensures.reads
+
+pub returns-clause-finds : goal.returns-clause-finds
+returns-clause-finds g c = λ h. host_damage all_parts (g.H.Host.state c.args.host.now).world c.in-Err.fault c.from.result c.from.ensures
+
+pub returns-clause-counts : goal.returns-clause-counts
+returns-clause-counts g c = verified_passed the_row.Denot c.in-Err.fault c.from.result (g.H.Host.state c.args.host.now) (g.H.Host.state c.read_followed.new.host) (g.H.Host.state c.verify_read.new.host) c.in_ok-all.ensures.counts c.in-Err.ensures.counts c.from.ensures

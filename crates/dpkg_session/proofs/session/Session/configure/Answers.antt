@@ -4,10 +4,11 @@ use Rattle.dpkg_session.proofs.Configures.{configure_carries}
 use Rattle.dpkg_session.proofs.Outlasting.{answered_stands, loses_like}
 use Rattle.dpkg_session.proofs.Standings.{order_standing}
 use Rattle.dpkg_session.proofs.KeptPackages.{packages_kept, packages_known}
+use Rattle.unit_reports.specs.Held.{held_by}
 use Rattle.dpkg_session.proofs.session.Session.configure.Goals as goal
 
 pub configure_on-report-requires-clause-order : goal.configure_on-report-requires-clause-order
-configure_on-report-requires-clause-order g c = λ h. order_standing _ _ (c.args.self.now.ready c.if-self.false h)
+configure_on-report-requires-clause-order g c = λ h. order_standing (held_by c.args.self.now.administration c.args.self.now.diversions) _ (c.args.self.now.ready c.if-self.false h)
 
 pub configure_on-report-requires-clause-open : goal.configure_on-report-requires-clause-open
 configure_on-report-requires-clause-open g c = c.args.self.now.opened c.if-self.false

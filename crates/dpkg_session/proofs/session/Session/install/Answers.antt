@@ -3,10 +3,11 @@ use Rattle.dpkg_session.proofs.InstallStandings.{install_falls, install_standing
 use Rattle.dpkg_session.proofs.Outlasting.{answered_stands}
 use Rattle.dpkg_session.proofs.Standings.{order_standing}
 use Rattle.dpkg_session.proofs.KeptPackages.{packages_kept, packages_known}
+use Rattle.unit_reports.specs.Held.{held_by}
 use Rattle.dpkg_session.proofs.session.Session.install.Goals as goal
 
 pub unpack_and_configure-installed-requires-clause-order : goal.unpack_and_configure-installed-requires-clause-order
-unpack_and_configure-installed-requires-clause-order g c = λ h. order_standing _ _ (c.args.self.now.ready c.if-self.false h)
+unpack_and_configure-installed-requires-clause-order g c = λ h. order_standing (held_by c.args.self.now.administration c.args.self.now.diversions) _ (c.args.self.now.ready c.if-self.false h)
 
 pub unpack_and_configure-installed-requires-clause-open : goal.unpack_and_configure-installed-requires-clause-open
 unpack_and_configure-installed-requires-clause-open g c = c.args.self.now.opened c.if-self.false

@@ -1,3 +1,6 @@
+use Rattle.std.proofs.Common.{inl, refl}
+use Rattle.host_core.specs.declared.fault.HostFault.TheVariants.{NoMemory}
+use Rattle.dpkg_session.proofs.Barriers.{opens_stopped}
 use Rattle.dpkg_session.proofs.Standings.{standing_opened}
 use Rattle.dpkg_session.proofs.Outlasting.{loses_like}
 use Rattle.dpkg_session.proofs.KeptPackages.{packages_kept}
@@ -19,3 +22,9 @@ returns-in-Err-places-clause-loss_refused g c = loses_like _ _ _ (g.H.Host.settl
 
 pub returns-in-Err-clause-loss_refused : goal.returns-in-Err-clause-loss_refused
 returns-in-Err-clause-loss_refused g c = loses_like _ _ _ (g.H.Host.settled c.open_to_disk.new.host) c.open_to_disk.ensures.any_moment
+
+pub returns-in-Err-places-clause-refused : goal.returns-in-Err-places-clause-refused
+returns-in-Err-places-clause-refused g c = λ h. opens_stopped NoMemory _ _ _ _ refl refl (c.in-Ok.ensures.opens h)
+
+pub returns-in-Err-places-clause-brought_refused : goal.returns-in-Err-places-clause-brought_refused
+returns-in-Err-places-clause-brought_refused g c = λ h stopped. inl (c.in-Ok.ensures.brought h stopped)

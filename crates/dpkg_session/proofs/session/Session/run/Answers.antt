@@ -3,10 +3,11 @@ use Rattle.dpkg_session.proofs.Standings.{order_standing, standing_run}
 use Rattle.dpkg_session.proofs.Outlasting.{run_answered, run_stands}
 use Rattle.dpkg_session.proofs.Runs.{falls_run}
 use Rattle.dpkg_session.proofs.KeptPackages.{packages_kept, packages_known}
+use Rattle.unit_reports.specs.Held.{held_by}
 use Rattle.dpkg_session.proofs.session.Session.run.Goals as goal
 
 pub unpack_trees-report-requires-clause-order : goal.unpack_trees-report-requires-clause-order
-unpack_trees-report-requires-clause-order g c = λ h. order_standing _ _ (c.args.self.now.ready c.if-self.false h)
+unpack_trees-report-requires-clause-order g c = λ h. order_standing (held_by c.args.self.now.administration c.args.self.now.diversions) _ (c.args.self.now.ready c.if-self.false h)
 
 pub unpack_trees-report-requires-clause-open : goal.unpack_trees-report-requires-clause-open
 unpack_trees-report-requires-clause-open g c = c.args.self.now.opened c.if-self.false

@@ -4,10 +4,11 @@ use Rattle.dpkg_session.proofs.Removes.{removal_carries}
 use Rattle.dpkg_session.proofs.Outlasting.{answered_stands, loses_like}
 use Rattle.dpkg_session.proofs.Standings.{order_standing}
 use Rattle.dpkg_session.proofs.KeptPackages.{packages_kept, packages_known}
+use Rattle.unit_reports.specs.Held.{held_by}
 use Rattle.dpkg_session.proofs.session.Session.take.Goals as goal
 
 pub remove_named-report-requires-clause-order : goal.remove_named-report-requires-clause-order
-remove_named-report-requires-clause-order g c = λ h. order_standing _ _ (c.args.self.now.ready c.if-self.false h)
+remove_named-report-requires-clause-order g c = λ h. order_standing (held_by c.args.self.now.administration c.args.self.now.diversions) _ (c.args.self.now.ready c.if-self.false h)
 
 pub remove_named-report-requires-clause-open : goal.remove_named-report-requires-clause-open
 remove_named-report-requires-clause-open g c = c.args.self.now.opened c.if-self.false

@@ -1,0 +1,89 @@
+-- The aliases of a root: paths that were followed stay so as more are read, and reading them changes nothing that was opened.
+use Rattle.std.proofs.Common.{◌≡◌, ◌+◌, ◌<◌, ℕ, Bool, IsTrue, List, [], ◌∷◌, ◌++◌, Option, Some, None, Result, Ok, Err, length, get_or, take, refl, sym, ap, subst, ◌∙◌}
+use Rattle.std.specs.Prelude.{IfOk, OnOk}
+use Rattle.std.specs.List.{AllByRecursion}
+use Rattle.std.proofs.lemmas.List.{take_more}
+use Rattle.administration.specs.declared.fault.AdministrationFault.{AdministrationFault}
+use Rattle.aliases.specs.Aliases.{Alias}
+use Rattle.aliases.specs.Reading.{AreAliasesIn, IsWhole}
+use Rattle.diversions.specs.Diverted.{Diverted}
+use Rattle.diversions.specs.declared.entry.Diversion.{Diversion}
+use Rattle.file_lists.specs.Followed.{AreFollowed, HasMoreAliases}
+use Rattle.file_lists.specs.declared.paths.PackageList.{PackageList}
+use Rattle.file_lists.proofs.Growing.{followed_more, whole_grown}
+use Rattle.host_core.specs.Events.{Event}
+use Rattle.host_core.specs.Host.{AllFailed, Reads, Since, State}
+use Rattle.host_core.specs.Loss.{IsLater}
+use Rattle.host_core.specs.Paths.{Path}
+use Rattle.host_core.specs.World.{World}
+use Rattle.host_core.proofs.Moments.{since_now, since_reads, since_then, since_weaker_if}
+use Rattle.opening.specs.Followed.{AreWhole, IsFollowed, named_paths}
+use Rattle.opening.specs.Opened.{IsOpened}
+use Rattle.opening.specs.Parts.{HasMerged, IsDamaged, Merges, Opens, OpensAndMerges, fault_in, parts}
+use Rattle.opening.specs.Stopped.{BeginsOnDisk, IsBrought}
+use Rattle.opening.specs.declared.open.Opened.{Opened as AnOpened}
+use Rattle.opening.proofs.Brought.{brought_then}
+use Rattle.status_db.specs.Noting.{IsMerging}
+
+pub on_ok : {T E P Q : Type 0} (result : Result T E) → (P → Q) → OnOk result P → OnOk result Q
+on_ok (Ok x) f p = f p
+on_ok (Err e) f p = tt
+
+-- as more aliases are read
+
+pub each_grown : (honest : Bool) (w : World) (paths : List Path) (a b : Diverted) → HasMoreAliases honest w a b → IsTrue honest → AreAliasesIn w a.ways.aliases → AreWhole w paths a.ways.aliases → AreWhole w paths b.ways.aliases
+each_grown honest w [] a b more h each whole = tt
+each_grown honest w (path ∷ paths) a b more h each whole = (whole_grown honest w a b path more h each whole.0, each_grown honest w paths a b more h each whole.1)
+
+with_last : (w : World) (paths : List Path) (path : Path) (aliases : List Alias) → AreWhole w paths aliases → IsWhole w path aliases → AreWhole w (paths ++ path ∷ []) aliases
+with_last w [] path aliases each last = (last, tt)
+with_last w (p ∷ paths) path aliases each last = (each.0, with_last w paths path aliases each.1 last)
+
+pub each_next : (w : World) (paths : List Path) (i : ℕ) (path : Path) (aliases : List Alias) → i < length paths → path ≡ get_or paths i path → AreWhole w (take i paths) aliases → IsWhole w path aliases → AreWhole w (take (i + 1) paths) aliases
+each_next w paths i path aliases lt is each last =
+    subst (λ (ps : List Path). AreWhole w ps aliases) (sym (take_more paths i path lt ∙ ap (λ (p : Path). take i paths ++ p ∷ []) (sym is))) (with_last w (take i paths) path aliases each last)
+
+-- the paths that diversions name are followed, and then the listed ones
+pub followed_both : (honest : Bool) (w : World) (lists : List PackageList) (mid new : Diverted) → HasMoreAliases honest w mid new → IsTrue honest → AreAliasesIn w mid.ways.aliases → AreWhole w (named_paths mid.ways.entries) mid.ways.aliases
+    → AreFollowed lists new.ways w → IsFollowed lists new.ways w
+followed_both honest w lists mid new more h each named listed = record {
+  listed = listed;
+  named = subst (λ (entries : List Diversion). AreWhole w (named_paths entries) new.ways.aliases) (sym (ap (λ (d : Diverted). d.ways.entries) more.kept)) (each_grown honest w (named_paths mid.ways.entries) mid new more h each named);
+}
+
+-- all of them stay so
+pub stays_followed : (honest : Bool) (w : World) (lists : List PackageList) (old new : Diverted) → HasMoreAliases honest w old new → IsTrue honest → IsFollowed lists old.ways w → IsFollowed lists new.ways w
+stays_followed honest w lists old new more h is =
+    followed_both honest w lists old new more h is.listed.aliases is.named
+    (subst (λ (d : Diverted). AreFollowed lists d.ways w) (sym more.kept) (followed_more lists old.ways w more.added is.listed (more.sound h)))
+
+-- behind an opening
+
+pub opens_looked : {T : Type 0} (result : Result T AdministrationFault) (u v w : World) → OpensAndMerges None u v → w ≡ v → (IsDamaged (fault_in result) → ⊥) → OpensAndMerges (fault_in result) u w
+opens_looked result u v w opens same sound = by opens.found opens.opens opens.merges
+  where
+    merged : HasMerged None opens.read v → HasMerged (fault_in result) opens.read w
+    merged has = record { sound = sound; table = has.table; records = has.records; merging = subst (IsMerging has.table opens.read) (sym same) has.merging }
+
+    by : (found : Option AdministrationFault) → Opens parts found u opens.read → Merges found None opens.read v → OpensAndMerges (fault_in result) u w
+    by None goes merges = record { read = opens.read; found = None; opens = goes; merges = merged merges }
+    by (Some f) goes merges = absurd (let e : None ≡ Some f = merges.0 in cc)
+
+pub moments_looked : (P : World → Type 0) (a b c : State) → Since (λ so_far. P) a b → Reads b c → Since (λ so_far. P) a c
+moments_looked P a b c first reads =
+    since_then (λ so_far. P) a b c first
+    (since_weaker_if (λ so_far now. now ≡ b.world) (λ so_far. P) b c (λ h so_far w same. subst P (sym same) (since_now (λ so_far. P) a b first (reads.honest h))) (since_reads (λ so_far now. now ≡ b.world) b c reads (λ fs all. refl)))
+
+reads_later : (b c : State) → Reads b c → IsLater b c
+reads_later b c reads = since_reads (λ so_far w. Unit {0}) b c reads (λ fs all. tt)
+
+pub brought_looked : {T E : Type 0} (result : Result T E) (a b c : State) → BeginsOnDisk a b → Reads b c → IsBrought result a c
+brought_looked result a b c begins reads = brought_then result a b c begins (reads_later b c reads)
+
+pub opened_looked : (result : Result AnOpened AdministrationFault) (opened : AnOpened) (v w : World) → IfOk result (λ kept. kept.database ≡ opened.database) → IfOk result (λ kept. kept.lists ≡ opened.lists) → IfOk result (λ kept. kept.diversions.ways.entries ≡ opened.diversions.ways.entries) → w ≡ v
+    → IsOpened opened.database.records opened.lists.lists opened.diversions.ways.entries v → IfOk result (λ kept. IsOpened kept.database.records kept.lists.lists kept.diversions.ways.entries w)
+opened_looked (Ok kept) opened v w database lists entries same is =
+    subst (IsOpened kept.database.records kept.lists.lists kept.diversions.ways.entries) (sym same)
+    (subst (λ (es : List Diversion). IsOpened kept.database.records kept.lists.lists es v) (sym entries)
+    (rw (database, lists) is))
+opened_looked (Err fault) opened v w database lists entries same is = tt
