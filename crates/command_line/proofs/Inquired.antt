@@ -8,13 +8,14 @@ use Rattle.host_core.specs.declared.fault.HostFault.{HostFault}
 use Rattle.host_core.specs.declared.fault.HostFault.TheVariants as host
 use Rattle.host_core.proofs.Counted.{declined_then, no_fault_then}
 use Rattle.host_core.proofs.Moments.{reads_then, silent_then}
+use Rattle.aliases.specs.Reading.{IsWhole}
 use Rattle.administration.specs.Fault.{CountsAdministration, fault_of}
 use Rattle.administration.specs.declared.fault.AdministrationFault.{AdministrationFault}
 use Rattle.administration.specs.declared.fault.AdministrationFault.TheVariants.{Damaged, Device, NoMemory, Declined}
 use Rattle.diversions.specs.Lines.{HasDiversions}
 use Rattle.dpkg_session.specs.Standing.{CountsRefusal}
 use Rattle.inquiries.specs.Glances.{IsGlance, IsSame}
-use Rattle.inquiries.specs.Read.{HasAll, HasOneList}
+use Rattle.inquiries.specs.Read.{HasAll, HasFollowed, HasOneList, HasWays}
 use Rattle.inquiries.specs.declared.glance.Glance.{Glance}
 use Rattle.inquiries.proofs.Glances.{one_world}
 use Rattle.status_db.specs.Held.{HasRecords}
@@ -37,9 +38,10 @@ answered_behind inquiry.Audit answer s t reads from = (from.0, (from.1.0, from.1
 answered_behind inquiry.Diversions answer s t reads from = (from.0, (from.1.0, kept s t (λ w. HasDiversions w from.1.0) reads from.1.1, from.1.2), from.2)
 answered_behind inquiry.List answer s t reads from = (from.0, (from.1.0, kept s t (λ w. HasRecords w from.1.0) reads from.1.1, from.1.2), from.2)
 answered_behind (inquiry.ListFiles name) answer s t reads from = (from.0, (from.1.0, from.1.1, kept s t (λ w. HasOneList w from.1.0 name from.1.1) reads from.1.2, from.1.3), from.2)
-answered_behind (inquiry.Search place) answer s t reads from = (from.0, (from.1.0, from.1.1, from.1.2, kept s t (HasAll from.1.0 from.1.1 from.1.2) reads from.1.3, from.1.4), from.2)
+answered_behind (inquiry.Search path) answer s t reads from =
+    (from.0, (from.1.0, from.1.1, from.1.2, kept s t (λ w. HasFollowed from.1.0 from.1.1 from.1.2 w × IsWhole w path from.1.2.aliases) reads from.1.3, from.1.4), from.2)
 answered_behind (inquiry.Status name) answer s t reads from = (from.0, (from.1.0, kept s t (λ w. HasRecords w from.1.0) reads from.1.1, from.1.2), from.2)
-answered_behind (inquiry.Truename user path) answer s t reads from = (from.0, (from.1.0, kept s t (λ w. HasDiversions w from.1.0) reads from.1.1, from.1.2), from.2)
+answered_behind (inquiry.Truename user path) answer s t reads from = (from.0, (from.1.0, kept s t (HasWays path from.1.0) reads from.1.1, from.1.2), from.2)
 
 -- a fault of the host says nothing of what can't be read
 unread_fault : (asked : Inquiry) (w : World) (fault : HostFault) → IsUnread asked w (fault_of fault)

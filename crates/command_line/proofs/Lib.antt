@@ -7,3 +7,4 @@ mod Changed
 mod Helped
 mod Inquired
 mod Turns
+mod Rehearsed

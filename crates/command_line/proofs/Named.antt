@@ -12,6 +12,7 @@ use Rattle.command_words.specs.Packages.{configuring_of, removing_of}
 use Rattle.command_words.specs.Unpacks.{unpacking_of}
 use Rattle.command_words.specs.Diversions.{owner_from, owner_of, undiverting_from, undiverting_of, with_target}
 use Rattle.command_words.specs.Given.{is_absolute, is_set}
+use Rattle.command_words.specs.Rehearsals.{is_rehearsable}
 use Rattle.command_words.specs.Queries.{query_of}
 use Rattle.command_words.specs.Waits.{wait_of}
 use Rattle.command_words.specs.Topics.{has_help_flag, is_help_flag, topic_in, topic_of}
@@ -107,7 +108,7 @@ by_named name rows =
 
 in_named : (sub : Option (Text × List Row)) → Named (asked_in sub)
 in_named None = tt
-in_named (Some sub) = by_named sub.0 sub.1
+in_named (Some sub) = if_named (is_rehearsable sub.1) _ None (by_named sub.0 sub.1) tt
 
 faulty_named : (kinds : Kinds) (asked : Option Asked) → Named asked → Named (unless_faulty kinds asked)
 faulty_named [] asked named = named

@@ -163,7 +163,7 @@ part_behind : (a b c : Option (List ℕ)) (front text : List ℕ) → Appends a 
 part_behind a b c front text first part =
     (front ++ part.0, part.1, ap (λ (l : List ℕ). front ++ l) part.2 ∙ sym (append_assoc front part.0 part.1), part.3, appends_then a b c front part.0 first part.4)
 
-given_rest : (rest : Answer) (front : List ℕ) (a b c e f : Option (List ℕ)) (ended : ℕ) → Appends a b front → IsGiven rest b c e f ended → IsGiven (record rest { output = front ++ rest.output }) a c e f ended
+pub given_rest : (rest : Answer) (front : List ℕ) (a b c e f : Option (List ℕ)) (ended : ℕ) → Appends a b front → IsGiven rest b c e f ended → IsGiven (record rest { output = front ++ rest.output }) a c e f ended
 given_rest rest front a b c e f ended first (inl written) = inl (record { status = written.status; output = appends_then a b c front rest.output first written.output; error = written.error })
 given_rest rest front a b c e f ended first (inr (status, inl cut)) = inr (status, inl (part_behind a b c front rest.output first cut.0, cut.1))
 given_rest rest front a b c e f ended first (inr (status, inr cut)) = inr (status, inr (appends_then a b c front rest.output first cut.0, cut.1))

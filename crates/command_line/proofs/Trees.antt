@@ -1,5 +1,5 @@
 -- What was read for words, and the run of it, between a moment before and one after.
-use Rattle.std.proofs.Common.{◌≡◌, ◌<◌, ◌-◌, ◌++◌, ◌∷◌, ◌∙◌, [], ℕ, Bool, true, false, length, map, append_assoc, List, Option, Some, Result, Err, ap, arith, inl, inr, subst, sym}
+use Rattle.std.proofs.Common.{◌≡◌, ◌<◌, ◌-◌, ◌++◌, ◌∷◌, ◌∙◌, [], ℕ, Bool, true, false, length, map, append_assoc, List, Option, Some, Result, Err, ap, arith, inl, inr, refl, subst, sym}
 use Rattle.std.specs.Prelude.{MatchBool}
 use Rattle.std.proofs.lemmas.List.{length-append}
 use Rattle.std.proofs.Math.Seq.{take-append_seam}
@@ -96,7 +96,7 @@ module _ {T Hosts Opened : Type 0} (reads : T → Candidate → T → Type 0) (o
 
   module _ (one : (old : T) (c : Candidate) (new : T) → reads old c new → Step old c new) where
     pub gone_on : (cs : List Candidate) (old new : T) → AreRead reads old cs new → Goes old new
-    gone_on [] old new same = subst (Goes old) (sym same) (record { trees = λ word s h. h; seen = λ s h. h; faults = omega arith })
+    gone_on [] old new same = subst (Goes old) (sym same) (record { trees = λ word s h. h; seen = λ s h. h; faults = omega arith; below = refl })
     gone_on (c ∷ cs) old new read =
         let first = (one old c read.0 read.1).2 in
         let rest = gone_on cs read.0 new read.2 in
@@ -104,6 +104,7 @@ module _ {T Hosts Opened : Type 0} (reads : T → Candidate → T → Type 0) (o
           trees = λ word s h. first.trees word s (rest.trees word s h);
           seen = λ s h. rest.seen s (first.seen s h);
           faults = omega (arith, first.faults, rest.faults);
+          below = rest.below ∙ first.below;
         }
 
     read_behind : (u : Unpacking) (earlier : List (List ℕ)) (cs : List Candidate) (old new : T) → asked old ≡ u → u.trees ≡ earlier ++ words old → AreRead reads old cs new
@@ -136,19 +137,19 @@ pub unpacked_within : (outer inner : Around) → Within outer inner → ((s : St
 unpacked_within outer inner within left begun policy asked ended u = record {
   table = u.table;
   lists = u.lists;
-  entries = u.entries;
+  ways = u.ways;
   state = u.state;
   opened = u.opened;
   end = u.end;
   given = left u.end u.given;
-  ran = ended_within outer inner within policy asked ended (held_anew u.table u.lists u.entries) u.state u.end u.ran;
+  ran = ended_within outer inner within policy asked ended (held_anew u.table u.lists u.ways) u.state u.end u.ran;
 }
 
 -- what is held after an opening that merged the notes
-pub opened_anew : (database : Recorded) (lists : Filed) (diversions : Diverted) → database.notes ≡ 0 → database.closed ≡ false → held database lists diversions ≡ held_anew database.records lists.lists diversions.entries
+pub opened_anew : (database : Recorded) (lists : Filed) (diversions : Diverted) → database.notes ≡ 0 → database.closed ≡ false → held database lists diversions ≡ held_anew database.records lists.lists diversions.ways
 opened_anew database lists diversions number noting =
-    ap (λ (n : ℕ). record { records = record { records = database.records; notes = n; closed = database.closed }; lists = lists.lists; entries = diversions.entries }) number
-    ∙ ap (λ (b : Bool). record { records = record { records = database.records; notes = 0; closed = b }; lists = lists.lists; entries = diversions.entries }) noting
+    ap (λ (n : ℕ). record { records = record { records = database.records; notes = n; closed = database.closed }; lists = lists.lists; ways = diversions.ways }) number
+    ∙ ap (λ (b : Bool). record { records = record { records = database.records; notes = 0; closed = b }; lists = lists.lists; ways = diversions.ways }) noting
 
 -- the same policy by another word
 pub with_policy : (a : Around) (p q : ConfPolicy) (u : Unpacking) (ended : Result (Ended Done) NotOpened) → p ≡ q → HasEndedAs a (Some p) u ended → HasEndedAs a (Some q) u ended

@@ -5,7 +5,7 @@ use Rattle.host_core.specs.Paths.{is_ship_text}
 use Rattle.host_core.specs.World.{World}
 use Rattle.command_line.specs.declared.fault.NotOpened.{NotOpened}
 use Rattle.diversions.specs.Changes.{IsAdding, IsRemoving}
-use Rattle.diversions.specs.declared.entry.Diversion.{Diversion}
+use Rattle.diversions.specs.Ways.{Ways}
 use Rattle.diversions.specs.declared.entry.Owner.{Owner}
 use Rattle.diversions.specs.declared.entry.Owner.TheVariants.{Local, Package}
 use Rattle.file_lists.specs.declared.paths.PackageList.{PackageList}
@@ -61,19 +61,19 @@ IsRead bad P (Ok asked) = (bad ≡ None) × P asked
 IsRead bad P (Err text) = bad ≡ Some text
 
 -- the unit of a change, as a session carries it out
-abbrev pub IsChangedBy : Change → List Record → List PackageList → List Diversion → List Diversion → AUnit → State → State → Type 0
-IsChangedBy (change.Divert asked) table lists before after u s t = IsDiverted asked (seen_of table lists asked.owner asked.path) before after u s t
+abbrev pub IsChangedBy : Change → List Record → List PackageList → Ways → Ways → AUnit → State → State → Type 0
+IsChangedBy (change.Divert asked) table lists before after u s t = IsDiverted asked (seen_of before.aliases table lists asked.owner asked.path) before after u s t
 IsChangedBy (change.Undivert asked) table lists before after u s t = IsUndiverted asked before after u s t
 
 -- at each moment of it
-abbrev pub IsChanging : Change → List Record → List PackageList → List Diversion → World → World → Type 0
-IsChanging (change.Divert asked) table lists before old now = IsAdding before (asked_entry asked) asked.rename (seen_of table lists asked.owner asked.path) old now
+abbrev pub IsChanging : Change → List Record → List PackageList → Ways → World → World → Type 0
+IsChanging (change.Divert asked) table lists before old now = IsAdding before (asked_entry asked) asked.rename (seen_of before.aliases table lists asked.owner asked.path) old now
 IsChanging (change.Undivert asked) table lists before old now = IsRemoving before asked.path asked.rename old now
 
 -- A change is one unit, from these records, lists and diversions, unless it was broken off. In any case no script is called, and
 -- each world since is one of a moment of the change.
-pub record HasChanged (asked : Change) (done : Report) (table : List Record) (lists : List PackageList) (before : List Diversion) (s end : State) : Type 0 where
-  pub whole : IsNone done.last → (after : List Diversion) × IsOneUnit (λ u. IsChangedBy asked table lists before after u s end) done.units.items
+pub record HasChanged (asked : Change) (done : Report) (table : List Record) (lists : List PackageList) (before : Ways) (s end : State) : Type 0 where
+  pub whole : IsNone done.last → (after : Ways) × IsOneUnit (λ u. IsChangedBy asked table lists before after u s end) done.units.items
   pub broken : HasBroken done
   pub counts : CountsLast s end done.last
   pub told : TellsCalls s end done
@@ -84,12 +84,12 @@ pub record HasChanged (asked : Change) (done : Report) (table : List Record) (li
 pub record IsChangedOn (left : Given) (begun : State) (asked : Change) (done : Report) : Type 0 where
   pub table : List Record
   pub lists : List PackageList
-  pub entries : List Diversion
+  pub ways : Ways
   pub state : State
-  pub opened : IsOpenedOn begun state table lists entries
+  pub opened : IsOpenedOn begun state table lists ways
   pub end : State
   pub given : left end
-  pub changed : HasChanged asked done table lists entries state end
+  pub changed : HasChanged asked done table lists ways state end
 
 -- the same, on a host behind the root's word
 abbrev pub HasChangedUnder : Around → List ℕ → Change → Report → Type 0

@@ -1,4 +1,5 @@
 pub mod Roots
+pub mod Dry
 pub mod Endings
 pub mod Unpacks
 pub mod Queries
@@ -6,5 +7,6 @@ pub mod Steady
 pub mod Changes
 pub mod Packages
 pub mod Reports
+pub mod Rehearsed
 pub mod Reading
 pub mod Printing

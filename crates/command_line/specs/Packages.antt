@@ -4,7 +4,7 @@ use Rattle.host_core.specs.Events.{Event}
 use Rattle.host_core.specs.Host.{Since, State}
 use Rattle.host_core.specs.World.{World}
 use Rattle.command_line.specs.declared.fault.NotOpened.{NotOpened}
-use Rattle.diversions.specs.declared.entry.Diversion.{Diversion}
+use Rattle.diversions.specs.Ways.{Ways}
 use Rattle.file_lists.specs.declared.paths.PackageList.{PackageList}
 use Rattle.status_records.specs.declared.record.Record.{Record}
 use Rattle.conffiles.specs.declared.decisions.Changed.{Changed}
@@ -74,12 +74,12 @@ pub record HasWorkedToEnd (asked : Work) (ended : Ended Report) (before : Held) 
 pub record IsWorkedOn (left : Given) (begun : State) (asked : Work) (ended : Ended Report) : Type 0 where
   pub table : List Record
   pub lists : List PackageList
-  pub entries : List Diversion
+  pub ways : Ways
   pub state : State
-  pub opened : IsOpenedOn begun state table lists entries
+  pub opened : IsOpenedOn begun state table lists ways
   pub end : State
   pub given : left end
-  pub worked : HasWorkedToEnd asked ended (held_anew table lists entries) state end
+  pub worked : HasWorkedToEnd asked ended (held_anew table lists ways) state end
 
 -- the same, on a host behind the root's word
 abbrev pub HasWorkedUnder : Around → List ℕ → Work → Ended Report → Type 0

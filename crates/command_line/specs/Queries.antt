@@ -63,7 +63,7 @@ IsAnsweredFrom s inquiry.Audit answer = (text : List ℕ) × IsAudit s text × (
 IsAnsweredFrom s inquiry.Diversions answer = (text : List ℕ) × AreDiversions s text × (answer ≡ text_answer text)
 IsAnsweredFrom s inquiry.List answer = (text : List ℕ) × IsList s text × (answer ≡ text_answer text)
 IsAnsweredFrom s (inquiry.ListFiles name) answer = (text : Option (List ℕ)) × AreFiles name s text × (answer ≡ package_answer name text)
-IsAnsweredFrom s (inquiry.Search place) answer = (text : List ℕ) × IsSearch place s text × (answer ≡ search_answer text)
+IsAnsweredFrom s (inquiry.Search path) answer = (text : List ℕ) × IsSearch path s text × (answer ≡ search_answer text)
 IsAnsweredFrom s (inquiry.Status name) answer = (text : Option (List ℕ)) × IsStatus name s text × (answer ≡ package_answer name text)
 IsAnsweredFrom s (inquiry.Truename user path) answer = (text : List ℕ) × IsTruename user path s text × (answer ≡ text_answer text)
 
@@ -73,7 +73,7 @@ IsUnread inquiry.Audit w fault = IsDamage all_parts w fault
 IsUnread inquiry.Diversions w fault = IsDamage diversions_parts w fault
 IsUnread inquiry.List w fault = IsDamage records_parts w fault
 IsUnread (inquiry.ListFiles name) w fault = IsFilesDamage name w fault
-IsUnread (inquiry.Search place) w fault = IsDamage all_parts w fault
+IsUnread (inquiry.Search path) w fault = IsDamage all_parts w fault
 IsUnread (inquiry.Status name) w fault = IsDamage records_parts w fault
 IsUnread (inquiry.Truename user path) w fault = IsDamage diversions_parts w fault
 
@@ -83,7 +83,7 @@ reads_info inquiry.Audit = true
 reads_info inquiry.Diversions = false
 reads_info inquiry.List = false
 reads_info (inquiry.ListFiles name) = false
-reads_info (inquiry.Search place) = false
+reads_info (inquiry.Search path) = false
 reads_info (inquiry.Status name) = false
 reads_info (inquiry.Truename user path) = false
 

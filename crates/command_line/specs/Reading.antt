@@ -70,11 +70,12 @@ abbrev pub words_before : List (List ℕ) → ℕ → List (List ℕ)
 words_before all left = take (length all - left) all
 
 -- Hosts between two moments: what stands behind words for trees later stood there before, hosts that were given back stay so,
--- and no fault is forgotten.
+-- no fault is forgotten, and they are over the same hosts, if over any.
 pub record HaveGoneOn {Hosts Opened : Type 0} (of : Ghosts Hosts Opened) (old new : Hosts) : Type 0 where
   pub trees : (word : List ℕ) (s : State) → of.tree new word s → of.tree old word s
   pub seen : (s : State) → of.seen old s → of.seen new s
   pub faults : of.faults old ≤ of.faults new
+  pub below : of.below new ≡ of.below old
 
 -- these trees were read for the first of some words, each word once, and the others are left
 pub record AreReadFor (a : Around) (owners : TreeOwners) (words : List (List ℕ)) (cs : List Candidate) (left : List (List ℕ)) : Type 0 where

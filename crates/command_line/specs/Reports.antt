@@ -135,11 +135,6 @@ abbrev pub IsAnswerOf : Around → Topic → Option Asked → Answer → Type 0
 IsAnswerOf a named (Some asked) answer = IsAnswerTo a asked answer
 IsAnswerOf a named None answer = (text : List ℕ) × HasScreen named text × (answer ≡ usage_answer text)
 
--- The status that words end with is that of their answer, or of want of memory; it is 2 where not all of that could be written.
-abbrev pub IsEndOf : Around → Topic → Option Asked → ℕ → Type 0
-IsEndOf a named asked status = (answer : Answer) × (IsAnswerOf a named asked answer ⊎ (answer ≡ memory_answer))
-    × ((status ≡ answer.status) ⊎ (status ≡ 2))
-
 -- only to these is anything written to standard output
 abbrev pub prints : Option Asked → Bool
 prints (Some Names) = true

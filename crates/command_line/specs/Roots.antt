@@ -8,8 +8,9 @@ use Rattle.command_line.specs.declared.fault.Lock.TheVariants.{Frontend, Adminis
 use Rattle.command_line.specs.declared.fault.NotOpened.{NotOpened}
 use Rattle.command_line.specs.declared.fault.NotOpened.TheVariants.{Locked, Opening}
 use Rattle.administration.specs.declared.fault.AdministrationFault.TheVariants as opening_faults
-use Rattle.diversions.specs.declared.entry.Diversion.{Diversion}
+use Rattle.diversions.specs.Ways.{Ways}
 use Rattle.file_lists.specs.declared.paths.PackageList.{PackageList}
+use Rattle.opening.specs.Followed.{IsFollowed}
 use Rattle.opening.specs.Opened.{IsOpened}
 use Rattle.opening.specs.Leaving.{IsOpeningOrMerging}
 use Rattle.status_records.specs.declared.record.Record.{Record}
@@ -52,12 +53,13 @@ around of old new = record {
 }
 
 -- The administration on a host was opened: no script was called, and nothing but what opening changes has changed. These are
--- its records, the lists of their packages, and its diversions.
-pub record IsOpenedOn (begun state : State) (table : List Record) (lists : List PackageList) (entries : List Diversion) : Type 0 where
+-- its records, the lists of their packages, its diversions, and the aliases of the root.
+pub record IsOpenedOn (begun state : State) (table : List Record) (lists : List PackageList) (ways : Ways) : Type 0 where
   pub silent : Silent begun state
   pub opens : OpensAll None begun state
   pub opening : AtEachMoment IsOpeningOrMerging begun state
-  pub opened : Needs state (IsOpened table lists entries)
+  pub opened : Needs state (IsOpened table lists ways.entries)
+  pub followed : Needs state (IsFollowed lists ways)
 
 -- the administration of a host couldn't be opened, for this fault; no script was called, and the host was given back
 pub record IsRefusedOn (left : Given) (begun : State) (fault : AdministrationFault) : Type 0 where
@@ -104,5 +106,5 @@ opening_answer (Locked lock) = record { output = []; error = locked_line lock; s
 opening_answer (Opening fault) = record { output = []; error = opening_line fault; status = 2 }
 
 -- what is held of an administration that was just opened, where no note stands
-abbrev pub held_anew : List Record → List PackageList → List Diversion → Held
-held_anew table lists entries = record { records = record { records = table; notes = 0; closed = false }; lists = lists; entries = entries }
+abbrev pub held_anew : List Record → List PackageList → Ways → Held
+held_anew table lists ways = record { records = record { records = table; notes = 0; closed = false }; lists = lists; ways = ways }

@@ -1,7 +1,7 @@
 -- What the report on an unpack has to do with the words for the root and the trees.
 use Rattle.std.specs.Prelude.{ℕ, Bool, List, Option, Some, None}
 use Rattle.host_core.specs.Host.{State}
-use Rattle.diversions.specs.declared.entry.Diversion.{Diversion}
+use Rattle.diversions.specs.Ways.{Ways}
 use Rattle.file_lists.specs.declared.paths.PackageList.{PackageList}
 use Rattle.status_records.specs.declared.record.Record.{Record}
 use Rattle.conffiles.specs.declared.decisions.ConfPolicy.{ConfPolicy}
@@ -61,12 +61,12 @@ pub record HasRunToEnd (a : Around) (policy : Option ConfPolicy) (u : Unpacking)
 pub record IsUnpackedOn (a : Around) (begun : State) (policy : Option ConfPolicy) (u : Unpacking) (ended : Ended Done) : Type 0 where
   pub table : List Record
   pub lists : List PackageList
-  pub entries : List Diversion
+  pub ways : Ways
   pub state : State
-  pub opened : IsOpenedOn begun state table lists entries
+  pub opened : IsOpenedOn begun state table lists ways
   pub end : State
   pub given : a.left end
-  pub ran : HasRunToEnd a policy u ended (held_anew table lists entries) state end
+  pub ran : HasRunToEnd a policy u ended (held_anew table lists ways) state end
 
 -- the same, on a host behind the root's word
 abbrev pub HasUnpacked : Around → Option ConfPolicy → Unpacking → Ended Done → Type 0

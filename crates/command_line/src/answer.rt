@@ -254,6 +254,7 @@ fn unpack_telling<S: Hosts, O: Write>(
         result (λ ended. HasPrinted (flat_map unit_lines (units_of ended.done)) printer.new.flow
         (O.contents printer.old.out.now) (O.contents printer.new.out.now)) }
     ensures untold { OnErr result (printer.new ≡ printer.old) }
+    ensures below { S.below hosts.new ≡ S.below hosts.old }
 {
     unpack(alloc, hosts, unpacking, policy, printer)
 }
@@ -270,6 +271,7 @@ fn unpacked<S: Hosts, O: Write>(
         × IsLeft (trees_answer ended) (O.contents out.old) (O.contents out.new)
         result }
     ensures bound { IfOk result (λ left. status_left left ≤ 2) }
+    ensures below { S.below hosts.new ≡ S.below hosts.old }
 {
     let mut printer = Printer {
         alloc,
@@ -301,6 +303,7 @@ fn changed<S: Hosts>(
         × HasEndedChange (around S.Hosts hosts.old hosts.new) root.now asked.now ended
         × IfOk result (λ answer. answer ≡ ended_answer ended) }
     ensures bound { IfOk result (λ answer. answer.status ≤ 2) }
+    ensures below { S.below hosts.new ≡ S.below hosts.old }
 {
     match change_under(alloc, hosts, root, wait, asked) {
         Ok(done) => reported(alloc, &done),
@@ -326,6 +329,7 @@ fn work_telling<S: Hosts, O: Write>(
         result (λ ended. HasPrinted (flat_map unit_lines ended.done.units.items) printer.new.flow
         (O.contents printer.old.out.now) (O.contents printer.new.out.now)) }
     ensures untold { OnErr result (printer.new ≡ printer.old) }
+    ensures below { S.below hosts.new ≡ S.below hosts.old }
 {
     work_under(alloc, hosts, root, streams, wait, asked, printer)
 }
@@ -343,6 +347,7 @@ fn worked<S: Hosts, O: Write>(
         × HasEndedWork (around S.Hosts hosts.old hosts.new) root.now asked.now ended
         × IsLeft (work_answer ended) (O.contents out.old) (O.contents out.new) result }
     ensures bound { IfOk result (λ left. status_left left ≤ 2) }
+    ensures below { S.below hosts.new ≡ S.below hosts.old }
 {
     let mut printer = Printer {
         alloc,
@@ -373,6 +378,7 @@ fn configured<S: Hosts, O: Write>(
         × HasEndedWork (around S.Hosts hosts.old hosts.new) asked.root (work_of asked) ended
         × IsLeft (work_answer ended) (O.contents out.old) (O.contents out.new) result }
     ensures bound { IfOk result (λ left. status_left left ≤ 2) }
+    ensures below { S.below hosts.new ≡ S.below hosts.old }
 {
     let Configuring {
         root,
@@ -396,6 +402,7 @@ fn removed<S: Hosts, O: Write>(
         ended × IsLeft (work_answer ended) (O.contents out.old) (O.contents out.new)
         result }
     ensures bound { IfOk result (λ left. status_left left ≤ 2) }
+    ensures below { S.below hosts.new ≡ S.below hosts.old }
 {
     let Removing {
         root,
@@ -418,6 +425,7 @@ fn purged<S: Hosts, O: Write>(
         ended × IsLeft (work_answer ended) (O.contents out.old) (O.contents out.new)
         result }
     ensures bound { IfOk result (λ left. status_left left ≤ 2) }
+    ensures below { S.below hosts.new ≡ S.below hosts.old }
 {
     let Removing {
         root,
@@ -440,6 +448,7 @@ fn diverted<S: Hosts>(alloc: Global, hosts: &mut S, asked: &Diverting) -> Result
     ensures quiet { IfOk result (λ answer. (answer.output ≡ [])
         ⊎ (is_good (bad_of_divert asked.now) ≡ true)) }
     ensures unopened { (hosts.new ≡ hosts.old) ⊎ (is_good (bad_of_divert asked.now) ≡ true) }
+    ensures below { S.below hosts.new ≡ S.below hosts.old }
 {
     match diverting_in(alloc, asked) {
         Ok(Ok(change)) => changed(alloc, hosts, &asked.root, asked.wait, &change),
@@ -462,6 +471,7 @@ fn undiverted<S: Hosts>(
     ensures quiet { IfOk result (λ answer. (answer.output ≡ [])
         ⊎ (is_good (bad_of_undivert asked.now) ≡ true)) }
     ensures unopened { (hosts.new ≡ hosts.old) ⊎ (is_good (bad_of_undivert asked.now) ≡ true) }
+    ensures below { S.below hosts.new ≡ S.below hosts.old }
 {
     match undiverting_in(alloc, asked) {
         Ok(Ok(change)) => changed(alloc, hosts, &asked.root, asked.wait, &change),
@@ -491,6 +501,7 @@ fn inquired<S: Hosts>(
         × IsInquired (around S.Hosts hosts.old hosts.new) root.now asked.now answer
         × IfOk result (λ told. told ≡ answer) }
     ensures bound { IfOk result (λ answer. answer.status ≤ 2) }
+    ensures below { S.below hosts.new ≡ S.below hosts.old }
 {
     match inquire_under(alloc, hosts, root, asked) {
         Ok(answer) => Ok(answer),
@@ -507,6 +518,7 @@ fn queried<S: Hosts>(alloc: Global, hosts: &mut S, query: Query) -> Result<Answe
     ensures quiet { IfOk result (λ answer. (answer.output ≡ [])
         ⊎ (is_ok (inquiry_of query.question) ≡ true)) }
     ensures unopened { (hosts.new ≡ hosts.old) ⊎ (is_ok (inquiry_of query.question) ≡ true) }
+    ensures below { S.below hosts.new ≡ S.below hosts.old }
 {
     let Query { root, question } = query;
     match inquiry_of(alloc, question) {
@@ -536,6 +548,7 @@ pub(crate) fn answer_to<S: Hosts, O: Write>(
         ≡ true) }
     ensures unopened { (hosts.new ≡ hosts.old) ⊎ (opens_root (asked_of (map string_bytes words.now))
         ≡ true) }
+    ensures below { S.below hosts.new ≡ S.below hosts.old }
 {
     match command_of(alloc, words) {
         Ok(Asked::Names) => whole(names(alloc)),

@@ -88,7 +88,7 @@ pub(crate) fn undiverting_in(
 fn carry_out<H: Host>(session: &mut Session<H>, asked: &Change) -> Report
     requires { session.old.closed ≡ false }
     ensures { HasChanged asked.now result session.old.administration.database.records
-        session.old.administration.lists.lists session.old.diversions.entries
+        session.old.administration.lists.lists session.old.diversions.ways
         (H.state session.old.host) (H.state session.new.host) }
 {
     match asked {
@@ -107,6 +107,7 @@ fn change_on<S: Hosts>(
     ensures done { IfOk result (IsChangedOn (S.left hosts.new) (S.Opened.state host) asked.now) }
     ensures refused { IfErr result (IsGivenUpOn (S.left hosts.new) (S.Opened.state host)) }
     ensures faults { S.faults hosts.old ≤ S.faults hosts.new }
+    ensures below { S.below hosts.new ≡ S.below hosts.old }
 {
     match Session::open(alloc, host) {
         Ok(mut session) => {
@@ -132,6 +133,7 @@ pub(crate) fn change_under<S: Hosts>(
     ensures done { IfOk result (HasChangedUnder (around S.Hosts hosts.old hosts.new) root.now
         asked.now) }
     ensures refused { IfErr result (IsRootFault (around S.Hosts hosts.old hosts.new) root.now) }
+    ensures below { S.below hosts.new ≡ S.below hosts.old }
 {
     match hosts.open_root(root.as_str(), ScriptStreams::Own, wait) {
         Ok(host) => match change_on(alloc, hosts, host, asked) {

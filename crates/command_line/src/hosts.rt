@@ -34,6 +34,9 @@ pub trait Hosts {
     /// Whether another program holds a lock of the root behind a word.
     ghost locked: { Self → List ℕ → Lock → Type 0 };
 
+    /// Of hosts that are put over others the name of the reference to these: they stay over the same.
+    ghost below: { Self → ℕ };
+
     /// The host for the directory of `--root`, whose locks are held from now on, so that no other program opens it; where another
     /// holds one, it is waited for as many seconds. What its scripts write goes to these streams.
     fn open_root(
@@ -47,6 +50,7 @@ pub trait Hosts {
         ensures unopened { OnErr result (unopened self.old self.new) }
         ensures trees { (word : List ℕ) (s : State) → tree self.new word s → tree self.old word s }
         ensures seen { (s : State) → seen self.old s → seen self.new s }
+        ensures below { below self.new ≡ below self.old }
         ensures faults { faults self.old ≤ faults self.new }
         ensures cause { IsErrOf result (OfHost Device) → faults self.old < faults self.new }
         ensures undeclined { IsErrOf result (OfHost Declined) → ⊥ }
@@ -60,6 +64,7 @@ pub trait Hosts {
         ensures unopened { OnErr result (unopened self.old self.new) }
         ensures trees { (word : List ℕ) (s : State) → tree self.new word s → tree self.old word s }
         ensures seen { (s : State) → seen self.old s → seen self.new s }
+        ensures below { below self.new ≡ below self.old }
         ensures faults { faults self.old ≤ faults self.new }
         ensures cause { IsErrOf result Device → faults self.old < faults self.new }
         ensures undeclined { IsErrOf result Declined → ⊥ };
@@ -70,6 +75,7 @@ pub trait Hosts {
             (Self.Opened.state host)) }
         ensures trees { (word : List ℕ) (s : State) → tree self.new word s → tree self.old word s }
         ensures seen { (s : State) → seen self.old s → seen self.new s }
+        ensures below { below self.new ≡ below self.old }
         ensures faults { faults self.old ≤ faults self.new }
         ensures cause { IsErrOf result Device → faults self.old < faults self.new }
         ensures undeclined { IsErrOf result Declined → ⊥ };
@@ -79,6 +85,7 @@ pub trait Hosts {
         ensures given { left self.new (Self.Opened.state host) }
         ensures trees { (word : List ℕ) (s : State) → tree self.new word s → tree self.old word s }
         ensures seen { (s : State) → seen self.old s → seen self.new s }
+        ensures below { below self.new ≡ below self.old }
         ensures faults { faults self.new ≡ faults self.old };
 
     /// Takes the host of a TREE back.
@@ -86,5 +93,6 @@ pub trait Hosts {
         ensures given { seen self.new (Self.Opened.state host) }
         ensures trees { (word : List ℕ) (s : State) → tree self.new word s → tree self.old word s }
         ensures seen { (s : State) → seen self.old s → seen self.new s }
+        ensures below { below self.new ≡ below self.old }
         ensures faults { faults self.new ≡ faults self.old };
 }

@@ -31,6 +31,11 @@
 //! where the words ask for nothing a text on standard error ends with the screen of the subcommand
 //! that they name. A fault of the device is told only where one was counted.
 //!
+//! Words that tell a rehearsal (`rehearsal_of` of command_words) are answered by the answer of the
+//! very command, by the same definition, over hosts that are put over these (`dry`), behind a first
+//! line (`IsReplyTo`): what was given back was only looked at since another host was put over it,
+//! and no script of it was called.
+//!
 //! The answer is written whole, or in its place that memory was wanting for it, and its status
 //! returned; or the status is 2 and of one of these two a part was written, standard output first,
 //! and not all of it. The lines of units are written as each is finished (`Prints`): behind lines
@@ -40,14 +45,15 @@
 //!
 //! One tree is opened and read at a time, once the unit of the one before it is told
 //! (`AreReadFor`). Only these commands and a question whose path is one open a root (`unopened`),
-//! and only for them, for help and for the names of the subcommands is standard output written to
-//! (`quiet`). What stands behind a word, and in which state it was given back, is what the trait
+//! and only for them, for rehearsals, for help and for the names of the subcommands is standard
+//! output written to (`quiet`). What stands behind a word, and in which state it was given back, is what the trait
 //! `Hosts` says of it.
 #![tactic(auto)]
 
 mod answer;
 mod changing;
 mod command;
+mod dry_hosts;
 mod ending;
 mod fault;
 mod hosts;

@@ -134,6 +134,7 @@ fn work_on<S: Hosts, W: Watcher>(
     ensures watched { IfOk result (λ ended. AreTold W.tells watcher.old ended.done.units.items
         watcher.new) }
     ensures unwatched { OnErr result (watcher.new ≡ watcher.old) }
+    ensures below { S.below hosts.new ≡ S.below hosts.old }
 {
     match Session::open(alloc, host) {
         Ok(mut session) => {
@@ -165,6 +166,7 @@ pub(crate) fn work_under<S: Hosts, W: Watcher>(
     ensures watched { IfOk result (λ ended. AreTold W.tells watcher.old ended.done.units.items
         watcher.new) }
     ensures unwatched { OnErr result (watcher.new ≡ watcher.old) }
+    ensures below { S.below hosts.new ≡ S.below hosts.old }
 {
     match hosts.open_root(root.as_str(), streams, wait) {
         Ok(host) => match work_on(alloc, hosts, host, asked, watcher) {

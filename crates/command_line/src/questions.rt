@@ -133,7 +133,7 @@ fn inquire<H: Host>(
             let listing = list_files(alloc, host, name)?;
             Ok(package_answer(alloc, name, listing)?)
         }
-        Inquiry::Search(place) => Ok(search_answer(alloc, search(alloc, host, place)?)),
+        Inquiry::Search(path) => Ok(search_answer(alloc, search(alloc, host, path)?)),
         Inquiry::Status(name) => {
             let entry = status(alloc, host, name)?;
             Ok(package_answer(alloc, name, entry)?)
@@ -195,6 +195,7 @@ fn inquire_on<S: Hosts>(
     ensures refused { IfErr result (IsLeftOpenOn (S.left hosts.new) (S.Opened.state host)
         asked.now) }
     ensures faults { S.faults hosts.old ≤ S.faults hosts.new }
+    ensures below { S.below hosts.new ≡ S.below hosts.old }
 {
     let mut looked = Looked { host };
     let answer = settle(alloc, &mut looked, asked);
@@ -215,6 +216,7 @@ pub(crate) fn inquire_under<S: Hosts>(
     ensures bound { IfOk result (λ answer. answer.status ≤ 2) }
     ensures refused { IfErr result (IsUnanswered (around S.Hosts hosts.old hosts.new) root.now
         asked.now) }
+    ensures below { S.below hosts.new ≡ S.below hosts.old }
 {
     match hosts.look_at_root(root.as_str()) {
         Ok(host) => inquire_on(alloc, hosts, host, asked),

@@ -142,6 +142,7 @@ fn unpack_on<S: Hosts, W: Watcher>(
     ensures watched { IfOk result (λ ended. AreTold W.tells watcher.old (units_of ended.done)
         watcher.new) }
     ensures unwatched { OnErr result (watcher.new ≡ watcher.old) }
+    ensures below { S.below hosts.new ≡ S.below hosts.old }
 {
     match Session::open(alloc, host) {
         Ok(mut session) => {
@@ -173,6 +174,7 @@ pub(crate) fn unpack<S: Hosts, W: Watcher>(
     ensures watched { IfOk result (λ ended. AreTold W.tells watcher.old (units_of ended.done)
         watcher.new) }
     ensures unwatched { OnErr result (watcher.new ≡ watcher.old) }
+    ensures below { S.below hosts.new ≡ S.below hosts.old }
 {
     match hosts.open_root(unpacking.root.as_str(), unpacking.streams, unpacking.wait) {
         Ok(host) => match unpack_on(alloc, hosts, host, unpacking, policy, watcher) {

@@ -33,3 +33,10 @@ ruled f old one two new a b c x y z e is_x e2 is_y e3 is_z = cc
 pub three_ruled : (old one two new : App) (a b c x y z : Rule) → one ≡ with_rule old a → a ≡ x → two ≡ with_rule one b → b ≡ y → new ≡ with_rule two c → c ≡ z
     → new ≡ with_rule (with_rule (with_rule old x) y) z
 three_ruled old one two new a b c x y z e is_x e2 is_y e3 is_z = ruled with_rule old one two new a b c x y z e is_x e2 is_y e3 is_z
+
+ruled_twice : (f : App → Rule → App) (old one new : App) (a b x y : Rule) → one ≡ f old a → a ≡ x → new ≡ f one b → b ≡ y → new ≡ f (f old x) y
+ruled_twice f old one new a b x y e is_x e2 is_y = cc
+
+-- two arguments more
+pub two_ruled : (old one new : App) (a b x y : Rule) → one ≡ with_rule old a → a ≡ x → new ≡ with_rule one b → b ≡ y → new ≡ with_rule (with_rule old x) y
+two_ruled old one new a b x y e is_x e2 is_y = ruled_twice with_rule old one new a b x y e is_x e2 is_y

@@ -1,11 +1,13 @@
 -- What words ask for, by what clap says of them.
-use Rattle.std.proofs.Common.{arith, ◌≡◌, ◌<◌, ◌≤◌, List, [], ◌∷◌, length, ℕ, Option, Some, None, Bool, true, false, nat_le, if◌then◌else◌, refl, sym, ap, subst, ◌∙◌}
+use Rattle.std.proofs.Common.{arith, ◌≡◌, ◌<◌, ◌≤◌, List, [], ◌∷◌, length, ℕ, Option, Some, None, Bool, true, false, Result, Ok, Err, nat_le, if◌then◌else◌, refl, sym, ap, subst, ◌∙◌}
 use Rattle.std.specs.Option.{option_or}
+use Rattle.std.specs.Prelude.{IfOk}
+use Rattle.host_overlay.specs.declared.failing.AssumedFailure.{AssumedFailure}
 use Rattle.clap.specs.Words.{App, HasMatchesOf, IsAmong, Kinds, Text, fault_of, is_simple_and_free, subcommand_rows_of}
 use Rattle.clap.specs.declared.error.kind.ErrorKind.{ErrorKind}
 use Rattle.clap.specs.declared.parser.matches.ArgMatches.{ArgMatches}
 use Rattle.command_words.specs.CommandLine.{whole_app}
-use Rattle.command_words.specs.Commands.{asked_in, asked_of, entered, flagged, parsed_of, unless_faulty}
+use Rattle.command_words.specs.Commands.{asked_in, asked_of, entered, flagged, parsed_of, rehearsal_of, rehearsed_beside, rehearsed_in, unless_faulty, unless_flagged}
 use Rattle.command_words.specs.declared.words.Asked.{Asked}
 use Rattle.command_words.specs.declared.words.Asked.TheVariants.{Names}
 
@@ -57,3 +59,41 @@ parsed_refused a words k e among =
 
 pub whole_is_simple : (a : App) → a ≡ whole_app → is_simple_and_free a ≡ true
 whole_is_simple a e = subst (λ x. is_simple_and_free x ≡ true) (sym e) refl
+
+-- What is said of a rehearsal.
+
+rehearsed_by : (words : List Text) (asked : Asked) → asked_of words ≡ Some asked → rehearsal_of words ≡ rehearsed_beside (Some asked) words
+unfolding rehearsal_of
+rehearsed_by words asked is = ap (λ a. rehearsed_beside a words) is
+
+few_rehearsed : (few : Bool) (other : Option (List AssumedFailure)) → few ≡ true → (if few then None else other) ≡ None
+few_rehearsed few other e = rw e refl
+
+more_rehearsed : (few : Bool) (other : Option (List AssumedFailure)) → few ≡ false → (if few then None else other) ≡ other
+more_rehearsed few other e = rw e refl
+
+pub rehearsed_names : (words : List Text) → length words ≤ 1 → rehearsal_of words ≡ None
+rehearsed_names words few = rehearsed_by words Names (asked_names words few) ∙ few_rehearsed (nat_le (length words) 1) _ (few_words _ few)
+
+pub rehearsed_flagged : (words : List Text) (asked : Asked) → 1 < length words → flagged words ≡ Some asked → rehearsal_of words ≡ None
+rehearsed_flagged words asked more flag =
+    rehearsed_by words asked (asked_flagged words asked more flag)
+    ∙ more_rehearsed (nat_le (length words) 1) _ (more_words _ more)
+    ∙ ap (λ f. unless_flagged f (rehearsed_in (entered words))) flag
+
+-- what is read of words without such a flag
+pub rehearsed_parsed : {C E : Type 0} (words : List Text) → 1 < length words → flagged words ≡ None → (asked : C → Asked) (failing : C → Option (List AssumedFailure)) (r : Result C E)
+    → IfOk r (λ c. parsed_of words ≡ Some (asked c)) → IfOk r (λ c. failing c ≡ rehearsed_in (entered words)) → IfOk r (λ c. failing c ≡ rehearsal_of words)
+rehearsed_parsed words more none asked failing (Err e) is told = tt
+rehearsed_parsed words more none asked failing (Ok c) is told =
+    told ∙ sym (rehearsed_by words (asked c) (asked_parsed words more none ∙ is) ∙ more_rehearsed (nat_le (length words) 1) _ (more_words _ more) ∙ ap (λ f. unless_flagged f (rehearsed_in (entered words))) none)
+
+pub rehearsed_taken : (a : App) (words : List Text) (m : ArgMatches) → a ≡ whole_app → HasMatchesOf a words m → rehearsed_in (entered words) ≡ rehearsed_in (subcommand_rows_of m)
+rehearsed_taken a words m e matches =
+    let rows = subst (λ x. HasMatchesOf x words m) e matches refl in
+    ap rehearsed_in (sym rows.1)
+
+-- words that ask for nothing rehearse nothing
+pub rehearsed_none : (words : List Text) → asked_of words ≡ None → rehearsal_of words ≡ None
+unfolding rehearsal_of
+rehearsed_none words none = ap (λ a. rehearsed_beside a words) none

@@ -1,3 +1,4 @@
 mod Asking
 mod Adding
 mod Waiting
+mod Rehearsing

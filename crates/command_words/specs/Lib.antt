@@ -1,6 +1,7 @@
 pub mod CommandLine
 pub mod Comparisons
 pub mod Given
+pub mod Rehearsals
 pub mod Owners
 pub mod Streams
 pub mod Waits

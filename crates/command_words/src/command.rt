@@ -2,7 +2,7 @@
 ghost use Rattle.std.specs.Prelude.{◌≡◌, IfOk, codes, false, string_bytes, true};
 ghost use Rattle.clap.specs.Words.{app_of, new_app, rule_of, with_rule, with_subcommand};
 ghost use Rattle.clap.specs.declared.builder.command.Command.TheViews.{out-Command as fields_of};
-ghost use Rattle.command_words.specs.CommandLine.{are_ascending, asking_app, calling_app, changing_app, compare_versions_app, configure_app, divert_app, first_apps, flag_rule, fourth_apps, help_app, last_apps, lines, maybe_word_rule, option_rule, removing_app, root_rule, rooted_app, second_apps, subcommand_names, third_apps, trees_app, truename_app, undivert_app, whole_app, with_all, with_diverted, with_forced, with_owner, without_help, word_rule, words_rule};
+ghost use Rattle.command_words.specs.CommandLine.{are_ascending, asking_app, calling_app, changing_app, compare_versions_app, configure_app, divert_app, first_apps, flag_rule, fourth_apps, help_app, last_apps, lines, maybe_word_rule, option_rule, options_rule, removing_app, root_rule, rooted_app, second_apps, subcommand_names, third_apps, trees_app, truename_app, undivert_app, whole_app, with_all, with_diverted, with_forced, with_owner, with_rehearsal, without_help, word_rule, words_rule};
 
 use clap::{Arg, ArgAction, Command};
 use std::alloc::{AllocError, Global};
@@ -59,6 +59,13 @@ fn option<'a>(alloc: Global, name: &'a str) -> Arg<'a>
     Arg::new(alloc, name).long(name).action(ArgAction::Set)
 }
 
+// An option with a value that may be given again and again.
+fn options<'a>(alloc: Global, name: &'a str) -> Arg<'a>
+    ensures { rule_of result ≡ options_rule name.entry.now }
+{
+    Arg::new(alloc, name).long(name).action(ArgAction::Append)
+}
+
 fn flag<'a>(alloc: Global, name: &'a str) -> Arg<'a>
     ensures { rule_of result ≡ flag_rule name.entry.now }
 {
@@ -100,12 +107,25 @@ fn rooted<'a>(alloc: Global, name: &'a str) -> Result<Command<'a>, AllocError>
     with_arg(Command::new(alloc, name), root(alloc))
 }
 
+// Whether a subcommand is only rehearsed, and the calls that are assumed to fail then.
+fn with_rehearsal<'a>(alloc: Global, command: Command<'a>) -> Result<Command<'a>, AllocError>
+    ensures app { IfOk result (λ c. app_of c ≡ with_rehearsal (app_of command.entry)) }
+    ensures local { IfOk result (λ c. (fields_of c).has_globals
+        ≡ (fields_of command.entry).has_globals) }
+{
+    with_arg(
+        with_arg(command, flag(alloc, "dry-run"))?,
+        options(alloc, "assume-failure"),
+    )
+}
+
 // A subcommand that changes what is under a root.
 fn changing<'a>(alloc: Global, name: &'a str) -> Result<Command<'a>, AllocError>
     ensures app { IfOk result (λ c. app_of c ≡ changing_app name.entry.now) }
     ensures local { IfOk result (λ c. (fields_of c).has_globals ≡ false) }
 {
-    with_arg(rooted(alloc, name)?, option(alloc, "wait"))
+    let command = with_arg(rooted(alloc, name)?, option(alloc, "wait"))?;
+    with_rehearsal(alloc, command)
 }
 
 // A subcommand under a root that asks for one word.

@@ -69,6 +69,9 @@ of all that wait for it where none is named.
 
   --root DIR        the root, an absolute directory; / if it isn't given
   --wait SECONDS    how long the lock of another program is waited for; 0 if it isn't given
+  --dry-run         the lines are told as if it were done, and nothing is changed
+  --assume-failure PKG:SCRIPT:WORD
+                    in a dry run this call fails, which WORD is the first argument of
   --scripts-stderr  what scripts write goes to standard error
   --force-confold   an edited conffile stays, as without a flag
   --force-confnew   the package's takes the place of an edited conffile
@@ -89,6 +92,9 @@ const DIVERT: &str = "Files at PATH of all packages but P go to TARGET from now 
 
   --root DIR       the root, an absolute directory; / if it isn't given
   --wait SECONDS   how long the lock of another program is waited for; 0 if it isn't given
+  --dry-run        the lines are told as if it were done, and nothing is changed
+  --assume-failure PKG:SCRIPT:WORD
+                   in a dry run this call fails, which WORD is the first argument of
   --package P      whose own file stays at PATH
   --local          the administrator's: no package's file stays there
   --divert TARGET  PATH.distrib if it isn't given
@@ -107,6 +113,9 @@ const INSTALL: &str =
 
   --root DIR          the root, an absolute directory; / if it isn't given
   --wait SECONDS      how long the lock of another program is waited for; 0 if it isn't given
+  --dry-run           the lines are told as if it were done, and nothing is changed
+  --assume-failure PKG:SCRIPT:WORD
+                      in a dry run this call fails, which WORD is the first argument of
   --scripts-stderr    what scripts write goes to standard error
   --owner-root        files get user and group 0, whoever made the tree
   --auto-deconfigure  installed packages may be deconfigured in their favour
@@ -135,6 +144,9 @@ const PURGE: &str = "Removes packages with their conffiles, in the order that re
 
   --root DIR        the root, an absolute directory; / if it isn't given
   --wait SECONDS    how long the lock of another program is waited for; 0 if it isn't given
+  --dry-run         the lines are told as if it were done, and nothing is changed
+  --assume-failure PKG:SCRIPT:WORD
+                    in a dry run this call fails, which WORD is the first argument of
   --scripts-stderr  what scripts write goes to standard error
 
 Example: coizkerra purge --root /srv/root hello
@@ -144,6 +156,9 @@ const REMOVE: &str = "Removes packages but their conffiles, in the order that re
 
   --root DIR        the root, an absolute directory; / if it isn't given
   --wait SECONDS    how long the lock of another program is waited for; 0 if it isn't given
+  --dry-run         the lines are told as if it were done, and nothing is changed
+  --assume-failure PKG:SCRIPT:WORD
+                    in a dry run this call fails, which WORD is the first argument of
   --scripts-stderr  what scripts write goes to standard error
 
 Example: coizkerra remove --root /srv/root hello
@@ -176,6 +191,9 @@ const UNDIVERT: &str = "Takes the diversion of PATH away.
 
   --root DIR      the root, an absolute directory; / if it isn't given
   --wait SECONDS  how long the lock of another program is waited for; 0 if it isn't given
+  --dry-run       the lines are told as if it were done, and nothing is changed
+  --assume-failure PKG:SCRIPT:WORD
+                  in a dry run this call fails, which WORD is the first argument of
   --package P     the package whose diversion it is
   --local         it is the administrator's
   --rename        the file at its target is moved back
@@ -188,6 +206,9 @@ const UNPACK: &str =
 
   --root DIR          the root, an absolute directory; / if it isn't given
   --wait SECONDS      how long the lock of another program is waited for; 0 if it isn't given
+  --dry-run           the lines are told as if it were done, and nothing is changed
+  --assume-failure PKG:SCRIPT:WORD
+                      in a dry run this call fails, which WORD is the first argument of
   --scripts-stderr    what scripts write goes to standard error
   --owner-root        files get user and group 0, whoever made the tree
   --auto-deconfigure  installed packages may be deconfigured in their favour
@@ -232,24 +253,26 @@ impl Topic {
             Topic::Audit => "audit [--root DIR]",
             Topic::CompareVersions => "compare-versions A OP B",
             Topic::Configure =>
-                "configure [--root DIR] [--wait SECONDS] [--scripts-stderr] [--force-confold | --force-confnew] [--force-confmiss] [PKG..]",
+                "configure [--root DIR] [--wait SECONDS] [--dry-run [--assume-failure PKG:SCRIPT:WORD]..] [--scripts-stderr] [--force-confold | --force-confnew] [--force-confmiss] [PKG..]",
             Topic::Diversions => "diversions [--root DIR]",
             Topic::Divert =>
-                "divert [--root DIR] [--wait SECONDS] (--package P | --local) [--divert TARGET] [--rename] PATH",
+                "divert [--root DIR] [--wait SECONDS] [--dry-run [--assume-failure PKG:SCRIPT:WORD]..] (--package P | --local) [--divert TARGET] [--rename] PATH",
             Topic::Help => "help [COMMAND]",
             Topic::Install =>
-                "install [--root DIR] [--wait SECONDS] [--scripts-stderr] [--owner-root] [--auto-deconfigure] [--force-confold | --force-confnew] [--force-confmiss] TREE..",
+                "install [--root DIR] [--wait SECONDS] [--dry-run [--assume-failure PKG:SCRIPT:WORD]..] [--scripts-stderr] [--owner-root] [--auto-deconfigure] [--force-confold | --force-confnew] [--force-confmiss] TREE..",
             Topic::List => "list [--root DIR]",
             Topic::ListFiles => "listfiles [--root DIR] PKG",
-            Topic::Purge => "purge [--root DIR] [--wait SECONDS] [--scripts-stderr] PKG..",
-            Topic::Remove => "remove [--root DIR] [--wait SECONDS] [--scripts-stderr] PKG..",
+            Topic::Purge =>
+                "purge [--root DIR] [--wait SECONDS] [--dry-run [--assume-failure PKG:SCRIPT:WORD]..] [--scripts-stderr] PKG..",
+            Topic::Remove =>
+                "remove [--root DIR] [--wait SECONDS] [--dry-run [--assume-failure PKG:SCRIPT:WORD]..] [--scripts-stderr] PKG..",
             Topic::Search => "search [--root DIR] PATH",
             Topic::Status => "status [--root DIR] PKG",
             Topic::Truename => "truename [--root DIR] [--package P] PATH",
             Topic::Undivert =>
-                "undivert [--root DIR] [--wait SECONDS] (--package P | --local) [--rename] PATH",
+                "undivert [--root DIR] [--wait SECONDS] [--dry-run [--assume-failure PKG:SCRIPT:WORD]..] (--package P | --local) [--rename] PATH",
             Topic::Unpack =>
-                "unpack [--root DIR] [--wait SECONDS] [--scripts-stderr] [--owner-root] [--auto-deconfigure] [--force-confold | --force-confnew] [--force-confmiss] TREE..",
+                "unpack [--root DIR] [--wait SECONDS] [--dry-run [--assume-failure PKG:SCRIPT:WORD]..] [--scripts-stderr] [--owner-root] [--auto-deconfigure] [--force-confold | --force-confnew] [--force-confmiss] TREE..",
         }
     }
 

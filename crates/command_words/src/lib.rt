@@ -5,8 +5,9 @@
 //! `command_of` gives the command of the words, with its texts and flags, exactly where clap
 //! accepts them and they are no usage fault (`asked`, `usage`): confold with confnew is one; a flag
 //! for help or the version asks for that, whatever else the words are (`flagged`); behind a usage
-//! fault stands the screen of the subcommand that the words name (`screen`); `Comparison::verdict`
-//! is that of the versions' order, with an empty text before or behind all versions as the operator
+//! fault stands the screen of the subcommand that the words name (`screen`); `rehearsal_of` tells
+//! whether the command is only rehearsed, and which calls are assumed to fail then;
+//! `Comparison::verdict` is that of the versions' order, with an empty text before or behind all versions as the operator
 //! has it (`order_of`), or the first text that is neither empty nor a version.
 #![tactic(auto)]
 
@@ -20,6 +21,7 @@ mod mistakes;
 mod owners;
 mod packages;
 mod query;
+mod rehearsal;
 mod streams;
 mod unpacking;
 mod waits;
@@ -35,4 +37,4 @@ pub use packages::{Configuring, Removing};
 pub use query::{Query, Question};
 pub use streams::ScriptStreams;
 pub use unpacking::Unpacking;
-pub use words::{Asked, WordsFault, command_of};
+pub use words::{Asked, WordsFault, command_of, rehearsal_of};

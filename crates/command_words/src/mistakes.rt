@@ -1,5 +1,6 @@
 // What is wrong with the words of a subcommand in which clap finds no fault: one thing, with its word.
-use crate::found::{flag_of, is_absolute, is_package, text_of};
+use crate::found::{all_texts_of, flag_of, is_absolute, is_package, text_of};
+use crate::rehearsal::is_failure;
 use crate::waits::wait_of;
 use clap::ArgMatches;
 use shown_lines::shown;
@@ -42,6 +43,22 @@ fn of_wait(alloc: Global, found: &ArgMatches<'_>) -> Result<Option<String>, Allo
     Ok(Some(wrong_word(alloc, "--wait", text_of(found, "wait"), why)?))
 }
 
+fn of_rehearsal(alloc: Global, found: &ArgMatches<'_>) -> Result<Option<String>, AllocError> {
+    let Some(texts) = all_texts_of(found, "assume-failure") else {
+        return Ok(None);
+    };
+    if !flag_of(found, "dry-run") {
+        return Ok(Some(wrong_word(alloc, "--dry-run", None, "")?));
+    }
+    for text in texts {
+        if !is_failure(text) {
+            let why = "isn't PKG:SCRIPT:WORD";
+            return Ok(Some(wrong_word(alloc, "--assume-failure", Some(text), why)?));
+        }
+    }
+    Ok(None)
+}
+
 fn of_package(alloc: Global, found: &ArgMatches<'_>) -> Result<String, AllocError> {
     let name = text_of(found, "package");
     wrong_word(alloc, "--package", name, "isn't the name of a package")
@@ -56,7 +73,7 @@ fn of_owner(alloc: Global, found: &ArgMatches<'_>) -> Result<String, AllocError>
     }
 }
 
-/// What is wrong: first with the root, then with the wait, then with what else the subcommand takes.
+/// What is wrong: first with the root, then with the wait, then with a rehearsal, then with what else the subcommand takes.
 pub(crate) fn mistake_text(
     alloc: Global,
     name: &str,
@@ -66,6 +83,9 @@ pub(crate) fn mistake_text(
         return Ok(text);
     }
     if let Some(text) = of_wait(alloc, found)? {
+        return Ok(text);
+    }
+    if let Some(text) = of_rehearsal(alloc, found)? {
         return Ok(text);
     }
     match name {

@@ -2,10 +2,11 @@
 ghost use Rattle.std.specs.Prelude.{◌≡◌, ◌⊎◌, IfErr, IfOk, None, Some, codes, map, option_map, string_bytes};
 ghost use Rattle.clap.specs.Words.{first_of, found_of, kind_of, rows_of, subcommand_rows_of};
 ghost use Rattle.clap.specs.declared.error.kind.ErrorKind.TheVariants.{OutOfMemory};
-ghost use Rattle.command_words.specs.Commands.{asked_by, asked_in, asked_of, comparison_from, comparison_in, comparison_of, flagged, flagged_by, parsed_of};
+ghost use Rattle.command_words.specs.Commands.{asked_by, asked_in, asked_of, asked_with, comparison_from, comparison_in, comparison_of, entered, failing_in, flagged, flagged_by, parsed_of, rehearsal_of, rehearsed_in};
 ghost use Rattle.command_words.specs.Diversions.{diverting_of, undiverting_of};
 ghost use Rattle.command_words.specs.Packages.{configuring_of, removing_of};
 ghost use Rattle.command_words.specs.Queries.{query_of};
+ghost use Rattle.command_words.specs.Rehearsals.{rehearsal_in};
 ghost use Rattle.command_words.specs.Topics.{IsToldOf, named_in, topic_in};
 ghost use Rattle.command_words.specs.Unpacks.{unpacking_of};
 ghost use Rattle.command_words.specs.declared.words.WordsFault.TheVariants.{NoMemory};
@@ -18,9 +19,11 @@ use crate::help::{Topic, has_help_flag, is_help_flag, named_in, topic_in, usage_
 use crate::mistakes::mistake_text;
 use crate::packages::{Configuring, Removing, configuring_of, removing_of};
 use crate::query::{Query, query_of};
+use crate::rehearsal::{is_rehearsable, rehearsal_in};
 use crate::unpacking::{Unpacking, unpacking_of};
 use clap::ArgMatches;
 use clap::error::ErrorKind;
+use host_overlay::AssumedFailure;
 use shown_lines::shown;
 use std::alloc::{AllocError, Global};
 use texts::Text;
@@ -47,6 +50,13 @@ pub enum Asked {
     Remove(Removing),
     Purge(Removing),
     Query(Query),
+}
+
+/// What is asked of the program, and the calls that are assumed to fail where it is only rehearsed.
+#[derive(Drop)]
+struct Command {
+    asked: Asked,
+    failing: Option<Vec<AssumedFailure>>,
 }
 
 /// Why words ask for nothing: a text that says how they are used, or want of memory.
@@ -193,21 +203,47 @@ fn asked_by(alloc: Global, name: &str, found: &ArgMatches<'_>) -> Result<Option<
     }
 }
 
-// What a subcommand asks for, or the mistake in its words.
-fn asked_or_mistake(alloc: Global, name: &str, found: &ArgMatches<'_>) -> Result<Asked, WordsFault>
-    ensures asked { IfOk result (λ asked. asked_by name.now (rows_of (found_of found.now))
-        ≡ Some asked) }
-    ensures usage { IfErr result (λ fault. (fault ≡ NoMemory)
-        ⊎ (asked_by name.now (rows_of (found_of found.now)) ≡ None)) }
+// What a subcommand asks for where it can be carried out, or rehearsed.
+fn asked_with(
+    alloc: Global,
+    name: &str,
+    found: &ArgMatches<'_>,
+) -> Result<Option<Asked>, AllocError>
+    ensures { IfOk result (λ asked. asked ≡ asked_with name.now (rows_of (found_of found.now))) }
 {
-    match asked_by(alloc, name, found)? {
-        Some(asked) => Ok(asked),
+    if !is_rehearsable(found) {
+        return Ok(None);
+    }
+    asked_by(alloc, name, found)
+}
+
+// What a subcommand asks for, or the mistake in its words.
+fn asked_or_mistake(
+    alloc: Global,
+    name: &str,
+    found: &ArgMatches<'_>,
+) -> Result<Command, WordsFault>
+    ensures asked { IfOk result (λ c. asked_with name.now (rows_of (found_of found.now))
+        ≡ Some c.asked) }
+    ensures rehearsal { IfOk result (λ c. failing_in c
+        ≡ rehearsal_in (rows_of (found_of found.now))) }
+    ensures usage { IfErr result (λ fault. (fault ≡ NoMemory)
+        ⊎ (asked_with name.now (rows_of (found_of found.now)) ≡ None)) }
+{
+    match asked_with(alloc, name, found)? {
+        Some(asked) => Ok(Command {
+            asked,
+            failing: rehearsal_in(alloc, found)?,
+        }),
         None => Err(WordsFault::Usage(mistake_text(alloc, name, found)?)),
     }
 }
 
-fn asked_in(alloc: Global, matches: &ArgMatches<'_>) -> Result<Asked, WordsFault>
-    ensures asked { IfOk result (λ asked. asked_in (subcommand_rows_of matches.now) ≡ Some asked) }
+fn asked_in(alloc: Global, matches: &ArgMatches<'_>) -> Result<Command, WordsFault>
+    ensures asked { IfOk result (λ c. asked_in (subcommand_rows_of matches.now)
+        ≡ Some c.asked) }
+    ensures rehearsal { IfOk result (λ c. failing_in c
+        ≡ rehearsed_in (subcommand_rows_of matches.now)) }
     ensures usage { IfErr result (λ fault. (fault ≡ NoMemory)
         ⊎ (asked_in (subcommand_rows_of matches.now) ≡ None)) }
 {
@@ -243,8 +279,10 @@ fn flagged(words: &[String]) -> Option<Asked>
 }
 
 // What words without such a flag ask for, or why they ask for nothing.
-fn parsed(alloc: Global, words: &[String]) -> Result<Asked, WordsFault>
-    ensures asked { IfOk result (λ asked. parsed_of (map string_bytes words.now) ≡ Some asked) }
+fn parsed(alloc: Global, words: &[String]) -> Result<Command, WordsFault>
+    ensures asked { IfOk result (λ c. parsed_of (map string_bytes words.now) ≡ Some c.asked) }
+    ensures rehearsal { IfOk result (λ c. failing_in c
+        ≡ rehearsed_in (entered (map string_bytes words.now))) }
     ensures usage { IfErr result (λ fault. (fault ≡ NoMemory)
         ⊎ (parsed_of (map string_bytes words.now) ≡ None)) }
 {
@@ -254,17 +292,29 @@ fn parsed(alloc: Global, words: &[String]) -> Result<Asked, WordsFault>
     }
 }
 
+// What asks for no rehearsal.
+fn carried_out(asked: Asked) -> Command
+    ensures { (result.asked ≡ asked) × (failing_in result ≡ None) }
+{
+    Command {
+        asked,
+        failing: None,
+    }
+}
+
 // What the words ask for, or why they ask for nothing.
-fn read_words(alloc: Global, words: &[String]) -> Result<Asked, WordsFault>
-    ensures asked { IfOk result (λ asked. asked_of (map string_bytes words.now) ≡ Some asked) }
+fn read_words(alloc: Global, words: &[String]) -> Result<Command, WordsFault>
+    ensures asked { IfOk result (λ c. asked_of (map string_bytes words.now) ≡ Some c.asked) }
+    ensures rehearsal { IfOk result (λ c. failing_in c
+        ≡ rehearsal_of (map string_bytes words.now)) }
     ensures usage { IfErr result (λ fault. (fault ≡ NoMemory)
         ⊎ (asked_of (map string_bytes words.now) ≡ None)) }
 {
     if words.len() <= 1 {
-        return Ok(Asked::Names);
+        return Ok(carried_out(Asked::Names));
     }
     match flagged(words) {
-        Some(asked) => Ok(asked),
+        Some(asked) => Ok(carried_out(asked)),
         None => parsed(alloc, words),
     }
 }
@@ -291,7 +341,22 @@ pub fn command_of(alloc: Global, words: &[String]) -> Result<Asked, WordsFault>
     ensures screen { IfErr result (IsToldOf (named_in (map string_bytes words.now))) }
 {
     match read_words(alloc, words) {
-        Ok(asked) => Ok(asked),
+        Ok(command) => Ok(command.asked),
         Err(fault) => Err(with_screen(alloc, fault, named_in(words))),
+    }
+}
+
+/// The calls of scripts that are assumed to fail, where the words ask for a command that is only rehearsed.
+pub fn rehearsal_of(
+    alloc: Global,
+    words: &[String],
+) -> Result<Option<Vec<AssumedFailure>>, AllocError>
+    ensures { IfOk result (λ failing. option_map (λ v. v.items) failing
+        ≡ rehearsal_of (map string_bytes words.now)) }
+{
+    match read_words(alloc, words) {
+        Ok(command) => Ok(command.failing),
+        Err(WordsFault::Usage(_)) => Ok(None),
+        Err(WordsFault::NoMemory) => Err(AllocError),
     }
 }

@@ -1,9 +1,9 @@
 -- What the program answers over real directories.
 use Rattle.std.specs.Prelude.{◌≡◌, ◌<◌, ⊤, ℕ, List, []}
 use Rattle.host_files.specs.Replay.{Model, replay}
-use Rattle.command_words.specs.Commands.{asked_of}
+use Rattle.command_words.specs.Commands.{asked_of, rehearsal_of}
 use Rattle.command_words.specs.Topics.{named_in}
-use Rattle.command_line.specs.Reports.{IsEndOf}
+use Rattle.command_line.specs.Rehearsed.{IsEndOf}
 use Rattle.command_line.specs.Roots.{Around}
 
 -- Of real directories: a root is as an account has it when it is opened, and a host for a tree has done nothing by then. Of what
@@ -19,8 +19,8 @@ around_real model failed = record {
   locked = λ word lock. ⊤;
 }
 
--- The status that a program ends with is that of the answer to its words, or of want of memory; it is 2 where not all of that
+-- The status that a program ends with is that of the reply to its words, or of want of memory; it is 2 where not all of that
 -- could be written. So often had the device failed on opening before and after it.
 abbrev pub IsAnswered : Model → List (List ℕ) → ℕ → Type 0
 IsAnswered model words status = (before after : ℕ)
-    × IsEndOf (around_real model (before < after)) (named_in words) (asked_of words) status
+    × IsEndOf (around_real model (before < after)) (rehearsal_of words) (named_in words) (asked_of words) status

@@ -234,6 +234,8 @@ impl<'a, D: Disk> Hosts for Directories<'a, D> {
     // nor of what other programs hold
     ghost locked = { λ _ _ _. ⊤ };
 
+    ghost below = { λ _. 0 };
+
     fn open_root(
         &mut self,
         directory: &str,

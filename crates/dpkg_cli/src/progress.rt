@@ -1,7 +1,7 @@
 // What is being done and how far it is: one line on standard error that is renewed, where that stream is a terminal.
 ghost use Rattle.std.specs.Prelude.{◌≡◌};
 
-use command_words::{Asked, command_of};
+use command_words::{Asked, command_of, rehearsal_of};
 use shown_lines::shown;
 use std::alloc::{AllocError, Global};
 use std::cell::Cell;
@@ -58,8 +58,15 @@ fn names(verb: &'static str, all: usize) -> Option<Going> {
     })
 }
 
-/// What the words of a command go through, if it has units and there is memory to read them.
+/// What the words of a command go through, if it has units and there is memory to read them. A rehearsal goes through nothing.
 pub(crate) fn going_through(alloc: Global, words: &[String]) -> Option<Going> {
+    match rehearsal_of(alloc, words) {
+        Ok(None) => going_of(alloc, words),
+        _ => None,
+    }
+}
+
+fn going_of(alloc: Global, words: &[String]) -> Option<Going> {
     match command_of(alloc, words) {
         Ok(Asked::Unpack(asked)) => trees("unpacking", &asked.trees, None),
         Ok(Asked::Install(asked)) => trees("unpacking", &asked.trees, Some("configuring")),

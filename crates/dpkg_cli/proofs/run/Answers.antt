@@ -1,5 +1,12 @@
-use Rattle.std.proofs.Common.{inl, inr}
+use Rattle.std.proofs.Common.{◌≡◌, ◌∙◌, Some, None, inl, inr, map, refl, string_bytes}
+use Rattle.command_line.specs.Rehearsed.{Rehearsal, reply_of}
+use Rattle.command_line.specs.Reports.{memory_answer}
+use Rattle.command_words.specs.Commands.{rehearsal_of}
 use Rattle.dpkg_cli.proofs.run.Goals as goal
+
+want_status : (rehearsal : Rehearsal) → (reply_of rehearsal memory_answer).status ≡ 2
+want_status None = refl
+want_status (Some failing) = refl
 
 -- an answer that was given ends with its status, or with 2; want of memory ends with 2
 pub returns-clause-answered : goal.returns-clause-answered
@@ -20,7 +27,7 @@ returns-clause-answered g c =
           ]
           | inr worse ↦ elim worse [
             | inl given ↦ elim given [
-              | inl written ↦ inr written.status
+              | inl written ↦ inr (written.status ∙ want_status (rehearsal_of (map string_bytes c.args.words.now)))
               | inr cut ↦ inr cut.0
             ]
             | inr part ↦ elim part.1.3 [

@@ -7,8 +7,8 @@ pub returns-in-Divert : goal.returns-in-Divert
 returns-in-Divert g c =
     let session = c.args.session.now in
     let done = c.divert.ensures in
-    subst (λ (asked : Change). HasChanged asked c.divert.result session.administration.database.records session.administration.lists.lists session.diversions.entries (g.H.Host.state session.host) (g.H.Host.state c.divert.new.self.host)) (sym c.in-Divert.is) record {
-      whole = λ none. (c.divert.new.self.diversions.entries, done.whole c.requires none);
+    subst (λ (asked : Change). HasChanged asked c.divert.result session.administration.database.records session.administration.lists.lists session.diversions.ways (g.H.Host.state session.host) (g.H.Host.state c.divert.new.self.host)) (sym c.in-Divert.is) record {
+      whole = λ none. (c.divert.new.self.diversions.ways, done.whole c.requires none);
       broken = done.broken;
       counts = done.counts c.requires;
       told = done.told;
@@ -20,8 +20,8 @@ pub returns-in-Undivert : goal.returns-in-Undivert
 returns-in-Undivert g c =
     let session = c.args.session.now in
     let done = c.undivert.ensures in
-    subst (λ (asked : Change). HasChanged asked c.undivert.result session.administration.database.records session.administration.lists.lists session.diversions.entries (g.H.Host.state session.host) (g.H.Host.state c.undivert.new.self.host)) (sym c.in-Undivert.is) record {
-      whole = λ none. (c.undivert.new.self.diversions.entries, done.whole c.requires none);
+    subst (λ (asked : Change). HasChanged asked c.undivert.result session.administration.database.records session.administration.lists.lists session.diversions.ways (g.H.Host.state session.host) (g.H.Host.state c.undivert.new.self.host)) (sym c.in-Undivert.is) record {
+      whole = λ none. (c.undivert.new.self.diversions.ways, done.whole c.requires none);
       broken = done.broken;
       counts = done.counts c.requires;
       told = done.told;

@@ -1,18 +1,47 @@
-use Rattle.std.proofs.Common.{◌∙◌, Ok, ap, inl, subst}
-use Rattle.command_line.specs.Printing.{IsLeft}
-use Rattle.command_line.proofs.Printed.{given_left, given_wanting}
+use Rattle.std.proofs.Common.{rules, ◌≡◌, Some, None, [], ap, map, string_bytes, inl, inr, refl}
+use Rattle.command_words.specs.Commands.{rehearsal_of}
+use Rattle.command_line.specs.Rehearsed.{behind_line}
+use Rattle.command_line.specs.Reports.{memory_answer}
+use Rattle.command_line.proofs.Held.{appends_nothing}
 use Rattle.command_line.proofs.command.run_words.Goals as goal
 
-pub returns-in-Ok-Rest-clause-answered : goal.returns-in-Ok-Rest-clause-answered
-returns-in-Ok-Rest-clause-answered g c =
-    let told = c.answer_to.ensures.answered in
-    let held = g.O.Write.contents in
-    let left = subst (λ r. IsLeft told.0 (held c.args.out.now) (held c.answer_to.new.out) r) (c.in-Ok-Rest.is ∙ ap Ok c.in-Ok-Rest.field-0-is) told.2 in
-    (told.0, told.1, inl (given_left told.0 c.in-Ok-Rest.answer (held c.args.out.now) (held c.answer_to.new.out) (held c.give.new.out) (g.E.Write.contents c.args.err.now) (g.E.Write.contents c.give.new.err) c.give.result left c.give.ensures.given))
+pub returns-in-Ok-None-clause-answered : goal.returns-in-Ok-None-clause-answered
+returns-in-Ok-None-clause-answered g c =
+    let none : rehearsal_of (map string_bytes c.args.words.now) ≡ None = search rules in
+    let told = c.carry_out.ensures.answered in
+    rw none (
+      told.0,
+      elim told.1 [
+        | inl answers ↦ inl (told.0, answers, refl)
+        | inr wants ↦ inr (inl wants.0, wants.1)
+      ],
+      told.2,
+    )
+
+pub returns-in-Ok-None-clause-quiet : goal.returns-in-Ok-None-clause-quiet
+returns-in-Ok-None-clause-quiet g c =
+    let none : rehearsal_of (map string_bytes c.args.words.now) ≡ None = search rules in
+    rw none c.carry_out.ensures.quiet
+
+pub returns-in-Ok-Some-clause-answered : goal.returns-in-Ok-Some-clause-answered
+returns-in-Ok-Some-clause-answered g c =
+    let some : rehearsal_of (map string_bytes c.args.words.now) ≡ Some c.in-Ok-Some.failing.items = search rules in
+    let told = c.rehearse.ensures.answered in
+    rw some (
+      behind_line told.0,
+      elim told.1 [
+        | inl answers ↦ inl (told.0, answers, refl)
+        | inr wants ↦ inr (inr (ap behind_line wants.0), wants.1)
+      ],
+      told.2,
+    )
+
+pub returns-in-Ok-Some-clause-quiet : goal.returns-in-Ok-Some-clause-quiet
+returns-in-Ok-Some-clause-quiet g c =
+    let some : rehearsal_of (map string_bytes c.args.words.now) ≡ Some c.in-Ok-Some.failing.items = search rules in
+    rw some (inr refl)
 
 pub returns-in-Err-clause-answered : goal.returns-in-Err-clause-answered
 returns-in-Err-clause-answered g c =
-    let told = c.answer_to.ensures.answered in
-    let held = g.O.Write.contents in
-    let left = subst (λ r. IsLeft told.0 (held c.args.out.now) (held c.answer_to.new.out) r) c.in-Err.is told.2 in
-    (told.0, told.1, given_wanting held told.0 c.args.out.now c.answer_to.new.out (g.E.Write.contents c.args.err.now) (g.E.Write.contents c.give_want_of_memory.new.err) c.give_want_of_memory.result _ c.answer_to.ensures.unprinted left c.give_want_of_memory.ensures.given)
+    let held = g.O.Write.contents c.args.out.now in
+    (memory_answer, inr (inl refl, refl), inl (c.give_want_of_memory.ensures.given [] held held (appends_nothing held)))

@@ -16,18 +16,19 @@ returns-in_ok-ended-in-Ok-clause-done g c =
     let begun = g.S.Opened.Host.state session.host in
     let ended = c.in_ok-ended-in-Ok.field-0 in
     let before = held_by session.administration session.diversions in
-    let anew = held_anew session.administration.database.records session.administration.lists.lists session.diversions.entries in
+    let anew = held_anew session.administration.database.records session.administration.lists.lists session.diversions.ways in
     let same : before ≡ anew = opened_anew session.administration.database session.administration.lists session.diversions c.in-Ok.ensures.number (session.opened c.in-Ok.ensures.closed).noting in
     record {
       table = session.administration.database.records;
       lists = session.administration.lists.lists;
-      entries = session.diversions.entries;
+      ways = session.diversions.ways;
       state = begun;
       opened = record {
         silent = c.in-Ok.ensures.silent;
         opens = c.in-Ok.ensures.opens;
         opening = c.in-Ok.ensures.any_moment;
         opened = c.in-Ok.ensures.opened;
+        followed = c.in-Ok.ensures.followed;
       };
       end = g.S.Opened.Host.state c.into_host.result;
       given = c.close_root.ensures.given;

@@ -1,7 +1,7 @@
-use Rattle.std.proofs.Common.{map, string_bytes, ◌∙◌, inl, inr}
+use Rattle.std.proofs.Common.{map, string_bytes, ◌∙◌, sym, inl, inr}
 use Rattle.std.proofs.lemmas.Result.{IfOk-weaker, IfErr-weaker}
 use Rattle.clap.specs.Words.{app_of}
-use Rattle.command_words.proofs.Asking.{parsed_taken, parsed_refused, whole_is_simple}
+use Rattle.command_words.proofs.Asking.{parsed_taken, parsed_refused, rehearsed_taken, whole_is_simple}
 use Rattle.command_words.proofs.words.parsed.Goals as goal
 
 pub returns-in-Ok-clause-asked : goal.returns-in-Ok-clause-asked
@@ -9,6 +9,11 @@ returns-in-Ok-clause-asked c =
     let taken = parsed_taken (app_of c.in_ok-whole_command.field-0) (map string_bytes c.args.words.now) c.in-Ok.matches
     c.in_ok-whole_command.ensures c.in-Ok.ensures.matches c.in-Ok.ensures.kinds in
     IfOk-weaker c.asked_in.result _ _ (λ asked h. taken ∙ h) c.asked_in.ensures.asked
+
+pub returns-in-Ok-clause-rehearsal : goal.returns-in-Ok-clause-rehearsal
+returns-in-Ok-clause-rehearsal c =
+    let taken = rehearsed_taken (app_of c.in_ok-whole_command.field-0) (map string_bytes c.args.words.now) c.in-Ok.matches c.in_ok-whole_command.ensures c.in-Ok.ensures.matches in
+    IfOk-weaker c.asked_in.result _ _ (λ command h. h ∙ sym taken) c.asked_in.ensures.rehearsal
 
 pub returns-in-Ok-clause-usage : goal.returns-in-Ok-clause-usage
 returns-in-Ok-clause-usage c =
