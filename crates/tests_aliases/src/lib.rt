@@ -1,6 +1,8 @@
-//! Aliases above a path, read from a root in memory, and the place of the path behind them.
+//! Aliases above a path, read from a root in memory, and the place of the path behind them and behind diversions.
 #![tactic(auto)]
 
+#[cfg(test)]
+mod diverted_rows;
 #[cfg(test)]
 mod place_rows;
 #[cfg(test)]

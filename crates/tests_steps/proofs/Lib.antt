@@ -1,3 +1,4 @@
 pub mod Rearranged
 pub mod Answered
 pub mod Nowhere
+pub mod Unsettled

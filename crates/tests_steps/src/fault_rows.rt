@@ -321,7 +321,10 @@ const ROWS: &[Row] = &[
 
 const NEVER: Break = Break::Read(LIMIT);
 
-fn told(alloc: Global, answer: Result<Option<StepFault>, HostFault>) -> Result<String, AllocError> {
+pub(crate) fn told(
+    alloc: Global,
+    answer: Result<Option<StepFault>, HostFault>,
+) -> Result<String, AllocError> {
     match answer {
         Ok(fault) => fault_text(alloc, fault.as_ref()),
         Err(HostFault::Device) => String::from_str(alloc, "the device failed"),

@@ -182,8 +182,18 @@ pub(crate) fn look(
     )
 }
 
+// What stands at a path that is shipped so.
+pub(crate) fn node_of(alloc: Global, ships: Ships) -> Result<Node, AllocError> {
+    match ships {
+        Ships::Directory => Ok(directory()),
+        Ships::File(text) => file(alloc, text),
+        Ships::Conffile(text) => file(alloc, text),
+        Ships::Link(target) => link(alloc, target),
+    }
+}
+
 // Checks and writes the works of a package.
-fn unpack(
+pub(crate) fn unpack(
     alloc: Global,
     host: &mut MemoryHost,
     administration: &Administration,

@@ -3,6 +3,8 @@
 #![tactic(auto)]
 
 #[cfg(test)]
+mod alias_rows;
+#[cfg(test)]
 mod breaking;
 #[cfg(test)]
 mod fault_rows;

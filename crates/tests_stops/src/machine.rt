@@ -247,6 +247,8 @@ impl Hosts for Machine {
     // no other program has the root
     ghost locked = { λ _ _ _. ⊥ };
 
+    ghost below = { λ _. 0 };
+
     fn open_root(
         &mut self,
         _directory: &str,

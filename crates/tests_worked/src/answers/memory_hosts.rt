@@ -10,6 +10,7 @@ mod diversion_rows;
 mod install_rows;
 mod memory_rows;
 mod query_rows;
+mod rehearsal_rows;
 mod removal_rows;
 mod script_rows;
 mod shown_rows;
@@ -217,6 +218,15 @@ impl MemoryHosts {
         Ok(())
     }
 
+    // Makes a link as the administrator does: a path, a space and where it leads.
+    fn link(&mut self, words: &str) -> Result<(), AllocError> {
+        if let (Some(host), Some((path, target))) = (&mut self.root, words.split_once(' ')) {
+            let target = Text::from_str(self.alloc, target)?;
+            host.place(&path_of(self.alloc, path)?, Node::Link { target })?;
+        }
+        Ok(())
+    }
+
     // Adds what stands at a path: what a file holds, or the names in a directory.
     fn read(&mut self, path: &str, text: &mut String) -> Result<(), AllocError> {
         if let Some(host) = &mut self.root {
@@ -225,10 +235,13 @@ impl MemoryHosts {
         text.push('\n')
     }
 
-    // Adds the answer to a line of words; a line that begins with `write` or `read` is the administrator's.
+    // Adds the answer to a line of words; one that begins with `write`, `link` or `read` is the administrator's.
     fn step(&mut self, line: &str, text: &mut String) -> Result<(), AllocError> {
         if let Some(words) = line.strip_prefix("write ") {
             return self.write(words);
+        }
+        if let Some(words) = line.strip_prefix("link ") {
+            return self.link(words);
         }
         if let Some(path) = line.strip_prefix("read ") {
             return self.read(path, text);
@@ -337,6 +350,8 @@ impl Hosts for MemoryHosts {
 
     // no other program has the root
     ghost locked = { λ _ _ _. ⊥ };
+
+    ghost below = { λ _. 0 };
 
     fn open_root(
         &mut self,

@@ -77,6 +77,8 @@ impl Hosts for RealHosts {
     // these tests have their roots to themselves
     ghost locked = { λ _ _ _. ⊥ };
 
+    ghost below = { λ _. 0 };
+
     fn open_root(
         &mut self,
         directory: &str,

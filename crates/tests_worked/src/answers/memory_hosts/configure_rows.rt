@@ -405,6 +405,46 @@ fn check_settled(rt: &(impl Abort + AllocGlobal), row: &SettledRow) -> Result<()
     Ok(())
 }
 
+// A root with `/lib -> usr/lib`, and a package whose conffiles are listed below the link. The one at `/lib/a.conf` is shipped at
+// `/usr/lib/a.conf` now, and flagged under its old name.
+const BEHIND_A_LINK: &[&str] = &[
+    "write /usr/lib/a.conf a",
+    "write /usr/lib/a.conf.dpkg-new b",
+    "write /usr/lib/z.conf edited",
+    "write /usr/lib/z.conf.dpkg-new c",
+    "link /lib usr/lib",
+    "write /var/lib/dpkg/info/zulu.list /.\n/lib\n/lib/a.conf\n/lib/z.conf\n/usr\n/usr/lib\n/usr/lib/a.conf\n",
+    "write /var/lib/dpkg/status Package: zulu\nStatus: install ok unpacked\nVersion: 2\nConfig-Version: 1\nConffiles:\n /lib/a.conf 0cc175b9c0f1b6a831c399e269772661 remove-on-upgrade\n /lib/z.conf 92eb5ffee6ae2fec3ad71c777531578f\n /usr/lib/a.conf newconffile\nNew-Conffiles:\n /lib/z.conf 4a8a08f09d37b73795649038408b5f33\n /usr/lib/a.conf 92eb5ffee6ae2fec3ad71c777531578f\n",
+];
+
+const SETTLED_BEHIND_A_LINK: &str = "state zulu 2 install ok installed
+done
+||0
+directory: a.conf a.conf.dpkg-dist z.conf z.conf.dpkg-dist
+a
+edited
+Package: zulu
+Status: install ok installed
+Version: 2
+Conffiles:
+ /lib/z.conf 4a8a08f09d37b73795649038408b5f33
+ /usr/lib/a.conf 92eb5ffee6ae2fec3ad71c777531578f
+||0
+";
+
+#[test]
+fn conffiles_are_settled_where_links_lead(rt: HostRuntime) -> Result<(), Fail> {
+    let lines = [
+        "dpkg_cli configure zulu",
+        "read /usr/lib",
+        "read /usr/lib/a.conf",
+        "read /usr/lib/z.conf",
+        "dpkg_cli status zulu",
+    ];
+    let told = answers(rt.alloc(), TREES, &[], BEHIND_A_LINK, &lines);
+    expect(&rt, told, SETTLED_BEHIND_A_LINK)
+}
+
 #[test]
 fn conffiles_are_settled(rt: HostRuntime) -> Result<(), Fail> {
     for row in SETTLED {
