@@ -1,4 +1,5 @@
 pub mod Above
+pub mod Beside
 pub mod Following
 pub mod Flatness
 mod Going

@@ -87,11 +87,22 @@ impl Aliases {
         }
     }
 
-    /// The directory of a way, with the slash behind it.
-    pub(crate) fn onward(&self, way: &str) -> Result<String, AllocError>
-        ensures { IfOk result (λ next. string_bytes next ≡ led self.now way.now ++ 47 ∷ []) }
+    // The directory that a way leads to. Where no alias stands there the text is kept.
+    fn led_on(&self, way: String) -> Result<String, AllocError>
+        ensures { IfOk result (λ next. string_bytes next ≡ led self.now (string_bytes way)) }
     {
-        let mut next = String::from_str(self.alloc, self.led(way))?;
+        match self.targets.get(way.as_str()) {
+            Some(target) => String::from_str(self.alloc, target.as_str()),
+            None => Ok(way),
+        }
+    }
+
+    /// The same, with the slash behind it.
+    pub(crate) fn onward(&self, way: String) -> Result<String, AllocError>
+        ensures { IfOk result
+            (λ next. string_bytes next ≡ led self.now (string_bytes way) ++ 47 ∷ []) }
+    {
+        let mut next = self.led_on(way)?;
         next.push('/')?;
         Ok(next)
     }
@@ -104,7 +115,7 @@ impl Aliases {
         let mut rest = path;
         while let Some((name, behind)) = cut_at_slash(rest) {
             way.push_str(name)?;
-            way = self.onward(way.as_str())?;
+            way = self.onward(way)?;
             rest = behind;
         }
         way.push_str(rest)?;

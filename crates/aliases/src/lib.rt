@@ -25,3 +25,4 @@ mod reading;
 pub use aliases::Aliases;
 pub use laws::{a_place_is_its_own, aliases_of_a_world_are_flat, no_link_stands_above_a_place};
 pub use looked::Looked;
+pub use names::directory_of;

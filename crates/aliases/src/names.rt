@@ -27,8 +27,8 @@ pub(crate) fn first_name(names: &str) -> (&str, &str)
     }
 }
 
-// What stands before the last slash.
-fn front_of(path: &str) -> &str
+/// The directory above a path, as the path is written; none where it is directly below the root.
+pub fn directory_of(path: &str) -> &str
     ensures { result.now ≡ above path.now }
 {
     match path.rsplit_once('/') {
@@ -42,7 +42,7 @@ pub(crate) fn directory_above(alloc: Global, path: &RootPath) -> Result<RootPath
     ensures { IfOk result (λ p. p ≡ above path.now) }
 {
     path.law();
-    RootPath::from_str(alloc, front_of(path.as_str()))
+    RootPath::from_str(alloc, directory_of(path.as_str()))
 }
 
 /// The path below the root that a text names, if it names one.

@@ -130,7 +130,7 @@ impl Aliases {
         while let Some((name, behind)) = cut_at_slash(rest) {
             way.push_str(name)?;
             self.read_once(host, way.as_str(), looked)?;
-            way = self.onward(way.as_str())?;
+            way = self.onward(way)?;
             rest = behind;
         }
         Ok(())

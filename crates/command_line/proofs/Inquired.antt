@@ -108,8 +108,8 @@ counts_then (Err NoMemory) a b c sound counts = no_fault_then a b c sound counts
 counts_then (Err Declined) a b c sound counts = declined_then a b c sound counts
 
 -- A question on a host of which is known what it showed and answered.
-module _ {W : Type 0} (of : Ghosts W) (state : W → State) (asked : Inquiry)
-    (shows : (s t : W) (glance : Glance) → of.glanced asked s t glance → HasShown asked (state s) (state t) glance)
+module _ {W : Type 0} (of : Ghosts W Inquiry) (state : W → State) (asked : Inquiry)
+    (shows : (s t : W) (glance : Glance) → of.glanced asked s t glance → HasShown (reads_info asked) (state s) (state t) glance)
     (misses : (s t : W) (fault : HostFault) → of.missed asked s t fault → HasMissed (state s) (state t) fault)
     (answers : (s t : W) (result : Result Answer AdministrationFault) → of.answered asked s t result → HasAnswered asked (state s) (state t) result) where
   -- what was last shown is what is shown of the world in the beginning

@@ -8,3 +8,4 @@ mod Helped
 mod Inquired
 mod Turns
 mod Rehearsed
+mod Verified

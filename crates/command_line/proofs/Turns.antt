@@ -5,12 +5,11 @@ use Rattle.inquiries.specs.Glances.{IsSame}
 use Rattle.inquiries.specs.declared.glance.Glance.{Glance}
 use Rattle.command_line.specs.Steady.{ArePassed, IsCompared, IsPassed, IsTried, IsTurned, is_final, steady, wanting}
 use Rattle.command_line.specs.declared.answer.Answer.{Answer}
-use Rattle.command_line.specs.declared.questions.Inquiry.{Inquiry}
 use Rattle.command_line.specs.declared.shown.Shown.{Ghosts}
 use Rattle.command_line.specs.declared.steady.Turn.{Turn}
 use Rattle.command_line.specs.declared.steady.Turn.TheVariants.{Ended, Again}
 
-module _ {W : Type 0} (of : Ghosts W) (asked : Inquiry) where
+module _ {W Asked : Type 0} (of : Ghosts W Asked) (asked : Asked) where
   -- what a comparison says of an answer that was tried for
   pub turned : (s t : W) (before after : Glance) (answer : Result Answer AdministrationFault) (turn : Turn) → IsTried of asked s answer after t → IsCompared answer before after turn → IsTurned of asked s before t turn
   turned s t before after answer (Ended result) one (inl same) = steady answer after one same.0 same.1

@@ -4,13 +4,12 @@ use Rattle.host_core.specs.Host.{AtEachMoment, Silent, State}
 use Rattle.host_core.specs.Paths.{is_ship_text}
 use Rattle.host_core.specs.World.{World}
 use Rattle.command_line.specs.declared.fault.NotOpened.{NotOpened}
-use Rattle.diversions.specs.Changes.{IsAdding, IsRemoving}
 use Rattle.diversions.specs.Ways.{Ways}
 use Rattle.diversions.specs.declared.entry.Owner.{Owner}
 use Rattle.diversions.specs.declared.entry.Owner.TheVariants.{Local, Package}
 use Rattle.file_lists.specs.declared.paths.PackageList.{PackageList}
 use Rattle.status_records.specs.declared.record.Record.{Record}
-use Rattle.dpkg_session.specs.Diversions.{HasBroken, IsDiverted, IsOneUnit, IsUndiverted, asked_entry, seen_of}
+use Rattle.dpkg_session.specs.Diversions.{HasBroken, HasDiverted, HasUndiverted, IsDiverting, IsOneUnit, IsUndiverting}
 use Rattle.unit_reports.specs.Units.{CountsLast, TellsCalls}
 use Rattle.unit_reports.specs.declared.report.Report.{Report}
 use Rattle.unit_reports.specs.declared.report.Unit.{Unit as AUnit}
@@ -62,13 +61,13 @@ IsRead bad P (Err text) = bad ≡ Some text
 
 -- the unit of a change, as a session carries it out
 abbrev pub IsChangedBy : Change → List Record → List PackageList → Ways → Ways → AUnit → State → State → Type 0
-IsChangedBy (change.Divert asked) table lists before after u s t = IsDiverted asked (seen_of before.aliases table lists asked.owner asked.path) before after u s t
-IsChangedBy (change.Undivert asked) table lists before after u s t = IsUndiverted asked before after u s t
+IsChangedBy (change.Divert asked) table lists before after u s t = HasDiverted asked table lists before after u s t
+IsChangedBy (change.Undivert asked) table lists before after u s t = HasUndiverted asked before after u s t
 
 -- at each moment of it
 abbrev pub IsChanging : Change → List Record → List PackageList → Ways → World → World → Type 0
-IsChanging (change.Divert asked) table lists before old now = IsAdding before (asked_entry asked) asked.rename (seen_of before.aliases table lists asked.owner asked.path) old now
-IsChanging (change.Undivert asked) table lists before old now = IsRemoving before asked.path asked.rename old now
+IsChanging (change.Divert asked) table lists before old now = IsDiverting asked table lists before old now
+IsChanging (change.Undivert asked) table lists before old now = IsUndiverting asked before old now
 
 -- A change is one unit, from these records, lists and diversions, unless it was broken off. In any case no script is called, and
 -- each world since is one of a moment of the change.

@@ -4,6 +4,7 @@ pub mod Endings
 pub mod Unpacks
 pub mod Queries
 pub mod Steady
+pub mod Verifying
 pub mod Changes
 pub mod Packages
 pub mod Reports

@@ -87,12 +87,12 @@ reads_info (inquiry.Search path) = false
 reads_info (inquiry.Status name) = false
 reads_info (inquiry.Truename user path) = false
 
--- a host was only looked at, and showed this of what changes under a question
-pub record HasShown (asked : Inquiry) (old new : State) (glance : Glance) : Type 0 where
+-- a host was only looked at, and showed this of what changes under a question, with the names in `info` or without
+pub record HasShown (info : Bool) (old new : State) (glance : Glance) : Type 0 where
   pub reads : Reads old new
   pub silent : Silent old new
   pub sound : NoFault old new
-  pub shown : IsTrue new.honest → IsGlance (reads_info asked) old.world glance
+  pub shown : IsTrue new.honest → IsGlance info old.world glance
 
 -- or it showed nothing, for a fault
 pub record HasMissed (old new : State) (fault : HostFault) : Type 0 where

@@ -18,6 +18,7 @@ use Rattle.command_line.specs.declared.changing.Change.{Change}
 use Rattle.command_line.specs.Printing.{AppendsPart}
 use Rattle.command_line.specs.Roots.{Around, IsRootFault, opening_answer}
 use Rattle.command_line.specs.Unpacks.{HasUnpacked}
+use Rattle.command_line.specs.Verifying.{IsVerifyAnswer}
 use Rattle.command_line.specs.Endings.{with_notes}
 use Rattle.command_line.specs.declared.ending.Ended.{Ended}
 use Rattle.command_line.specs.declared.unpacking.Done.{Done}
@@ -28,7 +29,7 @@ use Rattle.command_words.specs.Topics.{HasScreen, IsScreen, version_line}
 use Rattle.command_words.specs.declared.comparison.Comparison.{Comparison}
 use Rattle.command_words.specs.declared.help.Topic.{Topic}
 use Rattle.command_words.specs.declared.words.Asked.{Asked}
-use Rattle.command_words.specs.declared.words.Asked.TheVariants.{Names, Version, CompareVersions, Help, Configure, Divert, Install, Purge, Query, Remove, Undivert, Unpack}
+use Rattle.command_words.specs.declared.words.Asked.TheVariants.{Names, Version, CompareVersions, Help, Configure, Divert, Install, Purge, Query, Remove, Undivert, Unpack, Verify}
 use Rattle.command_words.specs.declared.unpacking.Unpacking.{Unpacking}
 
 -- the names of the subcommands, one a line
@@ -113,6 +114,7 @@ IsAnswerTo a Version answer = answer ≡ version_answer
 IsAnswerTo a (Help topic) answer = IsHelpAnswer topic answer
 IsAnswerTo a (CompareVersions c) answer = answer ≡ comparison_answer c
 IsAnswerTo a (Query q) answer = IsQueryAnswer a q answer
+IsAnswerTo a (Verify v) answer = IsVerifyAnswer a v answer
 IsAnswerTo a (Divert d) answer = IsReadChange a d.root (bad_of_divert d) (IsDivertOf d) answer
 IsAnswerTo a (Undivert u) answer = IsReadChange a u.root (bad_of_undivert u) (IsUndivertOf u) answer
 IsAnswerTo a (Unpack u) answer = IsTreesAnswer a None u answer
@@ -142,6 +144,7 @@ prints (Some Version) = true
 prints (Some (Help topic)) = true
 prints (Some (CompareVersions c)) = false
 prints (Some (Query q)) = is_ok (inquiry_of q.question)
+prints (Some (Verify v)) = true
 prints (Some (Divert d)) = is_good (bad_of_divert d)
 prints (Some (Undivert u)) = is_good (bad_of_undivert u)
 prints (Some (Unpack u)) = true
@@ -158,6 +161,7 @@ opens_root (Some Version) = false
 opens_root (Some (Help topic)) = false
 opens_root (Some (CompareVersions c)) = false
 opens_root (Some (Query q)) = is_ok (inquiry_of q.question)
+opens_root (Some (Verify v)) = true
 opens_root (Some (Divert d)) = is_good (bad_of_divert d)
 opens_root (Some (Undivert u)) = is_good (bad_of_undivert u)
 opens_root (Some (Unpack u)) = true
@@ -190,6 +194,7 @@ has_units (Some Version) = false
 has_units (Some (Help topic)) = false
 has_units (Some (CompareVersions c)) = false
 has_units (Some (Query q)) = false
+has_units (Some (Verify v)) = false
 has_units (Some (Divert d)) = false
 has_units (Some (Undivert u)) = false
 has_units (Some (Unpack u)) = true

@@ -7,7 +7,6 @@ use Rattle.administration.specs.declared.fault.AdministrationFault.TheVariants.{
 use Rattle.inquiries.specs.Glances.{IsSame}
 use Rattle.inquiries.specs.declared.glance.Glance.{Glance}
 use Rattle.command_line.specs.declared.answer.Answer.{Answer}
-use Rattle.command_line.specs.declared.questions.Inquiry.{Inquiry}
 use Rattle.command_line.specs.declared.shown.Shown.{Ghosts}
 use Rattle.command_line.specs.declared.steady.Turn.{Turn}
 use Rattle.command_line.specs.declared.steady.Turn.TheVariants.{Ended, Again}
@@ -31,7 +30,7 @@ abbrev pub IsCompared : Result Answer AdministrationFault → Glance → Glance 
 IsCompared answer before after (Ended result) = (IsSame after before × (result ≡ told_of answer)) ⊎ (result ≡ Err (Fault NoMemory))
 IsCompared answer before after (Again shown) = (IsSame after before → ⊥) × (shown ≡ after)
 
-module _ {W : Type 0} (of : Ghosts W) (asked : Inquiry) where
+module _ {W Asked : Type 0} (of : Ghosts W Asked) (asked : Asked) where
   -- between two moments there was an answer that isn't told at once, and behind it this was shown
   pub record IsTried (s : W) (answer : Result Answer AdministrationFault) (after : Glance) (t : W) : Type 0 where
     pub behind : W

@@ -14,6 +14,7 @@ ghost use Rattle.command_line.specs.Queries.{IsInquired, IsQueryAnswer, bad_path
 ghost use Rattle.command_line.specs.Reports.{HasEndedAs, IsAnswerOf, IsHelpAnswer, IsReadChange, comparison_answer, done_answer, ended_answer, has_units, memory_answer, names_answer, opens_root, prints, report_answer, trees_answer, version_answer, work_answer};
 ghost use Rattle.command_line.specs.Roots.{IsRootFault, around, locked_line, opening_answer};
 ghost use Rattle.command_line.specs.Unpacks.{HasUnpacked};
+ghost use Rattle.command_line.specs.Verifying.{IsVerifyAnswer};
 ghost use Rattle.command_line.specs.declared.answer.Answer.{Answer as AnAnswer};
 ghost use Rattle.command_line.specs.declared.ending.Ended.{Ended as AnEnded};
 ghost use Rattle.command_line.specs.declared.fault.NotOpened.{NotOpened as ANotOpened};
@@ -29,10 +30,11 @@ use crate::printing::{Flow, Printer};
 use crate::questions::{Inquiry, bad_path, inquire_under, inquiry_of};
 use crate::steady::Unanswered;
 use crate::unpacking::{Done, unpack};
+use crate::verifying::verify_under;
 use command_words::{
     Asked, Comparison, Configuring, Diverting, Query, Removing, ScriptStreams, Topic, Undiverting,
-    Unpacking, Verdict, WordsFault, bad_version_line, command_of, help_text, subcommand_names,
-    version_text,
+    Unpacking, Verdict, Verifying, WordsFault, bad_version_line, command_of, help_text,
+    subcommand_names, version_text,
 };
 use conffiles::ConfPolicy;
 use dpkg_session::{Report, Unit};
@@ -528,6 +530,19 @@ fn queried<S: Hosts>(alloc: Global, hosts: &mut S, query: Query) -> Result<Answe
     }
 }
 
+fn verified<S: Hosts>(alloc: Global, hosts: &mut S, asked: &Verifying) -> Result<Answer, AllocError>
+    ensures answered { (answer : AnAnswer)
+        × IsVerifyAnswer (around S.Hosts hosts.old hosts.new) asked.now answer
+        × IfOk result (λ told. told ≡ answer) }
+    ensures bound { IfOk result (λ answer. answer.status ≤ 2) }
+    ensures below { S.below hosts.new ≡ S.below hosts.old }
+{
+    match verify_under(alloc, hosts, &asked.root, &asked.names) {
+        Ok(answer) => Ok(answer),
+        Err(why) => unanswered(alloc, why),
+    }
+}
+
 /// What is left of the answer to the words, the first of which is the program's name. The lines of units are written as these
 /// are finished.
 pub(crate) fn answer_to<S: Hosts, O: Write>(
@@ -558,6 +573,7 @@ pub(crate) fn answer_to<S: Hosts, O: Write>(
         Ok(Asked::Divert(asked)) => whole(diverted(alloc, hosts, &asked)),
         Ok(Asked::Undivert(asked)) => whole(undiverted(alloc, hosts, &asked)),
         Ok(Asked::Query(query)) => whole(queried(alloc, hosts, query)),
+        Ok(Asked::Verify(asked)) => whole(verified(alloc, hosts, &asked)),
         Ok(Asked::Unpack(unpacking)) => unpacked(alloc, hosts, &unpacking, None, out),
         Ok(Asked::Install(unpacking)) => {
             let policy = policy_of(unpacking.forced);

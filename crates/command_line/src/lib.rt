@@ -27,7 +27,9 @@
 //! answer and behind it, and only an answer with the same before it and behind it is told
 //! (`settle`, whatever others do to what is asked); where there is none among ten, that is told as
 //! a lock that is held, and never where nobody else writes (`IsUnsteadyOn`). Where another program holds the root, that is
-//! told of a command with the root's word, and no root was opened. For help it is a screen on the topic, on standard output;
+//! told of a command with the root's word, and no root was opened. For `verify` it is the text of a
+//! verification, from a host that was only looked at (`IsVerifiedOn`): looks that fail are told in it,
+//! and the others taken; status 1 where it tells anything (`verified_answer`). For help it is a screen on the topic, on standard output;
 //! where the words ask for nothing a text on standard error ends with the screen of the subcommand
 //! that they name. A fault of the device is told only where one was counted.
 //!
@@ -64,6 +66,7 @@ mod reading;
 mod shown;
 mod steady;
 mod unpacking;
+mod verifying;
 mod writing;
 
 pub use answer::FAILED;

@@ -166,9 +166,11 @@ struct Looked<H: Host> {
 }
 
 impl<H: Host> Shown for Looked<H> {
-    ghost use Rattle.command_line.specs.Queries.{HasAnswered, HasMissed, HasShown};
+    type Asked = Inquiry;
 
-    ghost glanced = { λ asked old new glance. HasShown asked (H.state old.host) (H.state new.host) glance };
+    ghost use Rattle.command_line.specs.Queries.{HasAnswered, HasMissed, HasShown, reads_info};
+
+    ghost glanced = { λ asked old new glance. HasShown (reads_info asked) (H.state old.host) (H.state new.host) glance };
 
     ghost missed = { λ asked old new fault. HasMissed (H.state old.host) (H.state new.host) fault };
 

@@ -4,10 +4,8 @@ ghost use Rattle.host_core.specs.declared.fault.HostFault.{HostFault as AHostFau
 ghost use Rattle.administration.specs.declared.fault.AdministrationFault.{AdministrationFault as AnAdministrationFault};
 ghost use Rattle.inquiries.specs.declared.glance.Glance.{Glance as AGlance};
 ghost use Rattle.command_line.specs.declared.answer.Answer.{Answer as AnAnswer};
-ghost use Rattle.command_line.specs.declared.questions.Inquiry.{Inquiry as AnInquiry};
 
 use crate::answer::Answer;
-use crate::questions::Inquiry;
 use administration::AdministrationFault;
 use host_core::HostFault;
 use inquiries::Glance;
@@ -15,21 +13,24 @@ use std::alloc::Global;
 
 /// What is asked, and may be changed by others meanwhile: nothing is said of what it shows.
 pub(crate) trait Shown {
+    /// What it is asked.
+    type Asked;
+
     /// What it showed of what changes, from one moment to another.
-    ghost glanced: { AnInquiry → Self → Self → AGlance → Type 0 };
+    ghost glanced: { Self.Asked → Self → Self → AGlance → Type 0 };
 
     /// Why it showed nothing.
-    ghost missed: { AnInquiry → Self → Self → AHostFault → Type 0 };
+    ghost missed: { Self.Asked → Self → Self → AHostFault → Type 0 };
 
     /// What it answered.
-    ghost answered: { AnInquiry → Self → Self → Result AnAnswer AnAdministrationFault → Type 0 };
+    ghost answered: { Self.Asked → Self → Self → Result AnAnswer AnAdministrationFault → Type 0 };
 
     /// Looks at what changes under this question.
-    fn glance(&mut self, alloc: Global, asked: &Inquiry) -> Result<Glance, HostFault>
+    fn glance(&mut self, alloc: Global, asked: &Self::Asked) -> Result<Glance, HostFault>
         ensures glanced { IfOk result (glanced asked.now self.old self.new) }
         ensures missed { IfErr result (missed asked.now self.old self.new) };
 
     /// The answer, whatever changes meanwhile.
-    fn answer(&mut self, alloc: Global, asked: &Inquiry) -> Result<Answer, AdministrationFault>
+    fn answer(&mut self, alloc: Global, asked: &Self::Asked) -> Result<Answer, AdministrationFault>
         ensures { answered asked.now self.old self.new result };
 }

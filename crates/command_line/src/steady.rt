@@ -3,7 +3,6 @@ ghost use Rattle.std.specs.Prelude.{◌≡◌};
 ghost use Rattle.command_line.specs.Steady.{IsCompared, IsSettled, IsTurned, is_final, told_of};
 
 use crate::answer::Answer;
-use crate::questions::Inquiry;
 use crate::shown::Shown;
 use administration::AdministrationFault;
 use inquiries::Glance;
@@ -65,7 +64,7 @@ fn compared(
 }
 
 // One turn: an answer, and what is shown behind it.
-fn take_turn<W: Shown>(alloc: Global, shown: &mut W, asked: &Inquiry, before: &Glance) -> Turn
+fn take_turn<W: Shown>(alloc: Global, shown: &mut W, asked: &W::Asked, before: &Glance) -> Turn
     ensures { IsTurned W.Shown asked.now shown.old before.now shown.new result }
 {
     let answer = shown.answer(alloc, asked);
@@ -82,7 +81,7 @@ fn take_turn<W: Shown>(alloc: Global, shown: &mut W, asked: &Inquiry, before: &G
 pub(crate) fn settle<W: Shown>(
     alloc: Global,
     shown: &mut W,
-    asked: &Inquiry,
+    asked: &W::Asked,
 ) -> Result<Answer, Unanswered>
     ensures { IsSettled W.Shown asked.now shown.old shown.new result }
 {

@@ -101,6 +101,10 @@ configure_app = with_rule (with_forced (calling_app (codes "configure"))) (words
 abbrev pub removing_app : Text → App
 removing_app name = with_rule (calling_app name) (words_rule (codes "PKG") true)
 
+-- `verify [--root DIR] [PKG..]`
+abbrev pub verify_app : App
+verify_app = with_rule (rooted_app (codes "verify")) (words_rule (codes "PKG") false)
+
 -- clap's own flag and subcommand for help are none of ours
 abbrev pub without_help : App → App
 without_help a = record a { top = record a.top { disable_help_flag = true; disable_help_subcommand = true } }
@@ -123,7 +127,7 @@ abbrev pub fourth_apps : List App
 fourth_apps = removing_app (codes "remove") ∷ asking_app (codes "search") (codes "PATH") ∷ asking_app (codes "status") (codes "PKG") ∷ []
 
 abbrev pub last_apps : List App
-last_apps = truename_app ∷ undivert_app ∷ trees_app (codes "unpack") ∷ []
+last_apps = truename_app ∷ undivert_app ∷ trees_app (codes "unpack") ∷ verify_app ∷ []
 
 abbrev pub whole_app : App
 whole_app = with_all (with_all (with_all (with_all (with_all (without_help (new_app (codes "coizkerra"))) first_apps) second_apps) third_apps) fourth_apps) last_apps

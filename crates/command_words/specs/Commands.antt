@@ -11,13 +11,14 @@ use Rattle.command_words.specs.Packages.{configuring_of, removing_of}
 use Rattle.command_words.specs.Topics.{has_help_flag, is_help_flag, topic_in, topic_of}
 use Rattle.command_words.specs.declared.help.Topic.TheVariants.{Program}
 use Rattle.command_words.specs.Unpacks.{unpacking_of}
+use Rattle.command_words.specs.Verifications.{verifying_of}
 use Rattle.command_words.specs.Rehearsals.{is_rehearsable, rehearsal_in}
 use Rattle.host_overlay.specs.declared.failing.AssumedFailure.{AssumedFailure}
 use Rattle.command_words.specs.declared.comparison.Comparison.{Comparison}
 use Rattle.command_words.specs.declared.words.Asked.{Asked}
 use Rattle.command_words.specs.declared.words.Command.{Command}
 use Rattle.command_words.specs.declared.words.Compared.{Compared}
-use Rattle.command_words.specs.declared.words.Asked.TheVariants.{Names, Version, Help, CompareVersions, Divert, Undivert, Unpack, Install, Configure, Remove, Purge, Query}
+use Rattle.command_words.specs.declared.words.Asked.TheVariants.{Names, Version, Help, CompareVersions, Divert, Undivert, Unpack, Install, Configure, Remove, Purge, Query, Verify}
 
 -- the subcommand that the words enter, with the texts of its arguments
 abbrev pub entered : List Text → Option (Text × List Row)
@@ -48,6 +49,7 @@ asked_by name rows =
     else if bytes_eq name (codes "remove") then option_map Remove (removing_of rows)
     else if bytes_eq name (codes "undivert") then option_map Undivert (undiverting_of rows)
     else if bytes_eq name (codes "unpack") then option_map Unpack (unpacking_of rows)
+    else if bytes_eq name (codes "verify") then option_map Verify (verifying_of rows)
     else option_map Query (query_of name rows)
 
 -- and only where it can be carried out, or rehearsed, with them

@@ -11,4 +11,5 @@ pub mod Forced
 pub mod Unpacks
 pub mod Packages
 pub mod Diversions
+pub mod Verifications
 pub mod Commands

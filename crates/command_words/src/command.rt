@@ -2,14 +2,14 @@
 ghost use Rattle.std.specs.Prelude.{◌≡◌, IfOk, codes, false, string_bytes, true};
 ghost use Rattle.clap.specs.Words.{app_of, new_app, rule_of, with_rule, with_subcommand};
 ghost use Rattle.clap.specs.declared.builder.command.Command.TheViews.{out-Command as fields_of};
-ghost use Rattle.command_words.specs.CommandLine.{are_ascending, asking_app, calling_app, changing_app, compare_versions_app, configure_app, divert_app, first_apps, flag_rule, fourth_apps, help_app, last_apps, lines, maybe_word_rule, option_rule, options_rule, removing_app, root_rule, rooted_app, second_apps, subcommand_names, third_apps, trees_app, truename_app, undivert_app, whole_app, with_all, with_diverted, with_forced, with_owner, with_rehearsal, without_help, word_rule, words_rule};
+ghost use Rattle.command_words.specs.CommandLine.{are_ascending, asking_app, calling_app, changing_app, compare_versions_app, configure_app, divert_app, first_apps, flag_rule, fourth_apps, help_app, last_apps, lines, maybe_word_rule, option_rule, options_rule, removing_app, root_rule, rooted_app, second_apps, subcommand_names, third_apps, trees_app, truename_app, undivert_app, verify_app, whole_app, with_all, with_diverted, with_forced, with_owner, with_rehearsal, without_help, word_rule, words_rule};
 
 use clap::{Arg, ArgAction, Command};
 use std::alloc::{AllocError, Global};
 
 // The names of the subcommands that the command below has, one a line.
 const NAMES: &str = "audit\ncompare-versions\nconfigure\ndiversions\ndivert\nhelp\ninstall\n\
-list\nlistfiles\npurge\nremove\nsearch\nstatus\ntruename\nundivert\nunpack\n";
+list\nlistfiles\npurge\nremove\nsearch\nstatus\ntruename\nundivert\nunpack\nverify\n";
 
 /// The names of the subcommands, one a line, in the order of their bytes.
 pub fn subcommand_names(alloc: Global) -> Result<String, AllocError>
@@ -231,6 +231,13 @@ fn removing<'a>(alloc: Global, name: &'a str) -> Result<Command<'a>, AllocError>
     with_arg(calling(alloc, name)?, words(alloc, "PKG", true))
 }
 
+fn verify_command<'a>(alloc: Global) -> Result<Command<'a>, AllocError>
+    ensures app { IfOk result (λ c. app_of c ≡ verify_app) }
+    ensures local { IfOk result (λ c. (fields_of c).has_globals ≡ false) }
+{
+    with_arg(rooted(alloc, "verify")?, words(alloc, "PKG", false))
+}
+
 // Clap makes no flag and no subcommand for help: the subcommand is ours, and a flag for it is a usage fault.
 fn without_help<'a>(command: Command<'a>) -> Command<'a>
     ensures { app_of result ≡ without_help (app_of command.entry) }
@@ -286,7 +293,8 @@ fn with_last<'a>(alloc: Global, whole: Command<'a>) -> Result<Command<'a>, Alloc
 {
     let whole = with(whole, truename_command(alloc)?)?;
     let whole = with(whole, undivert_command(alloc)?)?;
-    with(whole, taking_trees(alloc, "unpack")?)
+    let whole = with(whole, taking_trees(alloc, "unpack")?)?;
+    with(whole, verify_command(alloc)?)
 }
 
 /// The program's command with its subcommands.

@@ -24,6 +24,7 @@ pub enum Topic {
     Truename,
     Undivert,
     Unpack,
+    Verify,
 }
 
 /// The program's name and version.
@@ -36,6 +37,7 @@ const PROGRAM: &str =
   configure [PKG..]              settle conffiles and call postinst
   remove PKG.., purge PKG..      take packages away; with purge their conffiles too
   list, audit                    all packages; those with which something has to be done
+  verify [PKG..]                 what of packages isn't as it was installed
   status PKG, listfiles PKG      the record of a package; the paths that it lists
   search PATH, truename PATH     who has a path; where a path is
   divert PATH, undivert PATH     files of packages go to another place; or no longer
@@ -218,6 +220,15 @@ The flags for conffiles are taken, and not needed.
 Example: dpkg-deb -R hello.deb hello && coizkerra unpack --root /srv/root hello
 ";
 
+const VERIFY: &str =
+    "Tells which listed paths aren't as they were installed, a line each, behind the packages with which
+work was cut off; of all packages where none is named. Status 1 where something is told.
+
+  --root DIR  the root, an absolute directory; / if it isn't given
+
+Example: coizkerra verify --root /srv/root hello
+";
+
 impl Topic {
     /// The subcommand of this name.
     pub(crate) fn read(word: &str) -> Option<Topic>
@@ -240,6 +251,7 @@ impl Topic {
             "truename" => Some(Topic::Truename),
             "undivert" => Some(Topic::Undivert),
             "unpack" => Some(Topic::Unpack),
+            "verify" => Some(Topic::Verify),
             _ => None,
         }
     }
@@ -273,6 +285,7 @@ impl Topic {
                 "undivert [--root DIR] [--wait SECONDS] [--dry-run [--assume-failure PKG:SCRIPT:WORD]..] (--package P | --local) [--rename] PATH",
             Topic::Unpack =>
                 "unpack [--root DIR] [--wait SECONDS] [--dry-run [--assume-failure PKG:SCRIPT:WORD]..] [--scripts-stderr] [--owner-root] [--auto-deconfigure] [--force-confold | --force-confnew] [--force-confmiss] TREE..",
+            Topic::Verify => "verify [--root DIR] [PKG..]",
         }
     }
 
@@ -296,6 +309,7 @@ impl Topic {
             Topic::Truename => TRUENAME,
             Topic::Undivert => UNDIVERT,
             Topic::Unpack => UNPACK,
+            Topic::Verify => VERIFY,
         }
     }
 }

@@ -24,6 +24,7 @@ mod query;
 mod rehearsal;
 mod streams;
 mod unpacking;
+mod verifying;
 mod waits;
 mod words;
 
@@ -37,4 +38,5 @@ pub use packages::{Configuring, Removing};
 pub use query::{Query, Question};
 pub use streams::ScriptStreams;
 pub use unpacking::Unpacking;
+pub use verifying::Verifying;
 pub use words::{Asked, WordsFault, command_of, rehearsal_of};

@@ -9,6 +9,7 @@ ghost use Rattle.command_words.specs.Queries.{query_of};
 ghost use Rattle.command_words.specs.Rehearsals.{rehearsal_in};
 ghost use Rattle.command_words.specs.Topics.{IsToldOf, named_in, topic_in};
 ghost use Rattle.command_words.specs.Unpacks.{unpacking_of};
+ghost use Rattle.command_words.specs.Verifications.{verifying_of};
 ghost use Rattle.command_words.specs.declared.words.WordsFault.TheVariants.{NoMemory};
 
 use crate::command::whole_command;
@@ -21,6 +22,7 @@ use crate::packages::{Configuring, Removing, configuring_of, removing_of};
 use crate::query::{Query, query_of};
 use crate::rehearsal::{is_rehearsable, rehearsal_in};
 use crate::unpacking::{Unpacking, unpacking_of};
+use crate::verifying::{Verifying, verifying_of};
 use clap::ArgMatches;
 use clap::error::ErrorKind;
 use host_overlay::AssumedFailure;
@@ -50,6 +52,7 @@ pub enum Asked {
     Remove(Removing),
     Purge(Removing),
     Query(Query),
+    Verify(Verifying),
 }
 
 /// What is asked of the program, and the calls that are assumed to fail where it is only rehearsed.
@@ -199,6 +202,7 @@ fn asked_by(alloc: Global, name: &str, found: &ArgMatches<'_>) -> Result<Option<
         "remove" => Ok(removing_of(alloc, found)?.map(Asked::Remove)),
         "undivert" => Ok(undiverting_of(alloc, found)?.map(Asked::Undivert)),
         "unpack" => Ok(unpacking_of(alloc, found)?.map(Asked::Unpack)),
+        "verify" => Ok(verifying_of(alloc, found)?.map(Asked::Verify)),
         _ => Ok(query_of(alloc, name, found)?.map(Asked::Query)),
     }
 }

@@ -7,6 +7,7 @@ use Rattle.dependency_check.specs.Waiting.{Waiting}
 use Rattle.dependency_sets.proofs.StrikingLaws.{in_range}
 use Rattle.dependency_sets.specs.Sets.{has}
 use Rattle.recorded_packages.specs.Packages.{ArePackagesOf}
+use Rattle.recorded_packages.proofs.Named.{as_many, names_are}
 use Rattle.relation_index.specs.declared.package.Package.{Package}
 use Rattle.host_core.specs.World.{World}
 use Rattle.status_db.specs.Order.{AreInOrder, IsBefore, IsBeforeAll, names_of}
@@ -20,18 +21,6 @@ use Rattle.status_db.proofs.Ordered.{before_differs, order_apart}
 use Rattle.status_records.proofs.Tables.{record_at}
 use Rattle.configure_run.specs.Asked.{can_wait, is_sound, is_unconfigured}
 use Rattle.configure_run.specs.Starting.{AreNamedApart, AreSilent, AreSilentOf, AreWaiting, IsAt, IsBegun, IsEven, is_named, is_silent, name_at, waits}
-
-pub names_are : (records : List Record) (packages : List Package) → ArePackagesOf records packages → map (λ p. p.name) packages ≡ names_of records
-names_are [] [] are = refl
-names_are [] (p ∷ ps) are = absurd are
-names_are (r ∷ rs) [] are = absurd are
-names_are (r ∷ rs) (p ∷ ps) are = ap (λ (n : List ℕ). n ∷ map (λ q. q.name) ps) are.0.name ∙ ap (λ (l : List (List ℕ)). r.name ∷ l) (names_are rs ps are.1)
-
-pub as_many : (records : List Record) (packages : List Package) → ArePackagesOf records packages → length packages ≡ length records
-as_many [] [] are = refl
-as_many [] (p ∷ ps) are = absurd are
-as_many (r ∷ rs) [] are = absurd are
-as_many (r ∷ rs) (p ∷ ps) are = ap suc (as_many rs ps are.1)
 
 pub begun_even : (names : List (List ℕ)) (records : List Record) (q : Waiting) → IsBegun names records q → IsEven q
 begun_even names records q begun = record {

@@ -2,6 +2,7 @@
 use Rattle.std.specs.Prelude.{◌≡◌, ◌⊎◌, ◌+◌, ℕ, Bool, true, false, List, [], ◌∷◌, Option, Some, None, IfSome}
 use Rattle.std.specs.List.{sum_by}
 use Rattle.conffiles.specs.declared.decisions.ConfPolicy.{ConfPolicy}
+use Rattle.diversions.specs.Diverted.{Diverted}
 use Rattle.dependency_check.specs.Waiting.{Waiting, IsConfigurableNow, IsNextOfConfigurable}
 use Rattle.dependency_sets.specs.Sets.{has}
 use Rattle.held_administration.specs.declared.held.Administration.{Administration}
@@ -47,9 +48,10 @@ pub record IsNoneLeft (silent : List Bool) (taken : Option (ℕ × Bool)) (q : W
 pub record Task : Type 0 where
   pub policy : ConfPolicy
   pub silent : List Bool
+  pub diverted : Diverted
 
 abbrev pub task_of : Configuring → Task
-task_of c = record { policy = c.policy; silent = c.silent.items }
+task_of c = record { policy = c.policy; silent = c.silent.items; diverted = c.diversions.now }
 
 -- what waits behind the turn that was taken last
 abbrev pub left_behind : Waiting → Option (ℕ × Bool) → Waiting

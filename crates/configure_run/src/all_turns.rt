@@ -75,14 +75,16 @@ fn take_turns<H: Host, W: Watcher>(
         taken: None,
         silent,
         policy,
+        diversions,
     };
-    match run_units(host, administration, diversions, &mut turns, units, watcher) {
+    match run_units(host, administration, &mut turns, units, watcher) {
         Ok(()) => {
             let Configuring {
                 queue,
                 taken: _,
                 silent: _,
                 policy: _,
+                diversions: _,
             } = turns;
             match queue {
                 Some(left) => Ok(left),

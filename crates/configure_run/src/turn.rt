@@ -137,16 +137,18 @@ fn take_next<H: Host>(
 }
 
 /// The turns of a configure: the queue, and the turn that was taken last, with whether its package was configured. The queue goes
-/// on behind that turn when the next one is taken; where memory is wanting for it, it is gone.
+/// on behind that turn when the next one is taken; where memory is wanting for it, it is gone. They go by
+/// these diversions.
 #[derive(Drop)]
-pub(crate) struct Configuring {
+pub(crate) struct Configuring<'d> {
+    pub(crate) diversions: &'d Diversions,
     pub(crate) queue: Option<Queue>,
     pub(crate) taken: Option<(usize, bool)>,
     pub(crate) silent: Vec<bool>,
     pub(crate) policy: ConfPolicy,
 }
 
-impl<H: Host> Turns<H> for Configuring {
+impl<'d, H: Host> Turns<H> for Configuring<'d> {
     ghost use Rattle.dependency_check.specs.Waiting.{Waiting};
     ghost use Rattle.dependency_sets.specs.Sets.{has};
     ghost use Rattle.configure_run.specs.Turns.{HasCalledNext, IsAmidTurn, IsTurn};
@@ -170,6 +172,8 @@ impl<H: Host> Turns<H> for Configuring {
 
     ghost goes = { λ task left later. Unit {0} };
 
+    ghost diverted = { λ c. c.diversions.now };
+
     ghost between = { IsBetween };
 
     ghost over = { λ turns left held. IsOver turns left };
@@ -178,7 +182,6 @@ impl<H: Host> Turns<H> for Configuring {
         &mut self,
         host: &mut H,
         administration: &mut Administration,
-        diversions: &Diversions,
         room: bool,
     ) -> Result<Option<Unit>, Unit> {
         let alloc = administration.alloc;
@@ -188,7 +191,7 @@ impl<H: Host> Turns<H> for Configuring {
                     let taken = take_next(
                         host,
                         administration,
-                        diversions,
+                        self.diversions,
                         self.policy,
                         &queue,
                         self.silent.as_slice(),

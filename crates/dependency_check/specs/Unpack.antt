@@ -17,7 +17,7 @@ use Rattle.relation_index.specs.declared.package.Package.{Package}
 -- the version that was configured last meets the clause, with what the package provides today
 abbrev pub met_when_configured : List Alternative → Package → Option (List ℕ) → Bool
 met_when_configured clause p None = false
-met_when_configured clause p (Some version) = clause_admits clause p.name version p.provides
+met_when_configured clause p (Some version) = clause_admits clause p.name p.architecture version p.provides
 
 -- Policy 7.2: what meets a clause of Pre-Depends is installed, or it is unpacked or half-configured, was configured
 -- earlier and not removed since, and the version of then meets the clause too

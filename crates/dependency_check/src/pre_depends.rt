@@ -15,6 +15,7 @@ fn met_when_configured(clause: &Clause, other: &Package) -> bool
     match &other.configured {
         Some(version) => clause.admits(&Offer {
             name: other.name.as_str(),
+            architecture: &other.architecture,
             version,
             provides: &other.provides,
         }),

@@ -8,22 +8,25 @@ use Rattle.std.proofs.lemmas.Slice.Eq.{bytes_eq-Decides}
 use Rattle.dependency_check.specs.Left.{DependsOnLeft}
 use Rattle.dependency_sets.specs.Choices.{IsFirst}
 use Rattle.dependency_sets.specs.Sets.{has}
-use Rattle.recorded_packages.specs.Packages.{ArePackagesOf}
+use Rattle.recorded_packages.specs.Packages.{ArePackagesIn, ArePackagesOf, root_architecture}
 use Rattle.relation_index.specs.declared.package.Package.{Package}
 use Rattle.status_records.specs.Records.{record_in}
 use Rattle.status_records.specs.declared.record.Record.{Record}
 use Rattle.disappearance.specs.Needed.{HasNumber, IsNeedOf, is_called, is_supplied}
 
 -- a recorded package has a number
-pub numbered : (rs : List Record) (ps : List Package) (name : List ℕ) → ArePackagesOf rs ps → is_some (record_in rs name) ≡ true → (x : ℕ) × HasNumber ps name x
-numbered [] [] name are known = absurd (false≢true known)
-numbered [] (p ∷ ps) name are known = absurd are
-numbered (r ∷ rs) [] name are known = absurd are
-numbered (r ∷ rs) (p ∷ ps) name are known = by (bytes_eq r.name name) refl known (numbered rs ps name are.1)
+numbered_in : (root : Option (List ℕ)) (rs : List Record) (ps : List Package) (name : List ℕ) → ArePackagesIn root rs ps → is_some (record_in rs name) ≡ true → (x : ℕ) × HasNumber ps name x
+numbered_in root [] [] name are known = absurd (false≢true known)
+numbered_in root [] (p ∷ ps) name are known = absurd are
+numbered_in root (r ∷ rs) [] name are known = absurd are
+numbered_in root (r ∷ rs) (p ∷ ps) name are known = by (bytes_eq r.name name) refl known (numbered_in root rs ps name are.1)
   where
     by : (b : Bool) → bytes_eq r.name name ≡ b → is_some (cond b (Some r) (record_in rs name)) ≡ true → (is_some (record_in rs name) ≡ true → (x : ℕ) × HasNumber ps name x) → (x : ℕ) × HasNumber (p ∷ ps) name x
     by true same here rest = (0, (p, omega arith, refl, are.0.name ∙ (bytes_eq-Decides r.name name).0 same))
     by false other here rest = let n = rest here in (suc n.0, (n.1.0, omega (arith, n.1.1), n.1.2, n.1.3))
+
+pub numbered : (rs : List Record) (ps : List Package) (name : List ℕ) → ArePackagesOf rs ps → is_some (record_in rs name) ≡ true → (x : ℕ) × HasNumber ps name x
+numbered rs ps name are known = numbered_in (root_architecture rs) rs ps name are known
 
 -- the package of a number has the name, or it hasn't
 pub called_here : (ps : List Package) (name : List ℕ) (x : ℕ) (p : Package) → x < length ps → p ≡ get_or ps x p → is_called name p ≡ true → HasNumber ps name x

@@ -82,6 +82,32 @@ impl Ways {
         }
     }
 
+    // Where a package has the file of a path that is listed in no entry. The path is resolved once.
+    fn place_behind(
+        &self,
+        known: &Known,
+        user: &Text,
+        path: &RootPath,
+    ) -> Result<RootPath, AllocError>
+        requires known { IsKnown known.now self.now }
+        requires unlisted { entry_of self.now.entries path.now ≡ None }
+        ensures { IfOk result (λ p. p ≡ spec.place (ways_of self.now) user.now path.now) }
+    {
+        let place = self.aliases.resolve_path(path)?;
+        if self.aliases.is_empty() {
+            return Ok(place);
+        }
+        match known.entry_at(self, place.as_str())? {
+            None => Ok(place),
+            Some(entry) => {
+                if entry.owner.holds_for(user) {
+                    return self.aliases.resolve(&entry.target)?.at();
+                }
+                Ok(place)
+            }
+        }
+    }
+
     /// Where a package has the file of a path.
     pub(crate) fn place(
         &self,
@@ -92,8 +118,8 @@ impl Ways {
         requires { IsKnown known.now self.now }
         ensures { IfOk result (λ p. p ≡ spec.place (ways_of self.now) user.now path.now) }
     {
-        match self.diversion(known, path)? {
-            None => self.aliases.resolve_path(path),
+        match self.entries.get(path.as_str()) {
+            None => self.place_behind(known, user, path),
             Some(entry) => {
                 if entry.owner.holds_for(user) {
                     return self.aliases.resolve(&entry.target)?.at();

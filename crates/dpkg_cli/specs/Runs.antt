@@ -1,8 +1,12 @@
 -- What the program answers over real directories.
-use Rattle.std.specs.Prelude.{◌≡◌, ◌<◌, ⊤, ℕ, List, []}
+use Rattle.std.specs.Prelude.{◌≡◌, ◌<◌, ◌⊎◌, ⊤, ℕ, Bool, true, false, List, [], ◌∷◌}
 use Rattle.host_files.specs.Replay.{Model, replay}
 use Rattle.command_words.specs.Commands.{asked_of, rehearsal_of}
 use Rattle.command_words.specs.Topics.{named_in}
+use Rattle.dpkg_words.specs.Names.{speaks_dpkg}
+use Rattle.dpkg_words.specs.Translated.{translated}
+use Rattle.dpkg_words.specs.declared.translation.Translated.{Translated}
+use Rattle.dpkg_words.specs.declared.translation.Translated.TheVariants.{Ours, Prints, Selects, Refused}
 use Rattle.command_line.specs.Rehearsed.{IsEndOf}
 use Rattle.command_line.specs.Roots.{Around}
 
@@ -24,3 +28,24 @@ around_real model failed = record {
 abbrev pub IsAnswered : Model → List (List ℕ) → ℕ → Type 0
 IsAnswered model words status = (before after : ℕ)
     × IsEndOf (around_real model (before < after)) (rehearsal_of words) (named_in words) (asked_of words) status
+
+-- What dpkg's words come to: the program's own words are answered, a text is printed with its status, or with 2 where that can't
+-- be done, selections are taken or not, and a refusal ends with 2.
+abbrev pub IsDpkgAnswer : Model → Translated → ℕ → Type 0
+IsDpkgAnswer model (Ours words) status = IsAnswered model words status
+IsDpkgAnswer model (Prints printed) status = (status ≡ printed.status) ⊎ (status ≡ 2)
+IsDpkgAnswer model Selects status = (status ≡ 0) ⊎ (status ≡ 2)
+IsDpkgAnswer model (Refused line) status = status ≡ 2
+
+-- whether words are dpkg's, by the program's name in front of them
+abbrev pub are_dpkgs : List (List ℕ) → Bool
+are_dpkgs [] = false
+are_dpkgs (name ∷ words) = speaks_dpkg name
+
+-- the answer by the program's name
+abbrev pub IsNamedAnswerBy : Bool → Model → List (List ℕ) → ℕ → Type 0
+IsNamedAnswerBy true model words status = IsDpkgAnswer model (translated words) status
+IsNamedAnswerBy false model words status = IsAnswered model words status
+
+abbrev pub IsNamedAnswer : Model → List (List ℕ) → ℕ → Type 0
+IsNamedAnswer model words status = IsNamedAnswerBy (are_dpkgs words) model words status

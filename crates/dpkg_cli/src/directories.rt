@@ -4,6 +4,7 @@ ghost use Rattle.host_core.specs.declared.fault.HostFault.TheVariants.{Declined,
 ghost use Rattle.command_line.specs.declared.fault.RootFault.TheVariants.{Host as OfHost};
 
 use crate::architectures::Architectures;
+use crate::archives::Archives;
 use crate::locks::{Held, locks_of};
 use crate::progress::Line;
 use crate::watched::Watched;
@@ -31,6 +32,7 @@ pub(crate) struct Directories<'a, D: Disk> {
     trees: usize,
     /// Of the root that was given back, if the device failed there or a step was declined.
     failure: Option<Failure>,
+    archives: Archives,
     disk: PhantomData<D>,
 }
 
@@ -99,6 +101,7 @@ impl<'a, D: Disk> Directories<'a, D> {
             line,
             trees: 0,
             failure: None,
+            archives: Archives::none(),
             disk: PhantomData,
         }
     }
@@ -113,6 +116,53 @@ impl<'a, D: Disk> Directories<'a, D> {
     pub(crate) fn tell_failure(&self) {
         if let Some(failure) = &self.failure {
             self.tell(failure);
+        }
+    }
+
+    /// Takes away what archives were unpacked into.
+    pub(crate) fn drop_archives(&mut self) {
+        self.archives.drop_last(&self.rt);
+    }
+
+    // Where a tree lies: of an archive the directory that it is unpacked into, else where its word says.
+    fn place_of(&mut self, tree: &str) -> Result<Option<String>, HostFault>
+        ensures faults { self.old.faults ≤ self.new.faults }
+        ensures cause { IsErrOf result Device → self.old.faults < self.new.faults }
+        ensures undeclined { IsErrOf result Declined → ⊥ }
+    {
+        match self.archives.tree_of(&self.rt, tree) {
+            Ok(place) => Ok(place),
+            Err(error) => Err(self.failed_at(tree, &error)),
+        }
+    }
+
+    // Tells a person of the system's error at a place, and counts a fault of the device.
+    fn failed_at(&mut self, place: &str, error: &io::Error) -> HostFault
+        ensures faults { self.old.faults ≤ self.new.faults }
+        ensures cause { result ≡ Device → self.old.faults < self.new.faults }
+        ensures undeclined { result ≡ Declined → ⊥ }
+        ensures lock { self.new.lock ≡ self.old.lock }
+    {
+        self.line.clear();
+        match fault_of(&self.rt, place, error) {
+            HostFault::NoMemory => HostFault::NoMemory,
+            _ => self.failed(),
+        }
+    }
+
+    // Archives are unpacked below the root from now on, where its locks are held.
+    fn hold_archives(&mut self, directory: &str) -> Result<(), HostFault>
+        ensures faults { self.old.faults ≤ self.new.faults }
+        ensures cause { IsErrOf result Device → self.old.faults < self.new.faults }
+        ensures undeclined { IsErrOf result Declined → ⊥ }
+        ensures lock { self.new.lock ≡ self.old.lock }
+    {
+        if matches!(self.lock, None | Some(Held::Nothing)) {
+            return Ok(());
+        }
+        match self.archives.hold(&self.rt, directory) {
+            Ok(()) => Ok(()),
+            Err(error) => Err(self.failed_at(directory, &error)),
         }
     }
 
@@ -244,6 +294,7 @@ impl<'a, D: Disk> Hosts for Directories<'a, D> {
     ) -> Result<Watched<'a, D>, RootFault> {
         let host = self.open(directory)?;
         self.lock(directory, wait)?;
+        self.hold_archives(directory)?;
         let mut host = self.locked(directory, host)?;
         host.set_script_streams(streams_of(streams));
         Ok(self.watched(host))
@@ -255,13 +306,18 @@ impl<'a, D: Disk> Hosts for Directories<'a, D> {
     }
 
     fn open_tree(&mut self, tree: &str, owners: TreeOwners) -> Result<Watched<'a, D>, HostFault> {
-        if is_superuser() && matches!(owners, TreeOwners::Kept) {
+        self.line.show_tree(tree, self.trees);
+        self.trees = self.trees.saturating_add(1);
+        let unpacked = self.place_of(tree)?;
+        let place = match &unpacked {
+            Some(place) => place.as_str(),
+            None => tree,
+        };
+        if unpacked.is_none() && is_superuser() && matches!(owners, TreeOwners::Kept) {
             self.line.clear();
             tell_owner(&self.rt, tree);
         }
-        self.line.show_tree(tree, self.trees);
-        self.trees = self.trees.saturating_add(1);
-        let mut host = self.open(tree)?;
+        let mut host = self.open(place)?;
         host.set_tree();
         Ok(self.watched(host))
     }

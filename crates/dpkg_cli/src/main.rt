@@ -5,15 +5,19 @@
 //!
 //! The program's hosts are generic in the account of the disk (`Directories`); `run` ends, for
 //! every account, with the status of the answer to its words, or of want of memory, or with 2 where
-//! not all of that could be written (`answered`: `IsAnswered`), and `code_of` says that the program
+//! not all of that could be written (`answered`: `IsAnswered`). Where the program has one of dpkg's
+//! names its words are dpkg's: `run_named` ends with the status of the answer to what they are
+//! translated to by the definition of dpkg_words (`IsNamedAnswer`). `code_of` says that the program
 //! ends with that status; that `main` calls these is read.
 #![tactic(auto)]
 
-ghost use Rattle.std.specs.Prelude.{◌≡◌, ◌≤◌, map, string_bytes};
+ghost use Rattle.std.specs.Prelude.{◌≡◌, ◌≤◌, ◌⊎◌, map, string_bytes};
 ghost use Rattle.std.specs.Process.{exit_status};
-ghost use Rattle.dpkg_cli.specs.Runs.{IsAnswered};
+ghost use Rattle.dpkg_words.specs.Translated.{translated};
+ghost use Rattle.dpkg_cli.specs.Runs.{IsAnswered, IsDpkgAnswer, IsNamedAnswer, are_dpkgs};
 
 mod architectures;
+mod archives;
 mod directories;
 mod fixed_lines;
 mod locks;
@@ -25,13 +29,14 @@ mod watched;
 
 use command_line::{FAILED, run_words};
 use directories::Directories;
+use dpkg_words::{Printed, Translated, are_set_anyway, speaks_dpkg, translate};
 use fixed_lines::FixedLines;
 use host_files::{Disk, Unknown};
 use mask::{Masked, under_mask};
 use progress::{Beside, Going, Line, going_through};
 use standard_streams::fill_missing;
 use std::cell::Cell;
-use std::io::{ErrorKind, IsTerminal, Write};
+use std::io::{ErrorKind, Input, IsTerminal, Write};
 use std::process::ExitCode;
 use std::rt::Env;
 use std::{env, io};
@@ -57,6 +62,16 @@ fn line_of<'a>(rt: HostRuntime, going: Option<Going>, told: &'a Cell<usize>) -> 
         going: if is_shown { going } else { None },
         columns: if is_shown { columns_of(&rt) } else { 0 },
         told,
+    }
+}
+
+// Whether the words are dpkg's, by the name of the program.
+fn are_dpkgs(words: &[String]) -> bool
+    ensures { result ≡ are_dpkgs (map string_bytes words.now) }
+{
+    match words.first() {
+        Some(name) => speaks_dpkg(name.as_str()),
+        None => false,
     }
 }
 
@@ -87,6 +102,7 @@ fn run<D: Disk>(rt: HostRuntime, going: Option<Going>, words: &[String]) -> u8
     let status = run_words(rt.alloc(), &mut hosts, words, &mut out, &mut err);
     line.clear();
     hosts.tell_failure();
+    hosts.drop_archives();
     status
 }
 
@@ -105,15 +121,98 @@ fn status_of(code: Option<i32>) -> u8 {
     }
 }
 
+// Writes a text, for want of which the status is another.
+fn give<W: Write + Drop>(mut out: W, text: &str, status: u8) -> u8
+    ensures { (result ≡ status) ⊎ (result ≡ 2) }
+{
+    if out.write_all(text.as_bytes()).is_ok() && out.flush().is_ok() {
+        return status;
+    }
+    FAILED
+}
+
+fn print(rt: HostRuntime, printed: &Printed) -> u8
+    ensures { (result ≡ printed.now.status) ⊎ (result ≡ 2) }
+{
+    give(io::writer(&rt), printed.text.as_str(), printed.status)
+}
+
+fn refuse(rt: HostRuntime, line: &str) -> u8
+    ensures { result ≡ 2 }
+{
+    let stderr = rt.stderr();
+    give(io::writer(&stderr), line, FAILED)
+}
+
+// Takes what standard input selects, where the commands set it themselves.
+fn select(rt: HostRuntime) -> u8
+    ensures { (result ≡ 0) ⊎ (result ≡ 2) }
+{
+    match io::read_to_string(rt.alloc(), rt.reader()) {
+        Ok(lines) if are_set_anyway(lines.as_str().as_bytes()) => 0,
+        Ok(_) => refuse(rt, "error: no package can be held here\n"),
+        Err(_) => refuse(rt, "error: standard input can't be read\n"),
+    }
+}
+
+// What dpkg's words come to, over real directories.
+fn run_translated<D: Disk>(rt: HostRuntime, going: Option<Going>, translated: &Translated) -> u8
+    ensures { IsDpkgAnswer D.Disk.model translated.now result }
+{
+    match translated {
+        Translated::Ours(words) => run::<D>(rt, going, words.as_slice()),
+        Translated::Prints(printed) => print(rt, printed),
+        Translated::Selects => select(rt),
+        Translated::Refused(line) => refuse(rt, line.as_str()),
+    }
+}
+
+fn run_dpkg<D: Disk>(rt: HostRuntime, going: Option<Going>, words: &[String]) -> u8
+    ensures { IsDpkgAnswer D.Disk.model (translated (map string_bytes words.now)) result }
+{
+    match translate(rt.alloc(), words) {
+        Ok(translated) => run_translated::<D>(rt, going, &translated),
+        Err(_) => refuse(rt, "broken memory\n"),
+    }
+}
+
+// What the words come to by the program's name: dpkg's are translated.
+fn run_named<D: Disk>(rt: HostRuntime, going: Option<Going>, words: &[String]) -> u8
+    ensures { IsNamedAnswer D.Disk.model (map string_bytes words.now) result }
+{
+    if are_dpkgs(words) {
+        run_dpkg::<D>(rt, going, words)
+    } else {
+        run::<D>(rt, going, words)
+    }
+}
+
+// What the words go through, and the mask that scripts are to have.
+fn begin(rt: &HostRuntime, given: &[String], words: &[String]) -> (Option<Going>, Masked) {
+    let going = going_through(rt.alloc(), words);
+    let masked = match going {
+        Some(_) => under_mask(rt, given, words),
+        None => Masked::Here,
+    };
+    (going, masked)
+}
+
+fn begin_named(rt: &HostRuntime, words: &[String]) -> (Option<Going>, Masked) {
+    if !are_dpkgs(words) {
+        return begin(rt, words, words);
+    }
+    match translate(rt.alloc(), words) {
+        Ok(Translated::Ours(own)) => begin(rt, words, own.as_slice()),
+        _ => (None, Masked::Here),
+    }
+}
+
 // Carries out the words, with the mask that scripts are to have where they may be run.
 fn carry_out(rt: HostRuntime, words: &[String]) -> u8 {
-    let going = going_through(rt.alloc(), words);
-    if going.is_some() {
-        if let Masked::There(code) = under_mask(&rt, words) {
-            return status_of(code);
-        }
+    match begin_named(&rt, words) {
+        (_, Masked::There(code)) => status_of(code),
+        (going, Masked::Here) => run_named::<Unknown>(rt, going, words),
     }
-    run::<Unknown>(rt, going, words)
 }
 
 // What a program can say that has no open streams.

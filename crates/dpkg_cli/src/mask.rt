@@ -1,8 +1,11 @@
 // The mask under which scripts make files. The program has no call that sets it, so it starts itself once more below a shell
 // that does.
+use dpkg_words::speaks_dpkg;
 use std::os::fd::AsFd;
 use std::process::{Child, Command, Stdio};
 use std::{env, fs, io};
+
+const MISNAMED: &str = "the file of the program has one of dpkg's names";
 
 // what scripts are to have, as the system tells it
 const WANTED: &str = "0022";
@@ -45,9 +48,24 @@ fn copy_of<S: AsFd>(stream: &S) -> io::Result<Stdio> {
     Ok(Stdio::from(stream.as_fd().try_clone_to_owned()?))
 }
 
-// The shell that sets the mask and becomes this program, which is given the same words but for its name.
-fn masking(rt: &HostRuntime, words: &[String]) -> io::Result<Command> {
+// Whether the words are to be dpkg's for the program that is started by this path, as they are for this one.
+fn is_dpkg_still(program: &str, given: &[String]) -> io::Result<bool> {
+    let is_dpkg = speaks_dpkg(program);
+    match given.first() {
+        Some(name) if is_dpkg && !speaks_dpkg(name.as_str()) => Err(io::Error::other(MISNAMED)),
+        _ => Ok(is_dpkg),
+    }
+}
+
+// The shell that sets the mask and becomes this program, which is given the same words but for its name: by its path it has
+// another, so that dpkg's words are given as they were or in the program's own.
+fn masking(rt: &HostRuntime, given: &[String], own: &[String]) -> io::Result<Command> {
     let program = env::current_exe(rt)?;
+    let words = if is_dpkg_still(program.as_str(), given)? {
+        given
+    } else {
+        own
+    };
     let mut command = Command::new(rt.alloc(), SHELL)?;
     command.arg("-c")?;
     command.arg("umask 022; exec \"$@\"")?;
@@ -61,8 +79,8 @@ fn masking(rt: &HostRuntime, words: &[String]) -> io::Result<Command> {
 }
 
 // The other program has this one's streams, copied, so that it has also those that were missing.
-fn start(rt: &HostRuntime, words: &[String]) -> io::Result<Child> {
-    let mut command = masking(rt, words)?;
+fn start(rt: &HostRuntime, given: &[String], own: &[String]) -> io::Result<Child> {
+    let mut command = masking(rt, given, own)?;
     command.stdin(copy_of(&rt.stdin())?);
     command.stdout(copy_of(&rt.stdout())?);
     command.stderr(copy_of(&rt.stderr())?);
@@ -93,14 +111,15 @@ fn is_wanted(mask: &Option<String>) -> bool {
     }
 }
 
-/// Carries out words under the mask: here if this program has it already, or can't get it, which a person is told.
-pub(crate) fn under_mask(rt: &HostRuntime, words: &[String]) -> Masked {
+/// Carries out words under the mask, which are given as dpkg's or the program's own: here if this program has it already, or
+/// can't get it, which a person is told.
+pub(crate) fn under_mask(rt: &HostRuntime, given: &[String], own: &[String]) -> Masked {
     let mask = mask_of(rt);
     if is_wanted(&mask) {
         return Masked::Here;
     }
     if !is_marked(rt) && fs::metadata(rt, SHELL).is_ok() {
-        if let Ok(child) = start(rt, words) {
+        if let Ok(child) = start(rt, given, own) {
             return Masked::There(status_of(child));
         }
     }

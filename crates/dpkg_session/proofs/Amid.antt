@@ -23,12 +23,15 @@ use Rattle.unit_reports.specs.declared.report.Unit.{Unit as AUnit}
 use Rattle.dpkg_session.specs.Refusals.{IsDecisionFor}
 use Rattle.dpkg_session.specs.Units.{HasUnpackedBeside, held_with}
 use Rattle.dpkg_session.proofs.Runs.{falls_run}
-use Rattle.dpkg_session.specs.Run.{IsAmidBeside, IsAmidBy, IsAmidNext, IsAmidPackage, IsAmidRun, IsAmidUnitOf, IsAmidUnpack, IsRun}
+use Rattle.dpkg_session.specs.Run.{IsAmidBeside, IsAmidBy, IsAmidDecided, IsAmidNext, IsAmidPackage, IsAmidRun, IsAmidUnitOf, IsAmidUnpack, IsRun}
 
 -- nothing is done yet
 
 package_start : (auto : Bool) (p : Package) (before : Held) (w : World) → IsAmidPackage auto p before w [] w
 package_start auto p before w = inl (refl, refl)
+
+pub since_decided_start : (auto : Bool) (p : Package) (before : Held) (s : State) → Since (IsAmidDecided auto p before s.world) s s
+since_decided_start auto p before s = since_start (IsAmidDecided auto p before s.world) s (inl (refl, refl))
 
 unit_start : (auto : Bool) (tree : Result Package TreeFault) (before : Held) (w : World) → IsAmidUnitOf auto tree before w [] w
 unit_start auto (Err fault) before w = refl
@@ -126,9 +129,9 @@ pub since_unpack_start : (p : Package) (beside : Beside) (before : Held) (s : St
 since_unpack_start p beside before s = since_start (IsAmidUnpack p beside before s.world) s (inl (inl (refl, refl)))
 
 pub since_decided : (auto : Bool) (p : Package) (beside : Beside) (decision : Checked) (before : Held) (s t : State) → IsDecisionFor p auto before decision → decision ≡ Planned beside
-    → Since (IsAmidUnpack p beside before s.world) s t → Since (IsAmidPackage auto p before s.world) s t
+    → Since (IsAmidUnpack p beside before s.world) s t → Since (IsAmidDecided auto p before s.world) s t
 since_decided auto p beside decision before s t decided is since =
-    since_weaker (IsAmidUnpack p beside before s.world) (IsAmidPackage auto p before s.world) s t
+    since_weaker (IsAmidUnpack p beside before s.world) (IsAmidDecided auto p before s.world) s t
     (λ so_far w amid. inr (decision, decided, subst (λ d. IsAmidBy p d before s.world so_far w) (sym is) amid)) since
 
 -- a tree that was read

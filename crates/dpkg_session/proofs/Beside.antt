@@ -32,27 +32,28 @@ use Rattle.unpack_relations.specs.declared.checking.Checked.TheVariants.{Planned
 use Rattle.dpkg_session.specs.declared.report.Candidate.{Candidate}
 use Rattle.unit_reports.specs.declared.report.Unit.{Unit as AUnit}
 use Rattle.unit_reports.specs.Held.{Held}
+use Rattle.dpkg_session.specs.Growth.{grown}
 use Rattle.dpkg_session.specs.Run.{IsRun}
 use Rattle.dpkg_session.specs.Units.{IsUnitBy, IsUnitOf, displacing_by, held_with}
 use Rattle.dpkg_session.proofs.Displaced.{behind_leaves}
 use Rattle.dpkg_session.proofs.Keeping.{IsUnnamed}
 use Rattle.dpkg_session.proofs.Runs.{falls_run}
 
--- the ways of a run
+-- the entries of a run
 
 ways_by : (p : Package) (decision : Checked) (before after : Held) (u : AUnit) (s t : State) → IsUnitBy p decision before after u s t → after.ways ≡ before.ways
 ways_by p (Refused rule) before after u s t is = ap (λ (h : Held). h.ways) is.held
 ways_by p (Planned beside) before after u s t is = is.ways
 
-ways_unit : (auto : Bool) (label : List ℕ) (tree : Result Package TreeFault) (before after : Held) (u : AUnit) (s t : State) → IsUnitOf auto label tree before after u s t → after.ways ≡ before.ways
-ways_unit auto label (Err fault) before after u s t is = ap (λ (h : Held). h.ways) is.held
-ways_unit auto label (Ok p) before after u s t is = ways_by p is.0 before after u s t is.2
+entries_unit : (auto : Bool) (label : List ℕ) (tree : Result Package TreeFault) (before after : Held) (u : AUnit) (s t : State) → IsUnitOf auto label tree before after u s t → after.ways.entries ≡ before.ways.entries
+entries_unit auto label (Err fault) before after u s t is = ap (λ (h : Held). h.ways.entries) is.held
+entries_unit auto label (Ok p) before after u s t (added, read, is) = ap (λ (w : Ways). w.entries) (ways_by p is.0 (grown before added) after u s t is.2)
 
-pub ways_run : (auto : Bool) (cs : List Candidate) (us : List AUnit) (before after : Held) (s t : State) → IsRun auto cs us before after s t → after.ways ≡ before.ways
-ways_run auto [] [] before after s t run = ap (λ (h : Held). h.ways) run.1
-ways_run auto [] (u ∷ us) before after s t run = absurd run
-ways_run auto (c ∷ cs) [] before after s t run = absurd run
-ways_run auto (c ∷ cs) (u ∷ us) before after s t run = ways_run auto cs us run.1 after run.0 t run.3 ∙ ways_unit auto c.label c.tree before run.1 u s run.0 run.2.is
+pub entries_run : (auto : Bool) (cs : List Candidate) (us : List AUnit) (before after : Held) (s t : State) → IsRun auto cs us before after s t → after.ways.entries ≡ before.ways.entries
+entries_run auto [] [] before after s t run = ap (λ (h : Held). h.ways.entries) run.1
+entries_run auto [] (u ∷ us) before after s t run = absurd run
+entries_run auto (c ∷ cs) [] before after s t run = absurd run
+entries_run auto (c ∷ cs) (u ∷ us) before after s t run = entries_run auto cs us run.1 after run.0 t run.3 ∙ entries_unit auto c.label c.tree before run.1 u s run.0 run.2.is
 
 -- a path of the program's own that is neither in `info` nor in `tmp.ci`, and at which no record is written
 record IsFar (q : Path) : Type 0 where
@@ -126,7 +127,7 @@ stays_by q far p (Planned beside) before after u s t is h =
 
 stays_unit : (auto : Bool) (q : Path) → IsFar q → (label : List ℕ) (tree : Result Package TreeFault) (before after : Held) (u : AUnit) (s t : State) → IsUnitOf auto label tree before after u s t → IsTrue t.honest → t.world q ≡ s.world q
 stays_unit auto q far label (Err fault) before after u s t is h = ap (λ w. w q) (is.world h)
-stays_unit auto q far label (Ok p) before after u s t is h = stays_by q far p is.0 before after u s t is.2 h
+stays_unit auto q far label (Ok p) before after u s t (added, read, is) h = stays_by q far p is.0 (grown before added) after u s t is.2 h
 
 stays_run : (auto : Bool) (q : Path) → IsFar q → (cs : List Candidate) (us : List AUnit) (before after : Held) (s t : State) → IsRun auto cs us before after s t → IsTrue t.honest → t.world q ≡ s.world q
 stays_run auto q far [] [] before after s t run h = ap (λ (x : State). x.world q) run.0

@@ -9,7 +9,7 @@ use Rattle.administration.specs.Places.{diversions_path, info_path, temporary}
 use Rattle.administration.proofs.WholeFiles.{no_directory_at}
 use Rattle.undo_rows.specs.Place.{Place}
 use Rattle.undo_rows.specs.Transcripts.{Ended, Committed, Unwound}
-use Rattle.diversions.specs.Ways.{Ways}
+use Rattle.diversions.specs.declared.entry.Diversion.{Diversion}
 use Rattle.diversions.specs.Lines.{HasEntries}
 use Rattle.file_lists.specs.Info.{AreLoose, AreSound}
 use Rattle.file_lists.specs.Lists.{HasLists}
@@ -43,9 +43,10 @@ use Rattle.dpkg_session.specs.declared.report.Candidate.{Candidate}
 use Rattle.unit_reports.specs.declared.report.Unit.{Unit as AUnit}
 use Rattle.unit_reports.specs.Held.{Held, places_of}
 use Rattle.dpkg_session.specs.History.{Stands}
+use Rattle.dpkg_session.specs.Growth.{grown}
 use Rattle.dpkg_session.specs.Run.{IsRun}
 use Rattle.dpkg_session.specs.Units.{HasUnpackedBeside, IsUnitBy, IsUnitOf, IsUnpacked, displacing_by, given_by, held_with, yielding}
-use Rattle.dpkg_session.proofs.Beside.{diverted_run, diverted_spare_run, ways_run}
+use Rattle.dpkg_session.proofs.Beside.{diverted_run, diverted_spare_run, entries_run}
 use Rattle.dpkg_session.proofs.Certain.{lists_had}
 use Rattle.dpkg_session.proofs.Displaced.{behind_leaves}
 use Rattle.dpkg_session.proofs.Keeping.{KeepsUnnamed}
@@ -150,7 +151,8 @@ info_by p (Unpacks beside) before after u s t is h info = whole_info p beside be
 
 info_unit : (auto : Bool) (label : List ℕ) (tree : Result Package TreeFault) (before after : Held) (u : AUnit) (s t : State) → IsUnitOf auto label tree before after u s t → IsTrue t.honest → HasInfo before s.world → HasInfo after t.world
 info_unit auto label (Err fault) before after u s t is h info = same_info before after s.world t.world is.held (is.world h) info
-info_unit auto label (Ok p) before after u s t is h info = info_by p is.0 before after u s t is.2 h info
+info_unit auto label (Ok p) before after u s t (added, read, is) h info =
+    info_by p is.0 (grown before added) after u s t is.2 h (record { text = info.text; standing = info.standing; sound = info.sound })
 
 -- and a run of them
 
@@ -169,7 +171,7 @@ found_run auto cs us before after s t run h order found =
       info = directory_there (t.world info_path) order.info;
       updates = order.kept.unblocked.updates;
       text = info.text;
-      diversions = subst (λ (l : Ways). HasEntries (t.world diversions_path) l.entries) (sym (ways_run auto cs us before after s t run))
+      diversions = subst (λ (l : List Diversion). HasEntries (t.world diversions_path) l) (sym (entries_run auto cs us before after s t run))
           (subst (λ n. HasEntries n before.ways.entries) (sym (diverted_run auto cs us before after s t run h)) found.diversions);
       diversions_spare = no_directory_at (t.world (temporary diversions_path)) (s.world (temporary diversions_path)) (diverted_spare_run auto cs us before after s t run h) found.diversions_spare;
       tmp = order.tmp;

@@ -76,7 +76,7 @@ done_stands : (ran : Ran) (before after : Held) (s t : State) → HasDone ran be
 done_stands (Unpacked auto candidates units) before after s t done h found =
     found_run auto candidates units before after s t done h (ready_run auto candidates units before after s t done (λ honest. order_standing before s.world (standing_found before s.world found)) h) found
 done_stands (Diverted asked unit) before after s t done h found =
-    kept_rest before after t.world done.1 (found_diverted before.records before.lists asked _ before.ways after.ways unit s t done.0 h found)
+    kept_rest before after t.world done.1 (found_diverted before.records before.lists asked before.ways after.ways unit s t done.0 h found)
 done_stands (Undiverted asked unit) before after s t done h found =
     kept_rest before after t.world done.1 (found_undiverted before.records before.lists asked before.ways after.ways unit s t done.0 h found)
 done_stands (Configured names policy units) before after s t done h found = carries_found before after s t (configure_carries names policy units before after s t done) h found

@@ -27,7 +27,7 @@ use Rattle.dpkg_session.specs.Units.{HasCalledBeside, HasUnpackedBeside, HaveRow
 none_before : (es fs : List Event) → scripts_of es ≡ [] → scripts_of fs ≡ [] → scripts_of (es ++ fs) ≡ []
 none_before es fs first second = scripts_of-append es fs ∙ ap (λ (l : List Event). l ++ scripts_of fs) first ∙ second
 
-none_failed : (es : List Event) → AllFailed es → scripts_of es ≡ []
+pub none_failed : (es : List Event) → AllFailed es → scripts_of es ≡ []
 none_failed [] all = refl
 none_failed (Did step ∷ es) all = elim all [ ]
 none_failed (Finished ran ∷ es) all = elim all [ ]
@@ -47,11 +47,11 @@ module _ (g : Given) (places : List Path) (s m : State) (reads : Reads s m) (sil
     under_way = under_way_behind (ground_of g places) amid.plan s.world early none so_far now (subst (λ w. IsUnderWay (ground_of g places) amid.plan w so_far now) reads.world amid.under_way);
   })
 
-  failed_from : (t : State) (u : Option Unwinding) → HasFailedFor g m t u → HasFailedFor g s t u
+  pub failed_from : (t : State) (u : Option Unwinding) → HasFailedFor g m t u → HasFailedFor g s t u
   failed_from t u failed = record { plan = failed.plan; plan_for = plan_from t.honest failed.plan failed.plan_for; cause = failed.cause }
 
   module _ (t : State) (told now : List Called) where
-    called_from : HasCalled g m t told now → HasCalled g s t told now
+    pub called_from : HasCalled g m t told now → HasCalled g s t told now
     called_from (HasCalled.unplanned quiet same) = HasCalled.unplanned (silent_then s m t silent quiet) same
     called_from (HasCalled.planned plan is rows) = HasCalled.planned plan (plan_from t.honest plan is) (called_behind plan.rows s m t told now silent rows)
 
@@ -77,7 +77,7 @@ module _ (g : Given) (places : List Path) (s m : State) (reads : Reads s m) (sil
         lists_are = carried.lists_are;
       }
 
-      unpacked_from : HasUnpacked g places ended after lists m t told now → HasUnpacked g places ended after lists s t told now
+      pub unpacked_from : HasUnpacked g places ended after lists m t told now → HasUnpacked g places ended after lists s t told now
       unpacked_from is = record { plan = is.plan; plan_for = plan_from t.honest is.plan is.plan_for; carried_out = carried_from is.plan is.carried_out }
 
 module _ (p : Package) (beside : Beside) (h : Held) (places : List Path) (s m : State) (reads : Reads s m) (silent : Silent s m) where

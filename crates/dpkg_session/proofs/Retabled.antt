@@ -12,7 +12,7 @@ use Rattle.administration.specs.Directories.{HasBadName}
 use Rattle.administration.specs.Files.{NoDirectory}
 use Rattle.administration.specs.Places.{home_path, info_path, status_path, updates_path, tmp_path, temporary}
 use Rattle.administration.proofs.WholeFiles.{no_directory_at}
-use Rattle.aliases.specs.Aliases.{resolved}
+use Rattle.aliases.specs.Aliases.{Alias, resolved}
 use Rattle.diversions.specs.Changes.{HasAdded, HasRemoved, IsRecorded, moved_if}
 use Rattle.diversions.specs.Entries.{without}
 use Rattle.diversions.specs.Ways.{truename, Ways}
@@ -37,7 +37,8 @@ use Rattle.status_records.specs.declared.record.Record.{Record}
 use Rattle.dpkg_session.specs.declared.asked.Diverting.{Diverting}
 use Rattle.dpkg_session.specs.declared.asked.Undiverting.{Undiverting}
 use Rattle.unit_reports.specs.declared.report.Unit.{Unit as AUnit}
-use Rattle.dpkg_session.specs.Diversions.{IsDiverted, IsUndiverted, LeavesAnswer, asked_entry, by_answer, with_entries}
+use Rattle.dpkg_session.specs.Growth.{with_more}
+use Rattle.dpkg_session.specs.Diversions.{HasDiverted, HasUndiverted, IsDiverted, IsUndiverted, LeavesAnswer, asked_entry, by_answer, with_entries}
 use Rattle.unit_reports.specs.Held.{Held}
 use Rattle.dpkg_session.specs.Standing.{IsStanding}
 use Rattle.dpkg_session.proofs.Shipped.{resolved_shipped}
@@ -177,14 +178,22 @@ module _ (X : Ways → World → Type 0) (keep : (before after : Ways) (old new 
       (λ left. keep before left_entries s.world t.world (record { moves = moves_back asked.rename s.world target place; from = target; to = place; ship_from = is.shipped.target; ship_to = resolved_shipped before.aliases asked.path is.shipped.path; recorded = left }))
 
 module _ (d : Recorded) (lists : List PackageList) where
-  pub standing_diverted : (asked : Diverting) (seen : Seen) (before after : Ways) (u : AUnit) (s t : State) → IsDiverted asked seen before after u s t → IsTrue t.honest → IsStanding (with_ways d lists before) s.world → IsStanding (with_ways d lists after) t.world
-  standing_diverted = diverted_kept (λ ways. IsStanding (with_ways d lists ways)) (λ before after old new is. standing_retabled d lists before after old new is)
+  -- with more aliases it stands alike
+  standing_more : (ways : Ways) (added : List Alias) (w : World) → IsStanding (with_ways d lists ways) w → IsStanding (with_ways d lists (with_more ways added)) w
+  standing_more ways added w standing = standing
 
-  pub standing_undiverted : (asked : Undiverting) (before after : Ways) (u : AUnit) (s t : State) → IsUndiverted asked before after u s t → IsTrue t.honest → IsStanding (with_ways d lists before) s.world → IsStanding (with_ways d lists after) t.world
-  standing_undiverted = undiverted_kept (λ ways. IsStanding (with_ways d lists ways)) (λ before after old new is. standing_retabled d lists before after old new is)
+  pub standing_diverted : (asked : Diverting) (before after : Ways) (u : AUnit) (s t : State) → HasDiverted asked d.records lists before after u s t → IsTrue t.honest → IsStanding (with_ways d lists before) s.world → IsStanding (with_ways d lists after) t.world
+  standing_diverted asked before after u s t is h standing =
+      diverted_kept (λ ways. IsStanding (with_ways d lists ways)) (λ first last old new made. standing_retabled d lists first last old new made) asked _ (with_more before is.added) after u s t is.is h (standing_more before is.added s.world standing)
 
-  pub found_diverted : (asked : Diverting) (seen : Seen) (before after : Ways) (u : AUnit) (s t : State) → IsDiverted asked seen before after u s t → IsTrue t.honest → IsFound d.records d.notes lists before.entries s.world → IsFound d.records d.notes lists after.entries t.world
-  found_diverted = diverted_kept (λ ways. IsFound d.records d.notes lists ways.entries) (λ before after old new is. found_retabled d lists before after old new is)
+  pub standing_undiverted : (asked : Undiverting) (before after : Ways) (u : AUnit) (s t : State) → HasUndiverted asked before after u s t → IsTrue t.honest → IsStanding (with_ways d lists before) s.world → IsStanding (with_ways d lists after) t.world
+  standing_undiverted asked before after u s t is h standing =
+      undiverted_kept (λ ways. IsStanding (with_ways d lists ways)) (λ first last old new made. standing_retabled d lists first last old new made) asked (with_more before is.added) after u s t is.is h (standing_more before is.added s.world standing)
 
-  pub found_undiverted : (asked : Undiverting) (before after : Ways) (u : AUnit) (s t : State) → IsUndiverted asked before after u s t → IsTrue t.honest → IsFound d.records d.notes lists before.entries s.world → IsFound d.records d.notes lists after.entries t.world
-  found_undiverted = undiverted_kept (λ ways. IsFound d.records d.notes lists ways.entries) (λ before after old new is. found_retabled d lists before after old new is)
+  pub found_diverted : (asked : Diverting) (before after : Ways) (u : AUnit) (s t : State) → HasDiverted asked d.records lists before after u s t → IsTrue t.honest → IsFound d.records d.notes lists before.entries s.world → IsFound d.records d.notes lists after.entries t.world
+  found_diverted asked before after u s t is h found =
+      diverted_kept (λ ways. IsFound d.records d.notes lists ways.entries) (λ first last old new made. found_retabled d lists first last old new made) asked _ (with_more before is.added) after u s t is.is h found
+
+  pub found_undiverted : (asked : Undiverting) (before after : Ways) (u : AUnit) (s t : State) → HasUndiverted asked before after u s t → IsTrue t.honest → IsFound d.records d.notes lists before.entries s.world → IsFound d.records d.notes lists after.entries t.world
+  found_undiverted asked before after u s t is h found =
+      undiverted_kept (λ ways. IsFound d.records d.notes lists ways.entries) (λ first last old new made. found_retabled d lists first last old new made) asked (with_more before is.added) after u s t is.is h found

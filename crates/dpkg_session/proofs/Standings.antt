@@ -11,7 +11,6 @@ use Rattle.administration.specs.Places.{home_path, info_path, updates_path, dive
 use Rattle.administration.specs.Files.{NoDirectory}
 use Rattle.administration.proofs.WholeFiles.{no_directory_at, no_directory_file, no_directory_none}
 use Rattle.diversions.specs.Diverted.{Diverted}
-use Rattle.diversions.specs.Ways.{Ways}
 use Rattle.diversions.specs.Lines.{HasEntries}
 use Rattle.diversions.specs.declared.entry.Diversion.{Diversion}
 use Rattle.file_lists.specs.Filed.{Filed}
@@ -24,7 +23,7 @@ use Rattle.unit_reports.specs.declared.report.Unit.{Unit as AUnit}
 use Rattle.unit_reports.specs.Held.{Held, held}
 use Rattle.dpkg_session.specs.Run.{IsRun}
 use Rattle.dpkg_session.specs.Standing.{AreRecorded, IsStanding}
-use Rattle.dpkg_session.proofs.Beside.{diverted_run, diverted_spare_run, ways_run}
+use Rattle.dpkg_session.proofs.Beside.{diverted_run, diverted_spare_run, entries_run}
 
 directory_there : (node : Option Node) → is_directory node ≡ true → IsDirectory node
 directory_there None is = cc
@@ -100,5 +99,5 @@ standing_run auto cs us before after s t run h order standing = (
   no_directory_at (t.world (temporary diversions_path)) (s.world (temporary diversions_path)) (diverted_spare_run auto cs us before after s t run h) standing.4,
   order.tmp,
   order.listed,
-  ∥∥₁_map standing.7 (λ has. subst (λ (l : Ways). HasEntries (t.world diversions_path) l.entries) (sym (ways_run auto cs us before after s t run)) (subst (λ n. HasEntries n before.ways.entries) (sym (diverted_run auto cs us before after s t run h)) has)),
+  ∥∥₁_map standing.7 (λ has. subst (λ (l : List Diversion). HasEntries (t.world diversions_path) l) (sym (entries_run auto cs us before after s t run)) (subst (λ n. HasEntries n before.ways.entries) (sym (diverted_run auto cs us before after s t run h)) has)),
 )

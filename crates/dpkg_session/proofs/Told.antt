@@ -27,7 +27,8 @@ use Rattle.unit_reports.specs.declared.report.Unit.{Unit as AUnit}
 use Rattle.unit_reports.specs.Units.{HasNoCalls, TellsCalls, calls_of, last_calls}
 use Rattle.unit_reports.specs.declared.report.Report.{Report}
 use Rattle.dpkg_session.specs.Refusals.{IsDecisionFor}
-use Rattle.dpkg_session.specs.Units.{HasCalledBeside, HasCalledBy, HasCalledOf, HasCalledPackage, HasCalledWhole, HasUnpackedBeside, given_by, yielding}
+use Rattle.dpkg_session.specs.Growth.{grown}
+use Rattle.dpkg_session.specs.Units.{HasCalledBeside, HasCalledBy, HasCalledDecided, HasCalledOf, HasCalledPackage, HasCalledWhole, HasUnpackedBeside, given_by, yielding}
 
 -- nothing was done
 pub silent_here : (s : State) → Silent s s
@@ -104,9 +105,13 @@ called_by_tells : (p : Package) (decision : Checked) (before : Held) (u : AUnit)
 called_by_tells p (Refused rule) before u s t none = no_calls_tell u s t none
 called_by_tells p (Planned beside) before u s t called = whole_tells p beside before s t [] u.calls.items called
 
+decided_tells : (auto : Bool) (p : Package) (before : Held) (u : AUnit) (s t : State) → HasCalledDecided auto p before u s t → TellsAll s t [] u.calls.items
+decided_tells auto p before u s t (inl none) = no_calls_tell u s t none
+decided_tells auto p before u s t (inr called) = called_by_tells p called.0 before u s t called.2
+
 package_tells : (auto : Bool) (p : Package) (before : Held) (u : AUnit) (s t : State) → HasCalledPackage auto p before u s t → TellsAll s t [] u.calls.items
 package_tells auto p before u s t (inl none) = no_calls_tell u s t none
-package_tells auto p before u s t (inr called) = called_by_tells p called.0 before u s t called.2
+package_tells auto p before u s t (inr (added, read, called)) = decided_tells auto p (grown before added) u s t called
 
 pub called_tells : (auto : Bool) (tree : Result Package TreeFault) (before : Held) (u : AUnit) (s t : State) → HasCalledOf auto tree before u s t → TellsAll s t [] u.calls.items
 called_tells auto (Err fault) before u s t none = no_calls_tell u s t none
@@ -120,11 +125,14 @@ called_nothing p beside before s told none = inl (HasCalledBeside.looking (silen
 pub no_calls : (u : AUnit) (s : State) → u.calls.items ≡ [] → HasNoCalls u s s
 no_calls u s none = record { silent = silent_here s; told = none }
 
+pub not_begun_decided : (auto : Bool) (p : Package) (before : Held) (u : AUnit) (s : State) → u.calls.items ≡ [] → HasCalledDecided auto p before u s s
+not_begun_decided auto p before u s none = inl (no_calls u s none)
+
 pub not_begun_package : (auto : Bool) (p : Package) (before : Held) (u : AUnit) (s : State) → u.calls.items ≡ [] → HasCalledPackage auto p before u s s
 not_begun_package auto p before u s none = inl (no_calls u s none)
 
 pub called_decided : (auto : Bool) (p : Package) (beside : Beside) (decision : Checked) (before : Held) (u : AUnit) (s t : State) → IsDecisionFor p auto before decision → decision ≡ Planned beside
-    → HasCalledWhole p beside before s t [] u.calls.items → HasCalledPackage auto p before u s t
+    → HasCalledWhole p beside before s t [] u.calls.items → HasCalledDecided auto p before u s t
 called_decided auto p beside decision before u s t decided is called = inr (decision, decided, subst (λ d. HasCalledBy p d before u s t) (sym is) called)
 
 pub called_read : (auto : Bool) (p : Package) (tree : Result Package TreeFault) (before : Held) (u : AUnit) (s t : State) → tree ≡ Ok p → HasCalledPackage auto p before u s t → HasCalledOf auto tree before u s t

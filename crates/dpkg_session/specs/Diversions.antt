@@ -1,12 +1,12 @@
 -- Commands that add a diversion or take one away (dpkg-divert(1)), each one unit.
-use Rattle.std.specs.Prelude.{◌≡◌, Bool, true, false, IsTrue, IsNone, IfSome, List, [], ◌∷◌}
+use Rattle.std.specs.Prelude.{◌≡◌, ◌⊎◌, Bool, true, false, IsTrue, IsNone, IfSome, List, [], ◌∷◌, ◌++◌}
 use Rattle.std.specs.List.{list_any}
 use Rattle.aliases.specs.Aliases.{Alias}
 use Rattle.host_core.specs.Paths.{Path, is_ship_text}
 use Rattle.host_core.specs.World.{World}
 use Rattle.host_core.specs.Host.{Reads, State}
 use Rattle.host_core.specs.Loss.{IsOnDisk}
-use Rattle.diversions.specs.Changes.{HasAdded, HasRemoved, diversion_of, with_entry}
+use Rattle.diversions.specs.Changes.{HasAdded, HasRemoved, IsAdding, IsRemoving, diversion_of, with_entry}
 use Rattle.diversions.specs.Entries.{without}
 use Rattle.diversions.specs.Ways.{truename, Ways}
 use Rattle.diversions.specs.Refusals.{add_answer, is_one_place, remove_answer}
@@ -21,6 +21,7 @@ use Rattle.diversions.specs.declared.refusal.Seen.{Seen}
 use Rattle.file_lists.specs.Owners.{paths_of}
 use Rattle.file_lists.specs.declared.paths.PackageList.{PackageList}
 use Rattle.status_records.specs.declared.record.Record.{Record}
+use Rattle.dpkg_session.specs.Growth.{AreAdded, with_more}
 use Rattle.dpkg_session.specs.declared.asked.Diverting.{Diverting}
 use Rattle.dpkg_session.specs.declared.asked.Undiverting.{Undiverting}
 use Rattle.unit_reports.specs.declared.refusal.Rule.TheVariants.{Divert}
@@ -102,6 +103,27 @@ pub record IsUndiverted (asked : Undiverting) (before after : Ways) (u : AUnit) 
   pub table : after ≡ by_answer answer before (with_entries before (without asked.path before.entries))
   pub left : IsTrue t.honest → LeavesAnswer answer (HasRemoved before asked.path asked.rename) s.world t.world
   pub flushed : IsFlushed answer s t
+
+-- A diversion is added once what is missing of the aliases above its path and its target was read.
+pub record HasDiverted (asked : Diverting) (records : List Record) (lists : List PackageList) (before after : Ways) (u : AUnit) (s t : State) : Type 0 where
+  pub added : List Alias
+  pub read : IsTrue t.honest → AreAdded s.world (asked.path ∷ asked.target ∷ []) before.aliases added
+  pub is : IsDiverted asked (seen_of (before.aliases ++ added) records lists asked.owner asked.path) (with_more before added) after u s t
+
+-- One is taken away once those above its path were read; those above its target are read with the table.
+pub record HasUndiverted (asked : Undiverting) (before after : Ways) (u : AUnit) (s t : State) : Type 0 where
+  pub added : List Alias
+  pub read : IsTrue t.honest → AreAdded s.world (asked.path ∷ []) before.aliases added
+  pub is : IsUndiverted asked (with_more before added) after u s t
+
+-- at each moment of either: nothing is done yet, or the aliases are known and the table is changed
+abbrev pub IsDiverting : Diverting → List Record → List PackageList → Ways → World → World → Type 0
+IsDiverting asked records lists before old now = (now ≡ old) ⊎ ((added : List Alias) × AreAdded old (asked.path ∷ asked.target ∷ []) before.aliases added
+    × IsAdding (with_more before added) (asked_entry asked) asked.rename (seen_of (before.aliases ++ added) records lists asked.owner asked.path) old now)
+
+abbrev pub IsUndiverting : Undiverting → Ways → World → World → Type 0
+IsUndiverting asked before old now = (now ≡ old) ⊎ ((added : List Alias) × AreAdded old (asked.path ∷ []) before.aliases added
+    × IsRemoving (with_more before added) asked.path asked.rename old now)
 
 -- there is one unit, and P holds of it
 abbrev pub IsOneUnit : (AUnit → Type 0) → List AUnit → Type 0

@@ -15,7 +15,7 @@ use Rattle.dpkg_session.specs.declared.asked.Undiverting.{Undiverting}
 use Rattle.dpkg_session.specs.declared.report.Candidate.{Candidate}
 use Rattle.unit_reports.specs.declared.report.Unit.{Unit as AUnit}
 use Rattle.dpkg_session.specs.Checkpoints.{merged}
-use Rattle.dpkg_session.specs.Diversions.{IsDiverted, IsUndiverted, seen_of}
+use Rattle.dpkg_session.specs.Diversions.{HasDiverted, HasUndiverted}
 use Rattle.unit_reports.specs.Held.{Held}
 use Rattle.dpkg_session.specs.Installs.{IsInstall}
 use Rattle.dpkg_session.specs.Run.{IsRun}
@@ -44,8 +44,8 @@ pub record KeepsRest (before after : Held) : Type 0 where
 abbrev pub HasDone : Ran → Held → Held → State → State → Type 0
 HasDone (Unpacked auto_deconfigure candidates units) before after s t = IsRun auto_deconfigure candidates units before after s t
 HasDone (Diverted asked unit) before after s t =
-    IsDiverted asked (seen_of before.ways.aliases before.records.records before.lists asked.owner asked.path) before.ways after.ways unit s t × KeepsRest before after
-HasDone (Undiverted asked unit) before after s t = IsUndiverted asked before.ways after.ways unit s t × KeepsRest before after
+    HasDiverted asked before.records.records before.lists before.ways after.ways unit s t × KeepsRest before after
+HasDone (Undiverted asked unit) before after s t = HasUndiverted asked before.ways after.ways unit s t × KeepsRest before after
 HasDone (Configured names policy units) before after s t = IsConfigureRun names policy units before after s t
 HasDone (Removed names purge units) before after s t = IsRemovalRun names purge units before after s t
 HasDone (Installed auto_deconfigure candidates policy unpacked configured) before after s t = IsInstall auto_deconfigure candidates policy unpacked configured before after s t

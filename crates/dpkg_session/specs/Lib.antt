@@ -3,8 +3,10 @@ pub mod Refusals
 pub mod Touched
 pub mod Units
 pub mod Run
+pub mod Growth
 pub mod Trees
 pub mod Turns
+pub mod Growth
 pub mod History
 pub mod PowerLoss
 pub mod Checkpoints

@@ -1,5 +1,6 @@
 -- A run of units, one after another.
 use Rattle.std.specs.Prelude.{◌≡◌, ◌⊎◌, ◌+◌, ℕ, Bool, true, IsTrue, List, [], ◌∷◌, ◌++◌, length, take, drop, Option, Some, None, IfSome, IsNone, Result, Ok, Err}
+use Rattle.aliases.specs.Aliases.{Alias}
 use Rattle.displaced_packages.specs.Displacing.{IsAmidDisplacing}
 use Rattle.displaced_packages.specs.Losing.{losing_beside}
 use Rattle.file_lists.specs.declared.paths.PackageList.{PackageList}
@@ -19,6 +20,7 @@ use Rattle.unpack_relations.specs.declared.beside.Beside.{Beside}
 use Rattle.unpack_relations.specs.declared.checking.Checked.{Checked}
 use Rattle.unpack_relations.specs.declared.checking.Checked.TheVariants.{Refused, Planned}
 use Rattle.unpack_rows.specs.declared.rows.OtherPackage.{OtherPackage}
+use Rattle.dpkg_session.specs.Growth.{HasRead, grown}
 use Rattle.dpkg_session.specs.PowerLoss.{LosesLikeAStop}
 use Rattle.dpkg_session.specs.Refusals.{IsDecisionFor}
 use Rattle.undo_rows.specs.declared.rows.Called.{Called}
@@ -62,10 +64,15 @@ abbrev pub IsAmidBy : Package → Checked → Held → World → List Event → 
 IsAmidBy p (Refused rule) before old so_far now = now ≡ old
 IsAmidBy p (Planned beside) before old so_far now = IsAmidUnpack p beside before old so_far now
 
--- at each moment of the unit of a tree that was read: nothing is done yet, or it is decided
+-- at each moment of the unit of a package whose paths' aliases are known: nothing is done yet, or it is decided
+abbrev pub IsAmidDecided : Bool → Package → Held → World → List Event → World → Type 0
+IsAmidDecided auto_deconfigure p before old so_far now =
+    IsStill old so_far now ⊎ ((decision : Checked) × IsDecisionFor p auto_deconfigure before decision × IsAmidBy p decision before old so_far now)
+
+-- at each moment of the unit of a tree that was read: nothing is done yet, or the aliases above its paths are known
 abbrev pub IsAmidPackage : Bool → Package → Held → World → List Event → World → Type 0
 IsAmidPackage auto_deconfigure p before old so_far now =
-    IsStill old so_far now ⊎ ((decision : Checked) × IsDecisionFor p auto_deconfigure before decision × IsAmidBy p decision before old so_far now)
+    IsStill old so_far now ⊎ ((added : List Alias) × HasRead p before added old true × IsAmidDecided auto_deconfigure p (grown before added) old so_far now)
 
 -- at each moment of the unit of a tree
 abbrev pub IsAmidUnitOf : Bool → Result Package TreeFault → Held → World → List Event → World → Type 0

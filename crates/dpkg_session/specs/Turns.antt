@@ -5,23 +5,27 @@ use Rattle.host_core.specs.Host.{State, AtEachMomentOf}
 use Rattle.host_core.specs.World.{World}
 use Rattle.unit_reports.specs.Held.{Held}
 use Rattle.unit_reports.specs.declared.report.Unit.{Unit as AUnit}
+use Rattle.diversions.specs.Diverted.{Diverted}
+use Rattle.dpkg_session.specs.Growth.{KeepsEntries}
 use Rattle.dpkg_session.specs.Installs.{label_of}
 use Rattle.dpkg_session.specs.Run.{IsAmidUnitOf, RunsUnit}
 use Rattle.dpkg_session.specs.Units.{IsBrokenOff}
 use Rattle.dpkg_session.specs.declared.report.Candidate.{Candidate}
 
--- the trees that are still to be read, the labels of those that were unpacked, and the names by which both are lent
+-- the trees that are still to be read, the labels of those that were unpacked, the diversions, and the names by which these are lent
 pub record Unread (T : Type 0) : Type 0 where
   pub trees : T
   pub labels : List (List ℕ)
-  pub lent : ℕ × ℕ
+  pub diverted : Diverted
+  pub lent : ℕ × ℕ × ℕ
 
-abbrev pub unread : {T : Type 0} → T → List (List ℕ) → ℕ × ℕ → Unread T
-unread trees labels lent = record { trees = trees; labels = labels; lent = lent }
+abbrev pub unread : {T : Type 0} → T → List (List ℕ) → Diverted → ℕ × ℕ × ℕ → Unread T
+unread trees labels diverted lent = record { trees = trees; labels = labels; diverted = diverted; lent = lent }
 
--- what is lent stays the same
-abbrev pub StaysLent : {T : Type 0} → Unread T → Unread T → Type 0
-StaysLent left later = later.lent ≡ left.lent
+-- what is lent stays the same, and of the diversions only the aliases may be others
+pub record StaysLent {T : Type 0} (left later : Unread T) : Type 0 where
+  pub lent : later.lent ≡ left.lent
+  pub entries : KeepsEntries left.diverted later.diverted
 
 -- all trees were read, and nothing has changed since then
 abbrev pub AreAllRead : {T : Type 0} → (T → List (List ℕ)) → Unread T → Unread T → Type 0

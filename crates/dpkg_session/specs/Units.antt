@@ -1,5 +1,6 @@
 -- Units of an unpack: what each did, and what it answers.
 use Rattle.std.specs.Prelude.{◌≡◌, ◌⊎◌, ℕ, Bool, IsTrue, List, [], ◌++◌, Option, Some, None, Result, Ok, Err, map}
+use Rattle.aliases.specs.Aliases.{Alias}
 use Rattle.displaced_packages.specs.Displacing.{HasCalled as HasCalledDisplacing, HaveBeenDisplaced}
 use Rattle.displaced_packages.specs.Losing.{losing_beside}
 use Rattle.disappearance.specs.declared.losing.Losing.{Losing}
@@ -34,6 +35,7 @@ use Rattle.unit_reports.specs.declared.report.Reply.{Reply}
 use Rattle.unit_reports.specs.declared.report.Reply.TheVariants.{Done, Failed}
 use Rattle.unit_reports.specs.declared.report.Touched.{Touched}
 use Rattle.unit_reports.specs.declared.report.Unit.{Unit as AUnit}
+use Rattle.dpkg_session.specs.Growth.{HasRead, grown}
 use Rattle.dpkg_session.specs.Refusals.{IsDecisionFor}
 use Rattle.dpkg_session.specs.Touched.{AreDeconfigured, AreTold, IsTouchedBeside, half_configured}
 use Rattle.dpkg_session.specs.declared.displacing.Behind.{Behind}
@@ -146,9 +148,13 @@ abbrev pub IsUnitBy : Package → Checked → Held → Held → AUnit → State 
 IsUnitBy p (checked.Refused rule) before after u s t = IsRefused rule p.name before after u s t
 IsUnitBy p (checked.Planned beside) before after u s t = IsUnpacked p beside before after u s t
 
--- the unit of a tree that was read; it may deconfigure other packages or not
+-- the unit of a package, once the aliases above its paths are known; it may deconfigure other packages or not
+abbrev pub IsDecidedUnit : Bool → Package → Held → Held → AUnit → State → State → Type 0
+IsDecidedUnit auto_deconfigure p before after u s t = (decision : Checked) × IsDecisionFor p auto_deconfigure before decision × IsUnitBy p decision before after u s t
+
+-- the unit of a tree that was read: what is missing of the aliases above its paths is read first
 abbrev pub IsPackageUnit : Bool → Package → Held → Held → AUnit → State → State → Type 0
-IsPackageUnit auto_deconfigure p before after u s t = (decision : Checked) × IsDecisionFor p auto_deconfigure before decision × IsUnitBy p decision before after u s t
+IsPackageUnit auto_deconfigure p before after u s t = (added : List Alias) × HasRead p before added s.world t.honest × IsDecidedUnit auto_deconfigure p (grown before added) after u s t
 
 -- a tree that can't be read is refused first
 abbrev pub IsUnitOf : Bool → List ℕ → Result Package TreeFault → Held → Held → AUnit → State → State → Type 0
@@ -183,10 +189,15 @@ abbrev pub HasCalledBy : Package → Checked → Held → AUnit → State → St
 HasCalledBy p (checked.Refused rule) before u s t = HasNoCalls u s t
 HasCalledBy p (checked.Planned beside) before u s t = HasCalledWhole p beside before s t [] u.calls.items
 
--- of a tree that was read; memory may be wanting before it is decided
+-- once the aliases above its paths are known; memory may be wanting before it is decided
+abbrev pub HasCalledDecided : Bool → Package → Held → AUnit → State → State → Type 0
+HasCalledDecided auto_deconfigure p before u s t =
+    HasNoCalls u s t ⊎ ((decision : Checked) × IsDecisionFor p auto_deconfigure before decision × HasCalledBy p decision before u s t)
+
+-- of a tree that was read; it may be broken off before the aliases are known
 abbrev pub HasCalledPackage : Bool → Package → Held → AUnit → State → State → Type 0
 HasCalledPackage auto_deconfigure p before u s t =
-    HasNoCalls u s t ⊎ ((decision : Checked) × IsDecisionFor p auto_deconfigure before decision × HasCalledBy p decision before u s t)
+    HasNoCalls u s t ⊎ ((added : List Alias) × HasRead p before added s.world t.honest × HasCalledDecided auto_deconfigure p (grown before added) u s t)
 
 -- none for a tree that can't be read
 abbrev pub HasCalledOf : Bool → Result Package TreeFault → Held → AUnit → State → State → Type 0

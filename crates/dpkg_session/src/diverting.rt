@@ -1,5 +1,5 @@
 // A session adds a diversion as one unit.
-ghost use Rattle.std.specs.Prelude.{◌≡◌, ◌⊎◌, [], true, false, IsErrOf, IsNone, IfOk, IfSome, is_some};
+ghost use Rattle.std.specs.Prelude.{◌≡◌, ◌⊎◌, ◌∷◌, [], true, false, IsErrOf, IsNone, IfOk, IfSome, is_some};
 ghost use Rattle.host_core.specs.Host.{AtEachMoment, Gives, Needs, Silent, Tells};
 ghost use Rattle.host_core.specs.Loss.{IsAnswered};
 ghost use Rattle.diversions.specs.Changes.{HasAdded, IsAdding, IsTableReady, with_entry};
@@ -8,20 +8,21 @@ ghost use Rattle.diversions.specs.Refusals.{add_answer};
 ghost use Rattle.diversions.specs.declared.fault.DiversionFault.TheVariants as fault;
 ghost use Rattle.diversions.specs.Turns.{GoesByTurns};
 ghost use Rattle.file_lists.specs.Owners.{places_in};
-ghost use Rattle.dpkg_session.specs.Diversions.{HasBroken, IsDiverted, IsFlushed, IsOneUnit, LeavesAnswer, asked_entry, by_answer, seen_of, with_entries};
+ghost use Rattle.dpkg_session.specs.Diversions.{HasBroken, HasDiverted, IsDiverted, IsDiverting, IsFlushed, IsOneUnit, LeavesAnswer, asked_entry, by_answer, seen_of, with_entries};
 ghost use Rattle.dpkg_session.specs.PowerLoss.{LosesLikeAStop, StandsOnceAnswered};
 ghost use Rattle.unit_reports.specs.Units.{CountsLast, CountsReply, IsBroken, IsBrokenBy, IsClosedReport, TellsCalls, TellsNoPackage, calls_told};
 ghost use Rattle.unit_reports.specs.declared.report.Breakage.TheVariants.{Closed};
 
 use crate::asked::Diverting;
+use crate::growing::follow_paths;
 use crate::seen::seen_of;
 use crate::session::{Session, closed_report};
-use crate::table_units::{breakage_of, flush_done, no_memory, report_of, unit_of};
+use crate::table_units::{breakage_of, broken_report, flush_done, no_memory, report_of, unit_of};
 use diversions::{Answer, DiversionFault, Diversions, Seen};
 use file_lists::FileLists;
-use host_core::{Host, Places};
+use host_core::{Host, Places, RootPath};
 use status_db::NotedDatabase;
-use std::alloc::Global;
+use std::alloc::{AllocError, Global};
 use unit_reports::{Report, Unit, broken};
 
 // Adds a diversion, and brings that to the disk.
@@ -140,27 +141,73 @@ fn divert_on<H: Host>(
     report_of(units, unit)
 }
 
+// The paths above which the aliases are read.
+fn paths_of(alloc: Global, asked: &Diverting) -> Result<Vec<RootPath>, AllocError>
+    ensures { IfOk result (λ paths. paths.items ≡ asked.now.path ∷ asked.now.target ∷ []) }
+{
+    let mut paths = Vec::new(alloc);
+    paths.push(asked.path.at()?)?;
+    paths.push(asked.target.at()?)?;
+    Ok(paths)
+}
+
+// The same, once what is missing of the aliases above its path and its target was read.
+fn divert_followed<H: Host>(
+    alloc: Global,
+    host: &mut H,
+    database: &NotedDatabase,
+    lists: &FileLists,
+    diversions: &mut Diversions,
+    places: &mut Places,
+    asked: &Diverting,
+) -> Report
+    requires ready { Needs (H.state host.old) IsTableReady }
+    requires writable { diversions.old.closed ≡ false }
+    requires kept { places.old ≡ places_in diversions.old.ways lists.now.lists }
+    ensures whole { IsNone result.last
+        → IsOneUnit (λ u. HasDiverted asked.now database.now.records lists.now.lists
+        diversions.old.ways diversions.new.ways u (H.state host.old) (H.state host.new))
+        result.units.items }
+    ensures broken { HasBroken result }
+    ensures calls { calls_told result ≡ [] }
+    ensures writable { IsNone result.last → diversions.new.closed ≡ false }
+    ensures kept { IsNone result.last → places.new ≡ places_in diversions.new.ways
+        lists.now.lists }
+    ensures any_moment { AtEachMoment (IsDiverting asked.now database.now.records lists.now.lists
+        diversions.old.ways) (H.state host.old) (H.state host.new) }
+    ensures turns { GoesByTurns (H.state host.old) (H.state host.new) }
+    ensures silent { Silent (H.state host.old) (H.state host.new) }
+    ensures counts { CountsLast (H.state host.old) (H.state host.new) result.last }
+    ensures not_closed { IfSome result.last (λ unit. IsBrokenBy Closed unit.reply → ⊥) }
+{
+    let Ok(paths) = paths_of(alloc, asked) else {
+        return no_memory(alloc);
+    };
+    match follow_paths(alloc, host, lists, diversions, places, paths.as_slice()) {
+        Ok(()) => divert_on(alloc, host, database, lists, diversions, places, asked),
+        Err(fault) => broken_report(alloc, fault),
+    }
+}
+
 impl<H: Host> Session<H> {
-    /// Adds a diversion: one unit. One that is broken off closes the session.
+    /// Adds a diversion: one unit. What is missing of the aliases above its path and its target is read first. One that is broken off
+    /// closes the session.
     pub fn divert(&mut self, asked: &Diverting) -> Report
         ensures whole { self.old.closed ≡ false → IsNone result.last
-            → IsOneUnit (λ u. IsDiverted asked.now (seen_of self.old.diversions.ways.aliases
-            self.old.administration.database.records self.old.administration.lists.lists
-            asked.now.owner asked.now.path) self.old.diversions.ways self.new.diversions.ways u
+            → IsOneUnit (λ u. HasDiverted asked.now self.old.administration.database.records
+            self.old.administration.lists.lists self.old.diversions.ways self.new.diversions.ways u
             (H.state self.old.host) (H.state self.new.host)) result.units.items }
         ensures broken { HasBroken result }
         ensures told { TellsCalls (H.state self.old.host) (H.state self.new.host) result }
         ensures any_moment { self.old.closed ≡ false
-            → AtEachMoment (IsAdding self.old.diversions.ways (asked_entry asked.now)
-            asked.now.rename (seen_of self.old.diversions.ways.aliases
-            self.old.administration.database.records self.old.administration.lists.lists
-            asked.now.owner asked.now.path)) (H.state self.old.host) (H.state self.new.host) }
+            → AtEachMoment (IsDiverting asked.now self.old.administration.database.records
+            self.old.administration.lists.lists self.old.diversions.ways) (H.state self.old.host)
+            (H.state self.new.host) }
         ensures turns { GoesByTurns (H.state self.old.host) (H.state self.new.host) }
         ensures loss { self.old.closed ≡ false
-            → LosesLikeAStop (λ so_far. IsAdding self.old.diversions.ways (asked_entry asked.now)
-            asked.now.rename (seen_of self.old.diversions.ways.aliases
+            → LosesLikeAStop (λ so_far. IsDiverting asked.now
             self.old.administration.database.records self.old.administration.lists.lists
-            asked.now.owner asked.now.path) (H.state self.old.host).world) (H.state self.old.host)
+            self.old.diversions.ways (H.state self.old.host).world) (H.state self.old.host)
             (H.state self.new.host) }
         ensures stands { self.old.closed ≡ false → IsNone result.last
             → StandsOnceAnswered (H.state self.old.host) (H.state self.new.host) }
@@ -182,7 +229,7 @@ impl<H: Host> Session<H> {
             return closed_report(self.administration.alloc);
         }
         let administration = &mut self.administration;
-        let report = divert_on(
+        let report = divert_followed(
             administration.alloc,
             &mut self.host,
             &administration.database,

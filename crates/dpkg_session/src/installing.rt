@@ -10,6 +10,7 @@ ghost use Rattle.unit_reports.specs.Held.{held_by};
 ghost use Rattle.unit_reports.specs.Units.{CountsLast, IsBrokenBy, IsClosedReport, TellsCalls};
 ghost use Rattle.unit_reports.specs.Watching.{IsTold};
 ghost use Rattle.unit_reports.specs.declared.report.Breakage.TheVariants.{Closed};
+ghost use Rattle.dpkg_session.specs.Growth.{KeepsEntries};
 ghost use Rattle.dpkg_session.specs.Installs.{HasInstalledThrough, IsEmptyReport, TellsBoth, last_of, names_done};
 ghost use Rattle.dpkg_session.specs.PowerLoss.{StandsOnceAnswered};
 ghost use Rattle.dpkg_session.specs.Trees.{AreRead};
@@ -104,7 +105,7 @@ fn configure_done<H: Host, W: Watcher>(
 fn unpack_and_configure<H: Host, T: Trees, W: Watcher>(
     host: &mut H,
     administration: &mut Administration,
-    diversions: &Diversions,
+    diversions: &mut Diversions,
     trees: &mut T,
     auto_deconfigure: bool,
     policy: ConfPolicy,
@@ -112,13 +113,14 @@ fn unpack_and_configure<H: Host, T: Trees, W: Watcher>(
 ) -> Installed
     requires order { Needs (H.state host.old)
         (IsInOrder administration.old.database administration.old.lists.lists) }
-    requires open { IsOpen diversions.now.ways administration.old }
+    requires open { IsOpen diversions.old.ways administration.old }
     requires indexed { IfSome administration.old.packages
         (ArePackagesOf administration.old.database.records) }
     ensures run { (cs : List ACandidate) × AreRead T.reads trees.old cs trees.new
         × HasInstalledThrough auto_deconfigure cs (T.words trees.new) policy result.unpacked
-        result.configured (held_by administration.old diversions.now)
-        (held_by administration.new diversions.now) (H.state host.old) (H.state host.new) }
+        result.configured (held_by administration.old diversions.old)
+        (held_by administration.new diversions.new) (H.state host.old) (H.state host.new) }
+    ensures kept { KeepsEntries diversions.old diversions.new }
     ensures told { TellsBoth (H.state host.old) (H.state host.new) result.unpacked
         result.configured }
     ensures answered { IsNone (last_of result.unpacked.last result.configured.last)
@@ -131,7 +133,7 @@ fn unpack_and_configure<H: Host, T: Trees, W: Watcher>(
         → Needs (H.state host.new)
         (IsInOrder administration.new.database administration.new.lists.lists) }
     ensures open { IsNone (last_of result.unpacked.last result.configured.last)
-        → IsOpen diversions.now.ways administration.new }
+        → IsOpen diversions.new.ways administration.new }
     ensures indexed { IsNone (last_of result.unpacked.last result.configured.last)
         → IfSome administration.new.packages (ArePackagesOf administration.new.database.records) }
     ensures watched { IsTold W.tells (H.state host.old) watcher.old
@@ -205,7 +207,7 @@ impl<H: Host> Session<H> {
         ensures answered { self.old.closed ≡ false
             → IsNone (last_of result.unpacked.last result.configured.last)
             → IsAnswered (H.state self.old.host) (H.state self.new.host) }
-        ensures diversions { self.new.diversions ≡ self.old.diversions }
+        ensures diversions { KeepsEntries self.old.diversions self.new.diversions }
         ensures honest { Falls (H.state self.old.host) (H.state self.new.host) }
         ensures counts { self.old.closed ≡ false → CountsLast (H.state self.old.host)
             (H.state self.new.host) (last_of result.unpacked.last result.configured.last) }
@@ -222,7 +224,7 @@ impl<H: Host> Session<H> {
         let installed = unpack_and_configure(
             &mut self.host,
             &mut self.administration,
-            &self.diversions,
+            &mut self.diversions,
             trees,
             auto_deconfigure,
             policy,

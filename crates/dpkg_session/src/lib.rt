@@ -11,7 +11,11 @@
 //!
 //! An opening reads the aliases of the root behind the administration, and only looks for that: each
 //! listed path, each that a diversion names and those in the usual directories are followed to where
-//! they lead (`followed`). While the session is open they stay as they were read.
+//! they lead (`followed`). While the session is open more are added, and none is taken away: before
+//! the unit of a tree is decided those above its paths (`HasRead`), and before a diversion is added
+//! or taken away those above its path and target (`HasDiverted`, `HasUndiverted`). Nothing else of the
+//! diversions is changed by a run (`diversions`), and the kept places are those of all listed paths
+//! with what is known then.
 //!
 //! Where it keeps what the recorded packages state of others, that is what the records state at
 //! each command (`indexed`).
@@ -76,6 +80,7 @@ mod configuring;
 mod displacing;
 mod diverting;
 mod done;
+mod growing;
 mod installing;
 mod laws;
 mod recorded;

@@ -13,6 +13,7 @@ ghost use Rattle.opening.specs.Stopped.{AfterAStop, BeginsOnDisk, BeginsOnDiskIf
 ghost use Rattle.recorded_packages.specs.Packages.{ArePackagesOf};
 ghost use Rattle.unit_reports.specs.Held.{held_by};
 ghost use Rattle.unit_reports.specs.declared.report.Breakage.TheVariants.{Closed};
+ghost use Rattle.dpkg_session.specs.Growth.{KeepsEntries};
 ghost use Rattle.dpkg_session.specs.PowerLoss.{LosesLikeAStop, StandsOnceAnswered};
 ghost use Rattle.dpkg_session.specs.Run.{HasRunThrough};
 ghost use Rattle.dpkg_session.specs.Standing.{CountsRefusal, IsStanding, OpensAll};
@@ -86,8 +87,8 @@ pub(crate) fn closed_report(alloc: Global) -> Report
 }
 
 impl<H: Host> Session<H> {
-    /// Opens the administration of a host. The aliases of its root are read, and stay as they were
-    /// read. A refusal hands the host back; it and what was changed then are told by `refused`.
+    /// Opens the administration of a host. The aliases of its root are read; units add to them. A
+    /// refusal hands the host back; it and what was changed then are told by `refused`.
     pub fn open(alloc: Global, mut host: H) -> Result<Session<H>, (H, AdministrationFault)>
         ensures opened { IfOk result (λ s. Needs (H.state s.host)
             (IsOpened s.administration.database.records s.administration.lists.lists
@@ -170,7 +171,7 @@ impl<H: Host> Session<H> {
             ≡ held_by self.old.administration self.old.diversions }
         ensures answered { self.old.closed ≡ false → IsNone result.last
             → IsAnswered (H.state self.old.host) (H.state self.new.host) }
-        ensures diversions { self.new.diversions ≡ self.old.diversions }
+        ensures diversions { KeepsEntries self.old.diversions self.new.diversions }
         ensures honest { Falls (H.state self.old.host) (H.state self.new.host) }
         ensures counts { self.old.closed ≡ false → CountsLast (H.state self.old.host)
             (H.state self.new.host) result.last }
@@ -184,7 +185,7 @@ impl<H: Host> Session<H> {
         let report = unpack_trees(
             &mut self.host,
             &mut self.administration,
-            &self.diversions,
+            &mut self.diversions,
             trees,
             auto_deconfigure,
             &mut labels,

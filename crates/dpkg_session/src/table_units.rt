@@ -5,7 +5,7 @@ ghost use Rattle.host_core.specs.Loss.{IsOnDisk};
 ghost use Rattle.diversions.specs.declared.refusal.Answer.TheVariants as answered;
 ghost use Rattle.file_lists.specs.Owners.{places_in};
 ghost use Rattle.dpkg_session.specs.Diversions.{AnswersDiversion, HasBroken, IsReportOf, by_answer, table_breakage};
-ghost use Rattle.unit_reports.specs.Units.{IsBrokenBy, TellsNoPackage, calls_told};
+ghost use Rattle.unit_reports.specs.Units.{IsBrokenBy, TellsNoPackage, breakage_of, calls_told};
 ghost use Rattle.unit_reports.specs.declared.report.Breakage.TheVariants.{NoMemory};
 
 use diversions::{Answer, DiversionFault, Diversions};
@@ -137,5 +137,18 @@ pub(crate) fn no_memory(alloc: Global) -> Report
     Report {
         units: Vec::new(alloc),
         last: Some(broken(alloc, Vec::new(alloc), Breakage::NoMemory)),
+    }
+}
+
+// The report where the device failed, or memory was wanting, while it was looked.
+pub(crate) fn broken_report(alloc: Global, fault: HostFault) -> Report
+    ensures broken { HasBroken result }
+    ensures last { IfSome result.last (λ u. IsBrokenBy (breakage_of fault) u.reply) }
+    ensures calls { calls_told result ≡ [] }
+    ensures some { is_some result.last ≡ true }
+{
+    Report {
+        units: Vec::new(alloc),
+        last: Some(broken(alloc, Vec::new(alloc), unit_reports::breakage_of(fault))),
     }
 }

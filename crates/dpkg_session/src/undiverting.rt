@@ -1,5 +1,5 @@
 // A session takes a diversion away as one unit.
-ghost use Rattle.std.specs.Prelude.{◌≡◌, ◌⊎◌, [], true, false, IsErrOf, IsNone, IfOk, IfSome, is_some};
+ghost use Rattle.std.specs.Prelude.{◌≡◌, ◌⊎◌, ◌∷◌, [], true, false, IsErrOf, IsNone, IfOk, IfSome, is_some};
 ghost use Rattle.host_core.specs.Host.{AtEachMoment, Gives, Needs, Silent, Tells};
 ghost use Rattle.host_core.specs.Loss.{IsAnswered};
 ghost use Rattle.diversions.specs.Changes.{HasRemoved, IsRemoving, IsTableReady};
@@ -9,18 +9,19 @@ ghost use Rattle.diversions.specs.Refusals.{remove_answer};
 ghost use Rattle.diversions.specs.declared.fault.DiversionFault.TheVariants as fault;
 ghost use Rattle.diversions.specs.Turns.{GoesByTurns};
 ghost use Rattle.file_lists.specs.Owners.{places_in};
-ghost use Rattle.dpkg_session.specs.Diversions.{HasBroken, IsFlushed, IsOneUnit, IsUndiverted, LeavesAnswer, by_answer, with_entries};
+ghost use Rattle.dpkg_session.specs.Diversions.{HasBroken, HasUndiverted, IsFlushed, IsOneUnit, IsUndiverted, IsUndiverting, LeavesAnswer, by_answer, with_entries};
 ghost use Rattle.dpkg_session.specs.PowerLoss.{LosesLikeAStop, StandsOnceAnswered};
 ghost use Rattle.unit_reports.specs.Units.{CountsLast, CountsReply, IsBroken, IsBrokenBy, IsClosedReport, TellsCalls, TellsNoPackage, calls_told};
 ghost use Rattle.unit_reports.specs.declared.report.Breakage.TheVariants.{Closed};
 
 use crate::asked::Undiverting;
+use crate::growing::follow_paths;
 use crate::session::{Session, closed_report};
-use crate::table_units::{breakage_of, flush_done, no_memory, report_of, unit_of};
+use crate::table_units::{breakage_of, broken_report, flush_done, no_memory, report_of, unit_of};
 use diversions::{Answer, DiversionFault, Diversions};
 use file_lists::FileLists;
-use host_core::{Host, Places};
-use std::alloc::Global;
+use host_core::{Host, Places, RootPath};
+use std::alloc::{AllocError, Global};
 use unit_reports::{Report, Unit, broken};
 
 // Takes a diversion away, and brings that to the disk.
@@ -123,23 +124,68 @@ fn undivert_on<H: Host>(
     report_of(units, unit)
 }
 
+// The path above which the aliases are read.
+fn paths_of(alloc: Global, asked: &Undiverting) -> Result<Vec<RootPath>, AllocError>
+    ensures { IfOk result (λ paths. paths.items ≡ asked.now.path ∷ []) }
+{
+    let mut paths = Vec::new(alloc);
+    paths.push(asked.path.at()?)?;
+    Ok(paths)
+}
+
+// The same, once what is missing of the aliases above its path was read.
+fn undivert_followed<H: Host>(
+    alloc: Global,
+    host: &mut H,
+    lists: &FileLists,
+    diversions: &mut Diversions,
+    places: &mut Places,
+    asked: &Undiverting,
+) -> Report
+    requires ready { Needs (H.state host.old) IsTableReady }
+    requires writable { diversions.old.closed ≡ false }
+    requires kept { places.old ≡ places_in diversions.old.ways lists.now.lists }
+    ensures whole { IsNone result.last
+        → IsOneUnit (λ u. HasUndiverted asked.now diversions.old.ways diversions.new.ways u
+        (H.state host.old) (H.state host.new)) result.units.items }
+    ensures broken { HasBroken result }
+    ensures calls { calls_told result ≡ [] }
+    ensures writable { IsNone result.last → diversions.new.closed ≡ false }
+    ensures kept { IsNone result.last → places.new ≡ places_in diversions.new.ways
+        lists.now.lists }
+    ensures any_moment { AtEachMoment (IsUndiverting asked.now diversions.old.ways)
+        (H.state host.old) (H.state host.new) }
+    ensures turns { GoesByTurns (H.state host.old) (H.state host.new) }
+    ensures silent { Silent (H.state host.old) (H.state host.new) }
+    ensures counts { CountsLast (H.state host.old) (H.state host.new) result.last }
+    ensures not_closed { IfSome result.last (λ unit. IsBrokenBy Closed unit.reply → ⊥) }
+{
+    let Ok(paths) = paths_of(alloc, asked) else {
+        return no_memory(alloc);
+    };
+    match follow_paths(alloc, host, lists, diversions, places, paths.as_slice()) {
+        Ok(()) => undivert_on(alloc, host, lists, diversions, places, asked),
+        Err(fault) => broken_report(alloc, fault),
+    }
+}
+
 impl<H: Host> Session<H> {
-    /// Takes a diversion away: one unit. One that is broken off closes the session.
+    /// Takes a diversion away: one unit. What is missing of the aliases above its path is read first. One that is broken off closes
+    /// the session.
     pub fn undivert(&mut self, asked: &Undiverting) -> Report
         ensures whole { self.old.closed ≡ false → IsNone result.last
-            → IsOneUnit (λ u. IsUndiverted asked.now self.old.diversions.ways
+            → IsOneUnit (λ u. HasUndiverted asked.now self.old.diversions.ways
             self.new.diversions.ways u (H.state self.old.host) (H.state self.new.host))
             result.units.items }
         ensures broken { HasBroken result }
         ensures told { TellsCalls (H.state self.old.host) (H.state self.new.host) result }
         ensures any_moment { self.old.closed ≡ false
-            → AtEachMoment (IsRemoving self.old.diversions.ways asked.now.path asked.now.rename)
+            → AtEachMoment (IsUndiverting asked.now self.old.diversions.ways)
             (H.state self.old.host) (H.state self.new.host) }
         ensures turns { GoesByTurns (H.state self.old.host) (H.state self.new.host) }
         ensures loss { self.old.closed ≡ false
-            → LosesLikeAStop (λ so_far. IsRemoving self.old.diversions.ways asked.now.path
-            asked.now.rename (H.state self.old.host).world) (H.state self.old.host)
-            (H.state self.new.host) }
+            → LosesLikeAStop (λ so_far. IsUndiverting asked.now self.old.diversions.ways
+            (H.state self.old.host).world) (H.state self.old.host) (H.state self.new.host) }
         ensures stands { self.old.closed ≡ false → IsNone result.last
             → StandsOnceAnswered (H.state self.old.host) (H.state self.new.host) }
         ensures answered { self.old.closed ≡ false → IsNone result.last
@@ -160,7 +206,7 @@ impl<H: Host> Session<H> {
             return closed_report(self.administration.alloc);
         }
         let administration = &mut self.administration;
-        let report = undivert_on(
+        let report = undivert_followed(
             administration.alloc,
             &mut self.host,
             &administration.lists,

@@ -8,11 +8,13 @@ ghost use Rattle.held_administration.specs.Order.{IsInOrder};
 ghost use Rattle.unpack_relations.specs.Checks.{AreApart};
 ghost use Rattle.unit_reports.specs.declared.report.Breakage.TheVariants.{NoMemory, Closed};
 ghost use Rattle.unit_reports.specs.Held.{held_by};
-ghost use Rattle.dpkg_session.specs.Run.{IsAmidPackage, IsAmidUnitOf, IsAmidUnpack};
+ghost use Rattle.dpkg_session.specs.Growth.{KeepsEntries};
+ghost use Rattle.dpkg_session.specs.Run.{IsAmidDecided, IsAmidPackage, IsAmidUnitOf, IsAmidUnpack};
 ghost use Rattle.unit_reports.specs.Units.{CountsReply, IsBroken, IsBrokenBy, TellsNoPackage, breakage_of};
-ghost use Rattle.dpkg_session.specs.Units.{AnswersBoth, HasCalledOf, HasCalledPackage, HasCalledWhole, IsBehind, KnowsRecords, IsPackageUnit, IsUnit, IsUnpacked, reply_to};
+ghost use Rattle.dpkg_session.specs.Units.{AnswersBoth, HasCalledDecided, HasCalledOf, HasCalledPackage, HasCalledWhole, IsBehind, IsDecidedUnit, KnowsRecords, IsPackageUnit, IsUnit, IsUnpacked, reply_to};
 
 use crate::displacing::{Behind, UnpackEnd, behind_of, unpack_whole};
+use crate::growing::follow_tree;
 use crate::recorded::take_packages;
 use crate::refusal::decision_of;
 use crate::report::Candidate;
@@ -199,7 +201,7 @@ fn unpack_unit<H: Host>(
     }
 }
 
-// The unit of a tree that was read.
+// The unit of a package, the aliases above whose paths are known.
 fn decide_and_unpack<H: Host>(
     host: &mut H,
     administration: &mut Administration,
@@ -212,7 +214,7 @@ fn decide_and_unpack<H: Host>(
         (IsInOrder administration.old.database administration.old.lists.lists) }
     requires open { IsOpen diversions.now.ways administration.old }
     requires indexed { ArePackagesOf administration.old.database.records packages.old }
-    ensures unit { IsBroken result.reply ⊎ IsPackageUnit auto_deconfigure incoming
+    ensures unit { IsBroken result.reply ⊎ IsDecidedUnit auto_deconfigure incoming
         (held_by administration.old diversions.now) (held_by administration.new diversions.now)
         result (H.state host.old) (H.state host.new) }
     ensures open { IsBroken result.reply ⊎ IsOpen diversions.now.ways administration.new }
@@ -220,9 +222,9 @@ fn decide_and_unpack<H: Host>(
         packages.new }
     ensures answered { IsBroken result.reply ⊎ IsAnswered (H.state host.old) (H.state host.new) }
     ensures untouched { IsBroken result.reply → TellsNoPackage result }
-    ensures told { HasCalledPackage auto_deconfigure incoming
+    ensures told { HasCalledDecided auto_deconfigure incoming
         (held_by administration.old diversions.now) result (H.state host.old) (H.state host.new) }
-    ensures any_moment { AtEachMomentOf (IsAmidPackage auto_deconfigure incoming
+    ensures any_moment { AtEachMomentOf (IsAmidDecided auto_deconfigure incoming
         (held_by administration.old diversions.now)) (H.state host.old) (H.state host.new) }
     ensures counts { CountsReply (H.state host.old) (H.state host.new) result.reply }
     ensures not_closed { IsBrokenBy Closed result.reply → ⊥ }
@@ -249,7 +251,7 @@ fn decide_and_unpack<H: Host>(
 }
 
 // The same, once the packages of the records are known.
-fn unit_of_package<H: Host>(
+fn unit_of_followed<H: Host>(
     host: &mut H,
     administration: &mut Administration,
     diversions: &Diversions,
@@ -261,7 +263,7 @@ fn unit_of_package<H: Host>(
     requires open { IsOpen diversions.now.ways administration.old }
     requires indexed { IfSome administration.old.packages
         (ArePackagesOf administration.old.database.records) }
-    ensures unit { IsBroken result.reply ⊎ IsPackageUnit auto_deconfigure incoming
+    ensures unit { IsBroken result.reply ⊎ IsDecidedUnit auto_deconfigure incoming
         (held_by administration.old diversions.now) (held_by administration.new diversions.now)
         result (H.state host.old) (H.state host.new) }
     ensures open { IsBroken result.reply ⊎ IsOpen diversions.now.ways administration.new }
@@ -269,9 +271,9 @@ fn unit_of_package<H: Host>(
         (ArePackagesOf administration.new.database.records) }
     ensures answered { IsBroken result.reply ⊎ IsAnswered (H.state host.old) (H.state host.new) }
     ensures untouched { IsBroken result.reply → TellsNoPackage result }
-    ensures told { HasCalledPackage auto_deconfigure incoming
+    ensures told { HasCalledDecided auto_deconfigure incoming
         (held_by administration.old diversions.now) result (H.state host.old) (H.state host.new) }
-    ensures any_moment { AtEachMomentOf (IsAmidPackage auto_deconfigure incoming
+    ensures any_moment { AtEachMomentOf (IsAmidDecided auto_deconfigure incoming
         (held_by administration.old diversions.now)) (H.state host.old) (H.state host.new) }
     ensures counts { CountsReply (H.state host.old) (H.state host.new) result.reply }
     ensures not_closed { IsBrokenBy Closed result.reply → ⊥ }
@@ -298,31 +300,72 @@ fn unit_of_package<H: Host>(
     }
 }
 
+// The unit of a tree that was read: what is missing of the aliases above its paths is read first.
+fn unit_of_package<H: Host>(
+    host: &mut H,
+    administration: &mut Administration,
+    diversions: &mut Diversions,
+    incoming: Package,
+    auto_deconfigure: bool,
+) -> Unit
+    requires order { Needs (H.state host.old)
+        (IsInOrder administration.old.database administration.old.lists.lists) }
+    requires open { IsOpen diversions.old.ways administration.old }
+    requires indexed { IfSome administration.old.packages
+        (ArePackagesOf administration.old.database.records) }
+    ensures unit { IsBroken result.reply ⊎ IsPackageUnit auto_deconfigure incoming
+        (held_by administration.old diversions.old) (held_by administration.new diversions.new)
+        result (H.state host.old) (H.state host.new) }
+    ensures open { IsBroken result.reply ⊎ IsOpen diversions.new.ways administration.new }
+    ensures indexed { IsBroken result.reply ⊎ IfSome administration.new.packages
+        (ArePackagesOf administration.new.database.records) }
+    ensures answered { IsBroken result.reply ⊎ IsAnswered (H.state host.old) (H.state host.new) }
+    ensures untouched { IsBroken result.reply → TellsNoPackage result }
+    ensures told { HasCalledPackage auto_deconfigure incoming
+        (held_by administration.old diversions.old) result (H.state host.old) (H.state host.new) }
+    ensures any_moment { AtEachMomentOf (IsAmidPackage auto_deconfigure incoming
+        (held_by administration.old diversions.old)) (H.state host.old) (H.state host.new) }
+    ensures kept { KeepsEntries diversions.old diversions.new }
+    ensures counts { CountsReply (H.state host.old) (H.state host.new) result.reply }
+    ensures not_closed { IsBrokenBy Closed result.reply → ⊥ }
+{
+    match follow_tree(host, administration, diversions, &incoming) {
+        Ok(()) => {
+            return unit_of_followed(host, administration, diversions, incoming, auto_deconfigure);
+        }
+        Err(fault) => {
+            let alloc = administration.alloc;
+            return broken(alloc, Vec::new(alloc), breakage_of(fault));
+        }
+    }
+}
+
 /// The unit of a candidate.
 pub(crate) fn unit_of<H: Host>(
     host: &mut H,
     administration: &mut Administration,
-    diversions: &Diversions,
+    diversions: &mut Diversions,
     candidate: Candidate,
     auto_deconfigure: bool,
 ) -> Unit
     requires order { Needs (H.state host.old)
         (IsInOrder administration.old.database administration.old.lists.lists) }
-    requires open { IsOpen diversions.now.ways administration.old }
+    requires open { IsOpen diversions.old.ways administration.old }
     requires indexed { IfSome administration.old.packages
         (ArePackagesOf administration.old.database.records) }
     ensures unit { IsBroken result.reply ⊎ IsUnit auto_deconfigure candidate
-        (held_by administration.old diversions.now) (held_by administration.new diversions.now)
+        (held_by administration.old diversions.old) (held_by administration.new diversions.new)
         result (H.state host.old) (H.state host.new) }
-    ensures open { IsBroken result.reply ⊎ IsOpen diversions.now.ways administration.new }
+    ensures open { IsBroken result.reply ⊎ IsOpen diversions.new.ways administration.new }
     ensures indexed { IsBroken result.reply ⊎ IfSome administration.new.packages
         (ArePackagesOf administration.new.database.records) }
     ensures answered { IsBroken result.reply ⊎ IsAnswered (H.state host.old) (H.state host.new) }
     ensures untouched { IsBroken result.reply → TellsNoPackage result }
     ensures told { HasCalledOf auto_deconfigure candidate.tree
-        (held_by administration.old diversions.now) result (H.state host.old) (H.state host.new) }
+        (held_by administration.old diversions.old) result (H.state host.old) (H.state host.new) }
     ensures any_moment { AtEachMomentOf (IsAmidUnitOf auto_deconfigure candidate.tree
-        (held_by administration.old diversions.now)) (H.state host.old) (H.state host.new) }
+        (held_by administration.old diversions.old)) (H.state host.old) (H.state host.new) }
+    ensures kept { KeepsEntries diversions.old diversions.new }
     ensures counts { CountsReply (H.state host.old) (H.state host.new) result.reply }
     ensures not_closed { IsBrokenBy Closed result.reply → ⊥ }
 {

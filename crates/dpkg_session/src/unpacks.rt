@@ -10,6 +10,7 @@ ghost use Rattle.unit_reports.specs.Units.{CountsLast, CountsReply, IsBrokenBy, 
 ghost use Rattle.unit_reports.specs.Watching.{IsTold};
 ghost use Rattle.unit_reports.specs.declared.report.Breakage.TheVariants.{Closed};
 ghost use Rattle.undo_rows.specs.Transcript.{TellsAll};
+ghost use Rattle.dpkg_session.specs.Growth.{KeepsEntries};
 ghost use Rattle.dpkg_session.specs.Installs.{label_of};
 ghost use Rattle.dpkg_session.specs.Run.{HasRunThrough, IsAmidUnitOf, RunsUnit};
 ghost use Rattle.dpkg_session.specs.Trees.{AreRead};
@@ -29,23 +30,24 @@ use texts::Texts;
 use unit_reports::{Breakage, Report, Unit, Watcher, broken, is_broken};
 use unit_runs::{Turns, run_units};
 
-/// The trees that are unpacked in turn, and the labels of those whose units are done.
+/// The trees that are unpacked in turn, the labels of those whose units are done, and the diversions, of which the aliases grow.
 #[derive(Drop)]
-pub(crate) struct Unpacks<'a, 'l, T: Trees> {
+pub(crate) struct Unpacks<'a, 'l, 'd, T: Trees> {
     pub(crate) trees: &'a mut T,
     pub(crate) labels: &'l mut Texts,
+    pub(crate) diversions: &'d mut Diversions,
     pub(crate) auto_deconfigure: bool,
 }
 
-impl<'a, 'l, H: Host, T: Trees> Turns<H> for Unpacks<'a, 'l, T> {
+impl<'a, 'l, 'd, H: Host, T: Trees> Turns<H> for Unpacks<'a, 'l, 'd, T> {
     ghost Task = { Bool };
 
     ghost task = { λ u. u.auto_deconfigure };
 
     ghost Left = { Unread T };
 
-    ghost left = { λ u. unread u.trees.now u.labels.now
-        (u.trees.ghost_name, u.labels.ghost_name) };
+    ghost left = { λ u. unread u.trees.now u.labels.now u.diversions.now
+        (u.trees.ghost_name, u.labels.ghost_name, u.diversions.ghost_name) };
 
     ghost size = { λ left. length (T.words left.trees) };
 
@@ -57,23 +59,25 @@ impl<'a, 'l, H: Host, T: Trees> Turns<H> for Unpacks<'a, 'l, T> {
 
     ghost goes = { λ auto_deconfigure. StaysLent };
 
+    ghost diverted = { λ u. u.diversions.now };
+
     ghost between = { λ u a. IfSome a.packages (ArePackagesOf a.database.records) };
 
     ghost over = { λ u left held. AreAllRead T.words
-        (unread u.trees.now u.labels.now (u.trees.ghost_name, u.labels.ghost_name)) left };
+        (unread u.trees.now u.labels.now u.diversions.now
+        (u.trees.ghost_name, u.labels.ghost_name, u.diversions.ghost_name)) left };
 
     fn take(
         &mut self,
         host: &mut H,
         administration: &mut Administration,
-        diversions: &Diversions,
         room: bool,
     ) -> Result<Option<Unit>, Unit> {
         match self.trees.next() {
             Some(candidate) => match take_unit(
                 host,
                 administration,
-                diversions,
+                self.diversions,
                 candidate,
                 self.auto_deconfigure,
                 self.labels,
@@ -103,7 +107,7 @@ fn prepare(labels: &mut Texts, candidate: &Candidate, room: bool) -> Result<(), 
 fn take_unit<H: Host>(
     host: &mut H,
     administration: &mut Administration,
-    diversions: &Diversions,
+    diversions: &mut Diversions,
     candidate: Candidate,
     auto_deconfigure: bool,
     labels: &mut Texts,
@@ -111,28 +115,29 @@ fn take_unit<H: Host>(
 ) -> Result<Unit, Unit>
     requires order { Needs (H.state host.old)
         (IsInOrder administration.old.database administration.old.lists.lists) }
-    requires open { IsOpen diversions.now.ways administration.old }
+    requires open { IsOpen diversions.old.ways administration.old }
     requires indexed { IfSome administration.old.packages
         (ArePackagesOf administration.old.database.records) }
     ensures ok { IfOk result (λ unit. RunsUnit auto_deconfigure candidate
-        (held_by administration.old diversions.now) (held_by administration.new diversions.now)
+        (held_by administration.old diversions.old) (held_by administration.new diversions.new)
         unit (H.state host.old) (H.state host.new)) }
     ensures room { OnOk result (room ≡ true) }
     ensures order { OnOk result (Needs (H.state host.new)
         (IsInOrder administration.new.database administration.new.lists.lists)) }
-    ensures open { OnOk result (IsOpen diversions.now.ways administration.new) }
+    ensures open { OnOk result (IsOpen diversions.new.ways administration.new) }
     ensures indexed { OnOk result (IfSome administration.new.packages
         (ArePackagesOf administration.new.database.records)) }
     ensures broken_off { IfErr result (λ unit. IsBrokenOff auto_deconfigure candidate
-        (held_by administration.old diversions.now) unit (H.state host.old) (H.state host.new)) }
+        (held_by administration.old diversions.old) unit (H.state host.old) (H.state host.new)) }
     ensures told { IfOk result (λ unit. TellsAll (H.state host.old) (H.state host.new) []
         unit.calls.items) }
     ensures any_moment { AtEachMomentOf (IsAmidUnitOf auto_deconfigure candidate.tree
-        (held_by administration.old diversions.now)) (H.state host.old) (H.state host.new) }
+        (held_by administration.old diversions.old)) (H.state host.old) (H.state host.new) }
     ensures no_fault { OnOk result (NoFault (H.state host.old) (H.state host.new)) }
     ensures counts { IfErr result (λ unit. CountsReply (H.state host.old) (H.state host.new)
         unit.reply) }
     ensures not_closed { IfErr result (λ unit. IsBrokenBy Closed unit.reply → ⊥) }
+    ensures kept { KeepsEntries diversions.old diversions.new }
     ensures labels { OnOk result (labels.new ≡ labels.old ++ label_of candidate ∷ []) }
 {
     if prepare(labels, &candidate, room).is_err() {
@@ -156,22 +161,25 @@ fn take_unit<H: Host>(
 fn take_trees<H: Host, T: Trees, W: Watcher>(
     host: &mut H,
     administration: &mut Administration,
-    diversions: &Diversions,
-    unpacks: &mut Unpacks<'_, '_, T>,
+    unpacks: &mut Unpacks<'_, '_, '_, T>,
     watcher: &mut W,
 ) -> Report
     requires none { unpacks.old.labels.now ≡ [] }
     requires order { Needs (H.state host.old)
         (IsInOrder administration.old.database administration.old.lists.lists) }
-    requires open { IsOpen diversions.now.ways administration.old }
+    requires open { IsOpen unpacks.old.diversions.now.ways administration.old }
     requires indexed { IfSome administration.old.packages
         (ArePackagesOf administration.old.database.records) }
     ensures trees_stay { unpacks.new.trees.ghost_name ≡ unpacks.old.trees.ghost_name }
     ensures labels_stay { unpacks.new.labels.ghost_name ≡ unpacks.old.labels.ghost_name }
+    ensures diversions_stay { unpacks.new.diversions.ghost_name
+        ≡ unpacks.old.diversions.ghost_name }
+    ensures kept { KeepsEntries unpacks.old.diversions.now unpacks.new.diversions.now }
     ensures run { (cs : List ACandidate)
         × AreRead T.reads unpacks.old.trees.now cs unpacks.new.trees.now
         × HasRunThrough unpacks.old.auto_deconfigure cs (T.words unpacks.new.trees.now) result
-        (held_by administration.old diversions.now) (held_by administration.new diversions.now)
+        (held_by administration.old unpacks.old.diversions.now)
+        (held_by administration.new unpacks.new.diversions.now)
         (H.state host.old) (H.state host.new) × (IsNone result.last
         → unpacks.new.labels.now ≡ map label_of cs) }
     ensures told { TellsCalls (H.state host.old) (H.state host.new) result }
@@ -179,20 +187,13 @@ fn take_trees<H: Host, T: Trees, W: Watcher>(
     ensures not_closed { IfSome result.last (λ unit. IsBrokenBy Closed unit.reply → ⊥) }
     ensures order { IsNone result.last → Needs (H.state host.new)
         (IsInOrder administration.new.database administration.new.lists.lists) }
-    ensures open { IsNone result.last → IsOpen diversions.now.ways administration.new }
+    ensures open { IsNone result.last → IsOpen unpacks.new.diversions.now.ways administration.new }
     ensures indexed { IsNone result.last → IfSome administration.new.packages
         (ArePackagesOf administration.new.database.records) }
     ensures watched { IsTold W.tells (H.state host.old) watcher.old result.units.items watcher.new }
 {
     let mut units = Vec::new(administration.alloc);
-    match run_units(
-        host,
-        administration,
-        diversions,
-        unpacks,
-        &mut units,
-        watcher,
-    ) {
+    match run_units(host, administration, unpacks, &mut units, watcher) {
         Ok(()) => Report { units, last: None },
         Err(unit) => Report {
             units,
@@ -206,7 +207,7 @@ fn take_trees<H: Host, T: Trees, W: Watcher>(
 pub(crate) fn unpack_trees<H: Host, T: Trees, W: Watcher>(
     host: &mut H,
     administration: &mut Administration,
-    diversions: &Diversions,
+    diversions: &mut Diversions,
     trees: &mut T,
     auto_deconfigure: bool,
     labels: &mut Texts,
@@ -215,20 +216,21 @@ pub(crate) fn unpack_trees<H: Host, T: Trees, W: Watcher>(
     requires none { labels.old ≡ [] }
     requires order { Needs (H.state host.old)
         (IsInOrder administration.old.database administration.old.lists.lists) }
-    requires open { IsOpen diversions.now.ways administration.old }
+    requires open { IsOpen diversions.old.ways administration.old }
     requires indexed { IfSome administration.old.packages
         (ArePackagesOf administration.old.database.records) }
     ensures run { (cs : List ACandidate) × AreRead T.reads trees.old cs trees.new
         × HasRunThrough auto_deconfigure cs (T.words trees.new) result
-        (held_by administration.old diversions.now) (held_by administration.new diversions.now)
+        (held_by administration.old diversions.old) (held_by administration.new diversions.new)
         (H.state host.old) (H.state host.new) × (IsNone result.last
         → labels.new ≡ map label_of cs) }
+    ensures kept { KeepsEntries diversions.old diversions.new }
     ensures told { TellsCalls (H.state host.old) (H.state host.new) result }
     ensures counts { CountsLast (H.state host.old) (H.state host.new) result.last }
     ensures not_closed { IfSome result.last (λ unit. IsBrokenBy Closed unit.reply → ⊥) }
     ensures order { IsNone result.last → Needs (H.state host.new)
         (IsInOrder administration.new.database administration.new.lists.lists) }
-    ensures open { IsNone result.last → IsOpen diversions.now.ways administration.new }
+    ensures open { IsNone result.last → IsOpen diversions.new.ways administration.new }
     ensures indexed { IsNone result.last → IfSome administration.new.packages
         (ArePackagesOf administration.new.database.records) }
     ensures watched { IsTold W.tells (H.state host.old) watcher.old result.units.items watcher.new }
@@ -236,7 +238,8 @@ pub(crate) fn unpack_trees<H: Host, T: Trees, W: Watcher>(
     let mut unpacks = Unpacks {
         trees,
         labels,
+        diversions,
         auto_deconfigure,
     };
-    take_trees(host, administration, diversions, &mut unpacks, watcher)
+    take_trees(host, administration, &mut unpacks, watcher)
 }

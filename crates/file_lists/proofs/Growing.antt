@@ -1,5 +1,5 @@
 -- What was followed stays so where aliases of the same world are added.
-use Rattle.std.proofs.Common.{◌≡◌, ◌≢◌, ℕ, zero, suc, Bool, true, false, IsTrue, ◌||◌, cond, List, [], ◌∷◌, ◌++◌, nat_eq, Option, refl, sym, ap, subst, ◌∙◌, append_assoc, arith, Contains}
+use Rattle.std.proofs.Common.{◌≡◌, ◌≢◌, ℕ, zero, suc, Bool, true, false, not, IsTrue, ◌||◌, cond, List, [], ◌∷◌, ◌++◌, nat_eq, Option, refl, sym, ap, subst, ◌∙◌, append_assoc, arith, Contains}
 use Rattle.std.specs.Str.{bytes_eq}
 use Rattle.std.proofs.lemmas.Bool.{or_parts, false≢true, eqb-true}
 use Rattle.std.proofs.lemmas.List.{append-nil}
@@ -8,18 +8,23 @@ use Rattle.std.proofs.lemmas.Slice.Eq.{bytes_eq-Decides}
 use Rattle.host_core.specs.Paths.{Path}
 use Rattle.host_core.specs.World.{World}
 use Rattle.aliases.specs.Aliases.{Alias, is_alias, led, gone, way_from, way_to}
-use Rattle.aliases.specs.Links.{leads_to, node_at}
+use Rattle.aliases.specs.Links.{above, leads_to, node_at}
 use Rattle.aliases.specs.Reading.{is_link, or_itself, led_in, AreAliasesIn, IsWhole, Grows}
 use Rattle.aliases.proofs.Following.{led_free}
+use Rattle.aliases.proofs.Beside.{whole_beside}
 use Rattle.diversions.specs.Diverted.{Diverted}
 use Rattle.diversions.specs.Ways.{Ways}
-use Rattle.file_lists.specs.Followed.{AreFollowed, HasMoreAliases}
+use Rattle.file_lists.specs.Followed.{AreFollowed, ArePassed, HasMoreAliases}
 use Rattle.file_lists.specs.Owners.{paths_of}
 use Rattle.file_lists.specs.declared.paths.PackageList.{PackageList}
 
 pub aliases_more : (w : World) (old added : List Alias) → AreAliasesIn w old → AreAliasesIn w added → AreAliasesIn w (old ++ added)
 aliases_more w [] added first second = second
 aliases_more w (a ∷ old) added first second = (first.0, aliases_more w old added first.1 second)
+
+aliases_front : (w : World) (old added : List Alias) → AreAliasesIn w (old ++ added) → AreAliasesIn w old
+aliases_front w [] added each = tt
+aliases_front w (a ∷ old) added each = (each.0, aliases_front w old added each.1)
 
 module _ (w : World) where
   -- an alias leads where its link does
@@ -122,6 +127,30 @@ aliases_grown honest w a b more h each = subst (λ (x : Diverted). AreAliasesIn 
 -- a path stays followed
 pub whole_grown : (honest : Bool) (w : World) (a b : Diverted) (path : Path) → HasMoreAliases honest w a b → IsTrue honest → AreAliasesIn w a.ways.aliases → IsWhole w path a.ways.aliases → IsWhole w path b.ways.aliases
 whole_grown honest w a b path more h each whole = subst (λ (x : Diverted). IsWhole w path x.ways.aliases) (sym more.kept) (whole_more w path a.ways.aliases more.added each (more.sound h) whole)
+
+-- the aliases before a change are ones of the world, as those behind it are
+aliases_before : (honest : Bool) (w : World) (a b : Diverted) → HasMoreAliases honest w a b → AreAliasesIn w b.ways.aliases → AreAliasesIn w a.ways.aliases
+aliases_before honest w a b more each = aliases_front w a.ways.aliases more.added (subst (λ (x : Diverted). AreAliasesIn w x.ways.aliases) more.kept each)
+
+-- so do the paths of directories that were gone through
+pub passed_grown : (honest : Bool) (w : World) (a b : Diverted) (directories : Path → Bool) → HasMoreAliases honest w a b → IsTrue honest → ArePassed a.ways.aliases directories w → ArePassed b.ways.aliases directories w
+passed_grown honest w a b directories more h passed each path is = (let before = aliases_before honest w a b more each in whole_grown honest w a b path more h before (passed before path is))
+
+-- and of one directory more, a path of which is followed
+pub passed_more : (honest : Bool) (w : World) (a b : Diverted) (path directory : Path) (old new : Path → Bool) → HasMoreAliases honest w a b → IsTrue honest → directory ≡ above path → ((q : Path) → new q ≡ cond (bytes_eq directory q) true (old q))
+    → (AreAliasesIn w a.ways.aliases → IsWhole w path b.ways.aliases) → ArePassed a.ways.aliases old w → ArePassed b.ways.aliases new w
+passed_more honest w a b path directory old new more h is updates here passed each q entered = at (bytes_eq directory (above q)) refl (sym (updates (above q)) ∙ entered)
+  where
+    at : (t : Bool) → bytes_eq directory (above q) ≡ t → cond t true (old (above q)) ≡ true → IsWhole w q b.ways.aliases
+    at true same found = whole_beside w b.ways.aliases path q (sym is ∙ (bytes_eq-Decides directory (above q)).0 same) (here (aliases_before honest w a b more each))
+    at false other found = passed_grown honest w a b old more h passed each q found
+
+pub same_directory : (directory last : Path) → false ≡ not (bytes_eq directory last) → directory ≡ last
+same_directory directory last told = at (bytes_eq directory last) refl told
+  where
+    at : (b : Bool) → bytes_eq directory last ≡ b → false ≡ not b → directory ≡ last
+    at true same told = (bytes_eq-Decides directory last).0 same
+    at false other told = absurd (false≢true told)
 
 -- lists of which each is followed
 pub all_listed : (lists : List PackageList) (P : Path → Type 0) → ((l : PackageList) → Contains lists l → (path : Path) → Contains l.paths path → P path) → (name : List ℕ) (path : Path) → Contains (paths_of lists name) path → P path

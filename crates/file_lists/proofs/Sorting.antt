@@ -3,6 +3,8 @@ use Rattle.std.proofs.Common.{◌≡◌, ◌∙◌, ℕ, Bool, true, false, cond
 use Rattle.std.specs.List.{list_any, AllByRecursion}
 use Rattle.std.specs.Str.{bytes_eq}
 use Rattle.std.proofs.lemmas.Bool.{true≢false}
+use Rattle.std.specs.List.Sorted.{IsPermutation}
+use Rattle.std.proofs.lemmas.List.Sorted.{IsPermutation-sym, Contains-permutation}
 use Rattle.std.proofs.lemmas.Slice.Eq.{bytes_eq-Decides}
 use Rattle.std.specs.Prelude.{codes, length, ◌||◌, ◌&&◌, nat_le}
 use Rattle.host_core.specs.Paths.{Path, is_path_text, is_rooted, path_of, has_room}
@@ -28,6 +30,11 @@ pub drawn_same : (paths drawn : List Path) (all left : Path → Bool) → ((q : 
 drawn_same paths drawn all left told is none q =
     let drawn_is = drawn_all all left drawn is none q in
     (λ has. any_contains paths q (sym (told q) ∙ drawn_is.0 has), λ has. drawn_is.1 (told q ∙ contains_any paths q has))
+
+-- what has the same paths as others in another order has the same as these
+pub same_moved : (paths moved drawn : List Path) → IsPermutation paths moved → IsSameSet moved drawn → IsSameSet paths drawn
+same_moved paths moved drawn moves same q =
+    (λ has. Contains-permutation moved paths q (IsPermutation-sym paths moved moves) ((same q).0 has), λ has. (same q).1 (Contains-permutation paths moved q moves has))
 
 -- The paths of good lines have room.
 

@@ -1,8 +1,9 @@
 -- Listed paths behind links to directories.
-use Rattle.std.specs.Prelude.{◌≡◌, ◌++◌, ℕ, Bool, List, IsTrue, Contains}
+use Rattle.std.specs.Prelude.{◌≡◌, ◌++◌, ℕ, Bool, true, List, IsTrue, Contains}
 use Rattle.host_core.specs.Paths.{Path}
 use Rattle.host_core.specs.World.{World}
 use Rattle.aliases.specs.Aliases.{Alias}
+use Rattle.aliases.specs.Links.{above}
 use Rattle.aliases.specs.Reading.{AreAliasesIn, IsWhole}
 use Rattle.diversions.specs.Diverted.{Diverted}
 use Rattle.diversions.specs.Ways.{Ways}
@@ -19,3 +20,7 @@ pub record HasMoreAliases (honest : Bool) (w : World) (old new : Diverted) : Typ
   pub added : List Alias
   pub kept : new ≡ record old { ways = record old.ways { aliases = old.ways.aliases ++ added } }
   pub sound : IsTrue honest → AreAliasesIn w added
+
+-- Where the aliases are ones of the world, each path in one of these directories is followed to where it leads there.
+abbrev pub ArePassed : List Alias → (Path → Bool) → World → Type 0
+ArePassed aliases directories w = AreAliasesIn w aliases → (path : Path) → directories (above path) ≡ true → IsWhole w path aliases

@@ -56,7 +56,21 @@ pub(crate) fn texts_of(alloc: Global, paths: &[RootPath]) -> Result<BTreeSet<Str
     Ok(set)
 }
 
-/// These paths in the order of their bytes, each once.
+// The same, where some path may stand there more than once.
+fn each_once(alloc: Global, paths: Paths) -> Result<Paths, AllocError>
+    requires { AllByRecursion IsListable paths }
+    ensures paths { IfOk result AreListPaths }
+    ensures same { IfOk result (IsSameSet paths) }
+{
+    let mut set = texts_of(alloc, paths.as_slice())?;
+    let mut items = Vec::new(alloc);
+    while let Some(text) = set.pop_first() {
+        items.push(RootPath::new(text))?;
+    }
+    Ok(Paths { items })
+}
+
+/// These paths in the order of their bytes, each once. A list that was written by dpkg has few runs, which the sort joins.
 pub(crate) fn in_order(alloc: Global, paths: Paths) -> Result<Paths, AllocError>
     requires { AllByRecursion IsListable paths }
     ensures paths { IfOk result AreListPaths }
@@ -65,10 +79,10 @@ pub(crate) fn in_order(alloc: Global, paths: Paths) -> Result<Paths, AllocError>
     if are_increasing(paths.as_slice()) {
         return Ok(paths);
     }
-    let mut set = texts_of(alloc, paths.as_slice())?;
-    let mut items = Vec::new(alloc);
-    while let Some(text) = set.pop_first() {
-        items.push(RootPath::new(text))?;
+    let mut sorted = paths;
+    sorted.items.sort_by(|a, b| a.as_str().cmp(b.as_str()))?;
+    if are_increasing(sorted.as_slice()) {
+        return Ok(sorted);
     }
-    Ok(Paths { items })
+    each_once(alloc, sorted)
 }

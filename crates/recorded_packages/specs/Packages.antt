@@ -1,10 +1,10 @@
 -- Recorded packages, as relations see them (Policy 7.1).
-use Rattle.std.specs.Prelude.{◌≡◌, true, false, Bool, List, [], ◌∷◌}
+use Rattle.std.specs.Prelude.{◌≡◌, ℕ, true, false, Bool, List, [], ◌∷◌, Option, Some, None}
 use Rattle.relation_fields.specs.declared.relation_field.RelationField.TheVariants.{PreDepends, Depends, Breaks, Conflicts, Replaces}
 use Rattle.relation_index.specs.declared.package.Package.{Package}
 use Rattle.relation_index.specs.declared.package.PackageState.{PackageState}
 use Rattle.relation_index.specs.declared.package.PackageState.TheVariants as of
-use Rattle.stated_relations.specs.Relations.{StatesClauses, StatesProvides, is_essential}
+use Rattle.stated_relations.specs.Relations.{StatesClauses, StatesProvides, architecture_of, counted_as, is_essential}
 use Rattle.status_records.specs.Configured.{last_configured}
 use Rattle.status_records.specs.declared.record.Record.{Record}
 use Rattle.status_records.specs.declared.words.Flag.{Flag}
@@ -24,9 +24,20 @@ abbrev pub is_reinstreq : Flag → Bool
 is_reinstreq flag.Ok = false
 is_reinstreq flag.Reinstreq = true
 
--- a package as its record tells of it
-pub record IsPackageOf (r : Record) (p : Package) : Type 0 where
+-- the architecture of a root: that of its first recorded package that doesn't fit each
+abbrev pub root_architecture : List Record → Option (List ℕ)
+root_architecture [] = None
+root_architecture (r ∷ rs) = counted_as (root_architecture rs) (architecture_of r.fields)
+
+-- the same by the packages: of the first one, which counts as of it
+abbrev pub first_architecture : List Package → Option (List ℕ)
+first_architecture [] = None
+first_architecture (p ∷ ps) = p.architecture
+
+-- a package of a root of this architecture, as its record tells of it
+pub record IsPackageOf (root : Option (List ℕ)) (r : Record) (p : Package) : Type 0 where
   pub name : p.name ≡ r.name
+  pub architecture : p.architecture ≡ counted_as root (architecture_of r.fields)
   pub version : p.version ≡ r.version
   pub state : p.state ≡ package_state r.state
   pub reinstreq : p.reinstreq ≡ is_reinstreq r.flag
@@ -41,8 +52,11 @@ pub record IsPackageOf (r : Record) (p : Package) : Type 0 where
   pub replaces : ∥ StatesClauses Replaces r.fields p.replaces ∥₁
 
 -- a package for each record, in the records' order
+abbrev pub ArePackagesIn : Option (List ℕ) → List Record → List Package → Type 0
+ArePackagesIn root [] [] = Unit {0}
+ArePackagesIn root [] (p ∷ ps) = ⊥
+ArePackagesIn root (r ∷ rs) [] = ⊥
+ArePackagesIn root (r ∷ rs) (p ∷ ps) = IsPackageOf root r p × ArePackagesIn root rs ps
+
 abbrev pub ArePackagesOf : List Record → List Package → Type 0
-ArePackagesOf [] [] = Unit {0}
-ArePackagesOf [] (p ∷ ps) = ⊥
-ArePackagesOf (r ∷ rs) [] = ⊥
-ArePackagesOf (r ∷ rs) (p ∷ ps) = IsPackageOf r p × ArePackagesOf rs ps
+ArePackagesOf records packages = ArePackagesIn (root_architecture records) records packages

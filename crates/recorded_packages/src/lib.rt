@@ -4,5 +4,5 @@
 mod packages;
 mod renewal;
 
-pub use packages::packages_of;
+pub use packages::{packages_of, root_architecture};
 pub use renewal::{renew, renew_one};

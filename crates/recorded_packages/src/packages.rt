@@ -1,14 +1,16 @@
 // The packages of the records, as relations see them.
-ghost use Rattle.std.specs.Prelude.{◌≡◌, IfOk};
-ghost use Rattle.recorded_packages.specs.Packages.{package_state, is_reinstreq, IsPackageOf, ArePackagesOf};
+ghost use Rattle.std.specs.Prelude.{◌≡◌, List, IfOk, option_copied};
+ghost use Rattle.recorded_packages.specs.Packages.{package_state, is_reinstreq, first_architecture, root_architecture, IsPackageOf, ArePackagesOf};
 ghost use Rattle.status_records.specs.Configured.{last_configured};
 ghost use Rattle.status_db.specs.Order.{AreInOrder};
+ghost use Rattle.status_records.specs.declared.record.Record.{Record as ARecord};
 
 use relation_fields::{Form, RelationField};
 use relation_index::{Package, PackageState, Packages};
-use stated_relations::{is_essential, provides_of, relations_of};
+use stated_relations::{architecture_of, counted_as, is_essential, provides_of, relations_of};
 use status_records::{Flag, Record, State};
 use std::alloc::{AllocError, Global};
+use texts::Text;
 use version_order::Version;
 
 fn package_state(state: State) -> PackageState
@@ -42,13 +44,56 @@ fn configured_of(entry: &Record) -> Result<Option<Version>, AllocError>
     }
 }
 
-/// The package of a record, with the relations that its fields state.
-pub(crate) fn package_of(alloc: Global, entry: &Record) -> Result<Package, AllocError>
-    ensures { IfOk result (IsPackageOf entry.now) }
+/// The architecture of a root of these records: that of the first package that doesn't fit each.
+pub(crate) fn root_of(records: &[Record]) -> Option<&str>
+    ensures { option_copied result ≡ root_architecture records.now }
+{
+    for entry in records {
+        if let Some(own) = architecture_of(&entry.fields) {
+            return Some(own);
+        }
+    }
+    None
+}
+
+fn word_of(word: &Option<Text>) -> Option<&str>
+    ensures { option_copied result ≡ word.now }
+{
+    match word {
+        Some(word) => Some(word.as_str()),
+        None => None,
+    }
+}
+
+fn first_architecture(packages: &[Package]) -> Option<&str>
+    ensures { option_copied result ≡ first_architecture packages.now }
+{
+    match packages {
+        [] => None,
+        [first, ..] => word_of(&first.architecture),
+    }
+}
+
+/// The architecture of the root of these packages, if it has one.
+pub fn root_architecture(packages: &Packages) -> Option<&str>
+    ensures { (records : List ARecord) → ArePackagesOf records packages.now → option_copied result
+        ≡ root_architecture records }
+{
+    first_architecture(packages.as_slice())
+}
+
+/// The package of a record in a root of this architecture, with the relations that its fields state.
+pub(crate) fn package_of(
+    alloc: Global,
+    root: Option<&str>,
+    entry: &Record,
+) -> Result<Package, AllocError>
+    ensures { IfOk result (IsPackageOf (option_copied root.entry) entry.now) }
 {
     let fields = &entry.fields;
     Ok(Package {
         name: entry.name.copy()?,
+        architecture: counted_as(alloc, root, fields)?,
         version: entry.version.copy()?,
         state: package_state(entry.state),
         reinstreq: is_reinstreq(entry.flag),
@@ -69,9 +114,10 @@ pub fn packages_of(alloc: Global, records: &[Record]) -> Result<Packages, AllocE
     requires { AreInOrder records.now }
     ensures { IfOk result (ArePackagesOf records.now) }
 {
+    let root = root_of(records);
     let mut list = Vec::new(alloc);
     for entry in records {
-        list.push(package_of(alloc, entry)?)?;
+        list.push(package_of(alloc, root, entry)?)?;
     }
     match Packages::of(alloc, list)? {
         Some(packages) => Ok(packages),

@@ -14,7 +14,8 @@ use Rattle.std.proofs.lemmas.Map.Text.{btree_map_updates_text}
 use Rattle.std.proofs.lemmas.Slice.Eq.{bytes_eq-Decides}
 use Rattle.dependency_sets.specs.Sets.{row_at}
 use Rattle.dependency_sets.proofs.RemovalLaws.{in_more}
-use Rattle.relation_fields.specs.Admission.{admits, clause_admits, is_met, is_met_by_provided}
+use Rattle.relation_fields.specs.Admission.{admits, admits_entry, clause_admits, is_met, is_met_by_provided}
+use Rattle.relation_fields.specs.Architectures.{is_to, is_to_entry}
 use Rattle.relation_fields.specs.declared.alternative.Alternative.{Alternative}
 use Rattle.relation_fields.specs.declared.provides.Provided.{Provided}
 use Rattle.relation_index.specs.Bearing.{bears, IsAdmitted, HasPushed, IsEntered, Grows, IsIndex}
@@ -109,33 +110,35 @@ pushed_more a packages numbers i old mid new lt h kept here only = record {
 }
 
 -- what is admitted bears the name
-admitted_bears : (a : Alternative) (p : Package) → admits a p.name p.version p.provides ≡ true → IsTrue (bears a.name p)
-admitted_bears a p t = ⊎_elim
-    (λ (own : (bytes_eq a.name p.name && is_met a.restriction p.version) ≡ true). or_left (bytes_eq a.name p.name) (list_any (λ e. bytes_eq a.name e.name) p.provides) (and_parts (bytes_eq a.name p.name) (is_met a.restriction p.version) own).0)
-    (λ (other : list_any (λ e. bytes_eq a.name e.name && is_met_by_provided a.restriction e.version) p.provides ≡ true).
-    let w = Any-from_list_any (λ e. bytes_eq a.name e.name && is_met_by_provided a.restriction e.version) p.provides other in
-    let named : bytes_eq a.name w.1.name ≡ true = (and_parts (bytes_eq a.name w.1.name) (is_met_by_provided a.restriction w.1.version) w.4).0 in
+admitted_bears : (a : Alternative) (p : Package) → admits a p.name p.architecture p.version p.provides ≡ true → IsTrue (bears a.name p)
+admitted_bears a p t =
+    let own_meets : Bool = is_to a.architecture p.architecture && is_met a.restriction p.version in
+    ⊎_elim
+    (λ (own : (bytes_eq a.name p.name && (is_to a.architecture p.architecture && is_met a.restriction p.version)) ≡ true). or_left (bytes_eq a.name p.name) (list_any (λ e. bytes_eq a.name e.name) p.provides) (and_parts (bytes_eq a.name p.name) own_meets own).0)
+    (λ (other : list_any (admits_entry a p.architecture) p.provides ≡ true).
+    let w = Any-from_list_any (admits_entry a p.architecture) p.provides other in
+    let named : bytes_eq a.name w.1.name ≡ true = (and_parts (bytes_eq a.name w.1.name) (is_to_entry a.architecture w.1.architecture p.architecture && is_met_by_provided a.restriction w.1.version) w.4).0 in
     or_right (bytes_eq a.name p.name) (list_any (λ e. bytes_eq a.name e.name) p.provides)
     (list_any_at (λ e. bytes_eq a.name e.name) p.provides w.0 w.1 w.2 (subst (λ (e : Provided). bytes_eq a.name e.name ≡ true) (sym w.3) named)))
-    (or_cases (bytes_eq a.name p.name && is_met a.restriction p.version) (list_any (λ e. bytes_eq a.name e.name && is_met_by_provided a.restriction e.version) p.provides) t)
+    (or_cases (bytes_eq a.name p.name && (is_to a.architecture p.architecture && is_met a.restriction p.version)) (list_any (admits_entry a p.architecture) p.provides) t)
 
 pub meets_none : (packages : List Package) (x : ℕ) → Contains [] x ↔ Meets [] packages x
 meets_none packages x = (λ c. absurd (none_in x c), λ w. absurd (false≢true w.3))
 
 pub meets_more : (packages : List Package) (slots : List ℕ → Option ℕ) (rows : List (List ℕ)) (clause : List Alternative) (i : ℕ) (a : Alternative) (name : List ℕ) (row old new : List ℕ) → i < length clause → a ≡ get_or clause i a → name ≡ a.name → IsIndex packages slots rows → ((s : ℕ) → slots name ≡ Some s → row ≡ row_at rows s) → HasPushed a packages row old new → ((x : ℕ) → Contains old x ↔ Meets (take i clause) packages x) → (x : ℕ) → Contains new x ↔ Meets (take (i + 1) clause) packages x
 meets_more packages slots rows clause i a name row old new lt at is index row_is pushed h x =
-    let test : Package → Alternative → Bool = λ p b. admits b p.name p.version p.provides in
-    let more : (p : Package) → clause_admits (take (i + 1) clause) p.name p.version p.provides ≡ (clause_admits (take i clause) p.name p.version p.provides || admits a p.name p.version p.provides) = λ p.
-    list_any_more (test p) clause i a lt ∙ ap (λ (b : Alternative). clause_admits (take i clause) p.name p.version p.provides || admits b p.name p.version p.provides) (sym at) in (
+    let test : Package → Alternative → Bool = λ p b. admits b p.name p.architecture p.version p.provides in
+    let more : (p : Package) → clause_admits (take (i + 1) clause) p.name p.architecture p.version p.provides ≡ (clause_admits (take i clause) p.name p.architecture p.version p.provides || admits a p.name p.architecture p.version p.provides) = λ p.
+    list_any_more (test p) clause i a lt ∙ ap (λ (b : Alternative). clause_admits (take i clause) p.name p.architecture p.version p.provides || admits b p.name p.architecture p.version p.provides) (sym at) in (
       λ c. ⊎_elim
-          (λ c. let w = (h x).0 c in (w.0, w.1, w.2, more w.0 ∙ or_left (clause_admits (take i clause) w.0.name w.0.version w.0.provides) (admits a w.0.name w.0.version w.0.provides) w.3))
-          (λ w. (w.0, w.1, w.2, more w.0 ∙ or_right (clause_admits (take i clause) w.0.name w.0.version w.0.provides) (admits a w.0.name w.0.version w.0.provides) w.3))
+          (λ c. let w = (h x).0 c in (w.0, w.1, w.2, more w.0 ∙ or_left (clause_admits (take i clause) w.0.name w.0.architecture w.0.version w.0.provides) (admits a w.0.name w.0.architecture w.0.version w.0.provides) w.3))
+          (λ w. (w.0, w.1, w.2, more w.0 ∙ or_right (clause_admits (take i clause) w.0.name w.0.architecture w.0.version w.0.provides) (admits a w.0.name w.0.architecture w.0.version w.0.provides) w.3))
           (pushed.no_more x c),
       λ w. let p = w.0 in ⊎_elim
           (λ t. pushed.kept x ((h x).1 (p, w.1, w.2, t)))
-          (λ (t : admits a p.name p.version p.provides ≡ true).
+          (λ (t : admits a p.name p.architecture p.version p.provides ≡ true).
           let e = index.entered x p a.name w.1 w.2 (admitted_bears a p t) in
           let r : row ≡ row_at rows e.0 = row_is e.0 (ap slots is ∙ e.1) in
           pushed.pushed x (subst (λ (l : List ℕ). Contains l x) (sym r) e.2) (p, w.1, w.2, t))
-          (or_cases (clause_admits (take i clause) p.name p.version p.provides) (admits a p.name p.version p.provides) (sym (more p) ∙ w.3)),
+          (or_cases (clause_admits (take i clause) p.name p.architecture p.version p.provides) (admits a p.name p.architecture p.version p.provides) (sym (more p) ∙ w.3)),
     )

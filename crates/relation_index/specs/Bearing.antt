@@ -15,7 +15,7 @@ bears name p = bytes_eq name p.name || list_any (λ e. bytes_eq name e.name) p.p
 
 -- the alternative admits the package of this number
 abbrev pub IsAdmitted : Alternative → List Package → ℕ → Type 0
-IsAdmitted a packages x = (p : Package) × (x < length packages) × (slice_index_or packages x p ≡ p) × IsTrue (admits a p.name p.version p.provides)
+IsAdmitted a packages x = (p : Package) × (x < length packages) × (slice_index_or packages x p ≡ p) × IsTrue (admits a p.name p.architecture p.version p.provides)
 
 -- those of the numbers that the alternative admits were pushed
 pub record HasPushed (a : Alternative) (packages : List Package) (numbers : List ℕ) (old new : List ℕ) : Type 0 where

@@ -30,9 +30,9 @@ place_package = place_value name_of
 abbrev pub put_package : Package → List Package → List Package
 put_package = put_value name_of
 
--- the package meets the clause by its name and version, or by what it provides
+-- the package meets the clause by its name, architecture and version, or by what it provides
 abbrev pub meets : List Alternative → Package → Bool
-meets clause p = clause_admits clause p.name p.version p.provides
+meets clause p = clause_admits clause p.name p.architecture p.version p.provides
 
 -- the package of this number meets the clause
 abbrev pub Meets : List Alternative → List Package → ℕ → Type 0

@@ -25,6 +25,8 @@ pub enum PackageState {
 #[derive(Drop)]
 pub struct Package {
     pub name: Text,
+    /// As which it counts: its own, or where it fits each that of the root, if there is one.
+    pub architecture: Option<Text>,
     pub version: Version,
     pub state: PackageState,
     pub reinstreq: bool,
@@ -51,23 +53,26 @@ impl Named for Package {
 impl Package {
     fn offer(&self) -> Offer<'_>
         ensures name { result.name.now ≡ self.now.name }
+        ensures architecture { result.architecture.now ≡ self.now.architecture }
         ensures version { result.version.now ≡ self.now.version }
         ensures provides { result.provides.now ≡ self.now.provides }
     {
         Offer {
             name: self.name.as_str(),
+            architecture: &self.architecture,
             version: &self.version,
             provides: &self.provides,
         }
     }
 
     pub(crate) fn is_admitted(&self, alternative: &Alternative) -> bool
-        ensures { result ≡ admits alternative.now self.now.name self.now.version self.now.provides }
+        ensures { result ≡ admits alternative.now self.now.name self.now.architecture
+            self.now.version self.now.provides }
     {
         alternative.admits(&self.offer())
     }
 
-    /// Whether the package meets a clause, by its name and version or by what it provides.
+    /// Whether the package meets a clause, by its name, architecture and version or by what it provides.
     pub fn meets(&self, clause: &Clause) -> bool
         ensures { result ≡ meets clause.now self.now }
     {

@@ -1,5 +1,6 @@
 -- The removals of a command, while they are taken.
 use Rattle.std.specs.Prelude.{◌≡◌, ℕ, Bool, List, [], Option, Some, None}
+use Rattle.diversions.specs.Diverted.{Diverted}
 use Rattle.dependency_check.specs.Waiting.{IsRemovableNow, Waiting}
 use Rattle.held_administration.specs.declared.held.Administration.{Administration}
 use Rattle.relation_index.specs.declared.package.Package.{Package}
@@ -30,13 +31,14 @@ IsQueueTo packages now names q (Some x) = IsQueueBefore packages now names q x
 pub record Task : Type 0 where
   pub purge : Bool
   pub packages : List Package
+  pub diverted : Diverted
 
 abbrev pub packages_in : Option Waiting → List Package
 packages_in None = []
 packages_in (Some q) = q.packages
 
 abbrev pub task_of : Removing → Task
-task_of r = record { purge = r.purge; packages = packages_in r.queue }
+task_of r = record { purge = r.purge; packages = packages_in r.queue; diverted = r.diversions.now }
 
 -- the names that wait
 abbrev pub names_of : Removing → List (List ℕ)

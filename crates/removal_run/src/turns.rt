@@ -102,16 +102,18 @@ fn take_next<H: Host>(
 }
 
 /// The removals of a command: the queue, the package that was removed last, and the names that wait. The queue is that of before
-/// that removal until the next one is taken; where memory is wanting for it, it is gone.
+/// that removal until the next one is taken; where memory is wanting for it, it is gone. They go by
+/// these diversions.
 #[derive(Drop)]
-pub(crate) struct Removing {
+pub(crate) struct Removing<'d> {
+    pub(crate) diversions: &'d Diversions,
     pub(crate) queue: Option<RemoveQueue>,
     pub(crate) removed: Option<usize>,
     pub(crate) waiting: Vec<Text>,
     pub(crate) purge: bool,
 }
 
-impl<H: Host> Turns<H> for Removing {
+impl<'d, H: Host> Turns<H> for Removing<'d> {
     ghost use Rattle.std.specs.Prelude.{ℕ, List, length};
     ghost use Rattle.removal_run.specs.Turns.{HasCalledNext, IsAmidTurn, IsTurn};
     ghost use Rattle.removal_run.specs.Taking.{IsBetween, IsOver, Task, names_of, task_of};
@@ -134,6 +136,8 @@ impl<H: Host> Turns<H> for Removing {
 
     ghost goes = { λ task left later. Unit {0} };
 
+    ghost diverted = { λ r. r.diversions.now };
+
     ghost between = { IsBetween };
 
     ghost over = { IsOver };
@@ -142,7 +146,6 @@ impl<H: Host> Turns<H> for Removing {
         &mut self,
         host: &mut H,
         administration: &mut Administration,
-        diversions: &Diversions,
         room: bool,
     ) -> Result<Option<Unit>, Unit> {
         let alloc = administration.alloc;
@@ -158,7 +161,7 @@ impl<H: Host> Turns<H> for Removing {
                     let found = take_next(
                         host,
                         administration,
-                        diversions,
+                        self.diversions,
                         self.purge,
                         &queue,
                         room,
@@ -234,14 +237,16 @@ pub(crate) fn run_turns<H: Host, W: Watcher>(
         removed: None,
         waiting,
         purge,
+        diversions,
     };
-    match run_units(host, administration, diversions, &mut turns, units, watcher) {
+    match run_units(host, administration, &mut turns, units, watcher) {
         Ok(()) => {
             let Removing {
                 queue,
                 removed: _,
                 waiting,
                 purge: _,
+                diversions: _,
             } = turns;
             match queue {
                 Some(queue) => Ok((queue, waiting)),

@@ -21,7 +21,10 @@ use Rattle.diversions.specs.Sights.{moves_back, moves_node, sight_of}
 use Rattle.diversions.specs.declared.entry.Diversion.{Diversion}
 use Rattle.diversions.specs.declared.refusal.Seen.{Seen}
 use Rattle.dpkg_session.proofs.Shipped.{resolved_shipped, truename_shipped}
-use Rattle.dpkg_session.specs.Diversions.{with_entries}
+use Rattle.dpkg_session.specs.Diversions.{IsDiverting, IsUndiverting, asked_entry, seen_of, with_entries}
+use Rattle.dpkg_session.specs.Growth.{grown}
+use Rattle.dpkg_session.specs.declared.asked.Diverting.{Diverting}
+use Rattle.dpkg_session.specs.declared.asked.Undiverting.{Undiverting}
 use Rattle.file_lists.specs.Info.{IsSound as IsSoundEntry}
 use Rattle.status_db.proofs.NotedWorlds.{records_same}
 use Rattle.status_db.specs.Held.{CanOpenRecords, HasRecords}
@@ -30,7 +33,7 @@ use Rattle.unit_reports.specs.Held.{Held}
 use Rattle.held_administration.specs.Order.{record_names}
 use Rattle.reopening.proofs.Entries.{IsSafe}
 use Rattle.reopening.proofs.Parts.{temporary_is}
-use Rattle.reopening.proofs.Sounds.{IsSound, sound_opens}
+use Rattle.reopening.proofs.Sounds.{IsSound, sound_grown, sound_opens}
 use Rattle.reopening.proofs.Units.{emptied_incoming}
 use Rattle.reopening.proofs.Unpacks.{opened_by}
 use Rattle.reopening.specs.Opens.{CanBeOpened}
@@ -120,6 +123,11 @@ adding_opens h d rename seen old now sound path target (inr (inr amid)) =
     (recorded_same (moves_node rename seen.listed (sight_of rename old from to)) from to old now (resolved_shipped h.ways.aliases d.path path) (resolved_shipped h.ways.aliases d.target target) amid.rest)
     amid.ready (with_entries h.ways table.0) table.1
 
+-- once the aliases above its path and its target are known
+pub diverting_opens : (h : Held) (asked : Diverting) (old now : World) → IsSound h old → is_ship_text asked.path ≡ true → is_ship_text asked.target ≡ true → IsDiverting asked h.records.records h.lists h.ways old now → CanBeOpened now
+diverting_opens h asked old now sound path target (inl same) = subst CanBeOpened (sym same) (sound_opens h old sound)
+diverting_opens h asked old now sound path target (inr (added, read, amid)) = adding_opens (grown h added) (asked_entry asked) asked.rename (seen_of (h.ways.aliases ++ added) h.records.records h.lists asked.owner asked.path) old now (sound_grown h added old sound) path target amid
+
 read_table : (node : Option Node) (entries : List Diversion) → HasEntries node entries → IsTable entries
 read_table None entries has = subst IsTable (sym has) tt
 read_table (Some (File bytes access)) entries has = has.table
@@ -139,3 +147,7 @@ removing_opens h path rename old now sound ships (inr (inr amid)) =
     recording_opens h old now sound
     (recorded_same (moves_back rename old target place) target place old now (truename_shipped h.ways path (read_table (old diversions_path) h.ways.entries sound.safe.diversions) ships) (resolved_shipped h.ways.aliases path ships) amid.rest)
     amid.ready (with_entries h.ways table.0) table.1
+
+pub undiverting_opens : (h : Held) (asked : Undiverting) (old now : World) → IsSound h old → is_ship_text asked.path ≡ true → IsUndiverting asked h.ways old now → CanBeOpened now
+undiverting_opens h asked old now sound ships (inl same) = subst CanBeOpened (sym same) (sound_opens h old sound)
+undiverting_opens h asked old now sound ships (inr (added, read, amid)) = removing_opens (grown h added) asked.path asked.rename old now (sound_grown h added old sound) ships amid

@@ -33,12 +33,13 @@ use Rattle.unpack_plan.specs.Planned.{Job, Planned}
 use Rattle.unpack_relations.specs.declared.checking.Checked.TheVariants.{Planned as Unpacks, Refused}
 use Rattle.undo_rows.specs.declared.rows.Called.{Called}
 use Rattle.dpkg_session.specs.Installs.{HasGoneOn}
+use Rattle.dpkg_session.specs.Growth.{grown}
 use Rattle.dpkg_session.specs.Run.{HasRun, IsAmidBehind, IsAmidBeside, IsAmidBy, IsAmidNext, IsAmidPackage, IsAmidUnitOf, IsAmidUnpack, IsRun, RunsUnit}
 use Rattle.dpkg_session.specs.Units.{HasDisplaced, HasUnpackedBeside, IsUnitBy, IsUnitOf, IsUnpacked, displacing_by, given_by, held_with, yielding}
 use Rattle.dpkg_session.specs.declared.report.Candidate.{Candidate}
 use Rattle.reopening.proofs.Behind.{displaced_lead, displacing_open}
 use Rattle.reopening.proofs.Parts.{AreOf}
-use Rattle.reopening.proofs.Sounds.{Goes, IsSound, goes_refused, held_sound, sound_lists, still_opens}
+use Rattle.reopening.proofs.Sounds.{Goes, IsSound, goes_refused, held_sound, sound_lists, still_opens, sound_grown}
 use Rattle.reopening.proofs.Turns.{Ends, Runs, configure_ends, ends_then, runs_same, runs_then}
 use Rattle.reopening.proofs.Units.{IsHeld, held_same, of_from}
 use Rattle.reopening.proofs.Unpacks.{From, IsUnitTable, ShipsText, amid_names, amid_standing, carried_from, ended_table, found_among, left_records, under_way_opens, went_on}
@@ -154,7 +155,9 @@ by_goes p (Unpacks beside) before after u s t texts falls is = unpacked_goes p b
 
 unit_goes : (auto : Bool) (label : List ℕ) (tree : Result Package TreeFault) (before after : Held) (u : AUnit) (s t : State) → IsTextTree tree → (IsTrue t.honest → IsTrue s.honest) → IsUnitOf auto label tree before after u s t → Goes before after s t
 unit_goes auto label (Err fault) before after u s t texts falls is = goes_refused _ label before after u s t is
-unit_goes auto label (Ok p) before after u s t texts falls is = by_goes p is.0 before after u s t (ships_text p texts) falls is.2
+unit_goes auto label (Ok p) before after u s t texts falls (added, read, is) =
+    let goes = by_goes p is.0 (grown before added) after u s t (ships_text p texts) falls is.2 in
+    record { falls = goes.falls; sound = λ h sound. goes.sound h (sound_grown before added s.world sound) }
 
 -- at each moment
 
@@ -182,7 +185,8 @@ by_opens p (Unpacks beside) before old so_far now texts sound amid = unpack_open
 
 package_opens : (auto : Bool) (p : Package) (before : Held) (old : World) (so_far : List Event) (now : World) → ShipsText p → IsSound before old → IsAmidPackage auto p before old so_far now → CanBeOpened now
 package_opens auto p before old so_far now texts sound (inl still) = still_opens before old now sound still.0
-package_opens auto p before old so_far now texts sound (inr decided) = by_opens p decided.0 before old so_far now texts sound decided.2
+package_opens auto p before old so_far now texts sound (inr (added, read, inl still)) = still_opens before old now sound still.0
+package_opens auto p before old so_far now texts sound (inr (added, read, inr decided)) = by_opens p decided.0 (grown before added) old so_far now texts (sound_grown before added old sound) decided.2
 
 unit_opens : (auto : Bool) (tree : Result Package TreeFault) (before : Held) (old : World) (so_far : List Event) (now : World) → IsTextTree tree → IsSound before old → IsAmidUnitOf auto tree before old so_far now → CanBeOpened now
 unit_opens auto (Err fault) before old so_far now texts sound same = still_opens before old now sound same

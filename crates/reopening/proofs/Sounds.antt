@@ -1,4 +1,6 @@
 -- What is held between two units: an administration that is in order, in which no opening refuses anything.
+use Rattle.aliases.specs.Aliases.{Alias}
+use Rattle.dpkg_session.specs.Growth.{grown}
 use Rattle.std.proofs.Common.{◌≡◌, ℕ, IsTrue, List, [], ◌∷◌, Option, Some, refl, sym, subst, ◌∙◌}
 use Rattle.std.proofs.Math.Logic.{∥∥₁_map}
 use Rattle.std.proofs.lemmas.List.{append-nil}
@@ -51,6 +53,15 @@ held_sound names h w held order = record {
   safe = safe_fewer names (record_names h.records.records) h.ways w (of_names names h.records.records held.all) (held_safe names h.ways h.records.records w held order.loose);
   standing = of_standing names h.records.records held.all;
   empty = held.empty;
+}
+
+-- with more aliases it is sound alike
+pub sound_grown : (before : Held) (added : List Alias) (w : World) → IsSound before w → IsSound (grown before added) w
+sound_grown before added w sound = record {
+  order = sound.order;
+  safe = record { info = sound.safe.info; text = sound.safe.text; sound = sound.safe.sound; diversions = sound.safe.diversions; spare = sound.safe.spare };
+  standing = sound.standing;
+  empty = sound.empty;
 }
 
 -- what is listed is read back

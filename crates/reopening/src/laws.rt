@@ -3,9 +3,7 @@ ghost use Rattle.std.specs.Prelude.{◌≡◌, ◌++◌, [], ℕ, Bool, IsTrue, 
 ghost use Rattle.conffiles.specs.declared.decisions.ConfPolicy.{ConfPolicy as APolicy};
 ghost use Rattle.administration.specs.Places.{status_path};
 ghost use Rattle.configure_run.specs.Run.{HasRun as HasConfigured};
-ghost use Rattle.diversions.specs.Changes.{IsAdding, IsRemoving};
-ghost use Rattle.diversions.specs.declared.refusal.Seen.{Seen as ASeen};
-ghost use Rattle.dpkg_session.specs.Diversions.{asked_entry};
+ghost use Rattle.dpkg_session.specs.Diversions.{IsDiverting, IsUndiverting};
 ghost use Rattle.dpkg_session.specs.History.{HasDone, Ran as ARan, Stands};
 ghost use Rattle.dpkg_session.specs.Installs.{HasGoneOn};
 ghost use Rattle.dpkg_session.specs.Run.{HasRun};
@@ -73,13 +71,13 @@ pub fn a_removal_can_be_opened_amid()
 
 /// At each moment while a diversion is added or taken away, likewise.
 pub fn a_diversion_can_be_opened_amid()
-    ensures divert { (asked : ADiverting) (seen : ASeen) (before : Held) (s t : State)
+    ensures divert { (asked : ADiverting) (before : Held) (s t : State)
         → is_ship_text asked.path ≡ true → is_ship_text asked.target ≡ true → FindsStanding before s
-        → AtEachMoment (IsAdding before.ways (asked_entry asked) asked.rename seen) s t
+        → AtEachMoment (IsDiverting asked before.records.records before.lists before.ways) s t
         → CanBeOpenedAmid s t }
     ensures undivert { (asked : AnUndiverting) (before : Held) (s t : State)
-        → is_ship_text asked.path ≡ true → FindsStanding before s → AtEachMoment
-        (IsRemoving before.ways asked.path asked.rename) s t → CanBeOpenedAmid s t }
+        → is_ship_text asked.path ≡ true → FindsStanding before s
+        → AtEachMoment (IsUndiverting asked before.ways) s t → CanBeOpenedAmid s t }
 {}
 
 /// At each moment of an opening of what can be opened, as a stop or a loss of power left it, so can what is there. Of any

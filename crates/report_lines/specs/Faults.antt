@@ -15,7 +15,7 @@ use Rattle.relation_fields.specs.RelationFields.{relation_name}
 use Rattle.diversions.specs.declared.refusal.Refusal.{Refusal as ItsRefusal}
 use Rattle.diversions.specs.declared.refusal.Refusal.TheVariants as diverted
 use Rattle.unit_reports.specs.declared.refusal.Rule.{Rule}
-use Rattle.unit_reports.specs.declared.refusal.Rule.TheVariants.{Tree, ConffileDiverted, PreDepends, Conflicts, ConflictEssential, Dependents, Breaks, Divert, Unknown, WrongState, Reinstreq, NothingToRemove, Essential, Depends, BrokenBy, ConffileKind, DependedOn}
+use Rattle.unit_reports.specs.declared.refusal.Rule.TheVariants.{Tree, ConffileDiverted, Architecture, PreDepends, Conflicts, ConflictEssential, Dependents, Breaks, Divert, Unknown, WrongState, Reinstreq, NothingToRemove, Essential, Depends, BrokenBy, ConffileKind, DependedOn}
 use Rattle.undo_rows.specs.declared.fall.StepFault.{StepFault}
 use Rattle.undo_rows.specs.declared.fall.StepFault.TheVariants as step
 
@@ -74,11 +74,12 @@ divert_word diverted.OtherOwner = codes "OtherOwner"
 divert_word diverted.TargetExists = codes "TargetExists"
 divert_word diverted.NoParent = codes "NoParent"
 
--- the rule of a refusal with its detail: a path, a clause of relations (Policy 7.1) or another package; of a tree's fault the
+-- the rule of a refusal with its detail: a path, an architecture, a clause of relations (Policy 7.1) or another package; of a tree's fault the
 -- fault is the rule
 abbrev pub rule_text : Rule → List ℕ
 rule_text (Tree fault) = tree_text fault
 rule_text (ConffileDiverted path) = codes "ConffileDiverted " ++ path
+rule_text (Architecture own) = codes "Architecture " ++ own
 rule_text (PreDepends clause) = codes "PreDepends " ++ print_clause clause
 rule_text (Conflicts other) = codes "Conflicts " ++ other
 rule_text (ConflictEssential other) = codes "ConflictEssential " ++ other

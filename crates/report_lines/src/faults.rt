@@ -146,7 +146,7 @@ fn of_clause(alloc: Global, name: &str, clause: &Clause) -> Result<String, Alloc
     format!(in alloc; "{name} {clause}")
 }
 
-// A rule that names another package.
+// A rule that names another package, or the architecture of its own.
 fn of_package(alloc: Global, name: &str, other: &Text) -> Result<String, AllocError>
     ensures { IfOk result (λ text. string_bytes text ≡ name.now ++ (codes " " ++ other.now)) }
 {
@@ -164,6 +164,7 @@ pub(crate) fn rule_text(alloc: Global, rule: &Rule) -> Result<String, AllocError
             let path = path.as_str();
             format!(in alloc; "ConffileDiverted {path}")
         }
+        Rule::Architecture(own) => of_package(alloc, "Architecture", own),
         Rule::PreDepends(clause) => of_clause(alloc, "PreDepends", clause),
         Rule::Conflicts(other) => of_package(alloc, "Conflicts", other),
         Rule::ConflictEssential(other) => of_package(alloc, "ConflictEssential", other),

@@ -1,9 +1,11 @@
--- What a package's fields say of other packages (Policy 7.1 to 7.6), and whether it is essential (Policy 3.8).
-use Rattle.std.specs.Prelude.{◌≡◌, ◌⊎◌, ◌&&◌, ℕ, Bool, false, List, [], codes}
+-- What a package's fields say of other packages (Policy 7.1 to 7.6), of its architecture (5.6.8), and whether it is essential
+-- (Policy 3.8).
+use Rattle.std.specs.Prelude.{◌≡◌, ◌⊎◌, ◌&&◌, ℕ, Bool, false, not, cond, List, [], ◌∷◌, Option, Some, None, option_and_then, codes, if◌then◌else◌}
 use Rattle.std.specs.List.{list_any}
 use Rattle.std.specs.Str.{bytes_eq}
 use Rattle.control_fields.specs.Names.{lower, is_called, value_of, IsFieldCalled}
 use Rattle.control_fields.specs.declared.field.Field.{Field}
+use Rattle.relation_fields.specs.Architectures.{is_architecture}
 use Rattle.relation_fields.specs.Entries.{ReadsProvides}
 use Rattle.relation_fields.specs.Grammar.{Reads}
 use Rattle.relation_fields.specs.RelationFields.{relation_key, field_rules, IsRelation}
@@ -31,6 +33,24 @@ abbrev pub StatesProvides : List Field → List Provided → Type 0
 StatesProvides fields entries =
     ((value : List ℕ) × HasValue (relation_key relation.Provides) fields value × ReadsProvides value entries)
     ⊎ ((is_called (relation_key relation.Provides) fields ≡ false) × (entries ≡ []))
+
+-- what stands on the own line of the field Architecture (Policy 5.6.8)
+abbrev pub architecture_line : List Field → Option (List ℕ)
+architecture_line [] = None
+architecture_line (f ∷ fs) = cond (bytes_eq (lower f.name) (codes "architecture")) (Some f.first) (architecture_line fs)
+
+-- an architecture; a package of `all` fits each, and so does one of which the field says nothing
+abbrev pub one_architecture : List ℕ → Option (List ℕ)
+one_architecture word = if is_architecture word && not (bytes_eq word (codes "all")) then Some word else None
+
+-- the architecture of a package, where it doesn't fit each
+abbrev pub architecture_of : List Field → Option (List ℕ)
+architecture_of fields = option_and_then one_architecture (architecture_line fields)
+
+-- the architecture as which a package counts in a root: its own, else that of the root
+abbrev pub counted_as : Option (List ℕ) → Option (List ℕ) → Option (List ℕ)
+counted_as root None = root
+counted_as root (Some own) = Some own
 
 -- the field Essential with the value `yes` (Policy 5.6.9)
 abbrev pub says_essential : Field → Bool

@@ -42,9 +42,18 @@ fn configured(alloc: Global, row: &Row) -> Result<Option<Version>, Fail> {
     Ok(Some(version))
 }
 
+fn architecture(alloc: Global, row: &Row) -> Result<Option<Text>, Fail> {
+    let text = field(row, "Architecture");
+    if text.is_empty() {
+        return Ok(None);
+    }
+    Ok(Some(Text::from_str(alloc, text)?))
+}
+
 fn package(alloc: Global, row: &Row) -> Result<Package, Fail> {
     Ok(Package {
         name: Text::from_str(alloc, row.0)?,
+        architecture: architecture(alloc, row)?,
         version: Version::parse(alloc, row.1.as_bytes())?,
         state: row.2,
         reinstreq: false,
@@ -307,6 +316,42 @@ const UNPACK_ROWS: &[(&[Row], Row, &str, &str)] = &[
         ("alpha", "2.0", NEW, &[("Conflicts", "delta")]),
         "Conflicts delta",
         "Conflicts delta",
+    ),
+    (
+        &[("delta", "1", INSTALLED, &[("Architecture", "amd64")])],
+        (
+            "alpha",
+            "2.0",
+            NEW,
+            &[("Architecture", "amd64"), ("Conflicts", "delta:amd64")],
+        ),
+        "Conflicts delta",
+        "Conflicts delta",
+    ),
+    (
+        &[("delta", "1", INSTALLED, &[("Architecture", "amd64")])],
+        (
+            "alpha",
+            "2.0",
+            NEW,
+            &[("Architecture", "amd64"), ("Conflicts", "delta:i386")],
+        ),
+        "broken; conflicting; dependent",
+        "broken; conflicting; dependent",
+    ),
+    (
+        &[("bravo", "2", INSTALLED, &[("Architecture", "amd64")])],
+        (
+            "alpha",
+            "2.0",
+            NEW,
+            &[
+                ("Pre-Depends", "bravo:i386 (>= 2)"),
+                ("Breaks", "bravo:x32"),
+            ],
+        ),
+        "PreDepends bravo:i386 (>= 2)",
+        "PreDepends bravo:i386 (>= 2)",
     ),
     (
         &[("delta", "1", PackageState::ConfigFiles, &[])],

@@ -11,7 +11,7 @@ use texts::Text;
 
 mod breaking;
 
-// A file under the root: its path, and what it holds.
+// A file under the root: its path, and what it holds; or a link, where the text begins so.
 type RootFile = (&'static str, &'static str);
 
 // A file of a tree: the word that names the tree, the path under it, and what stands there.
@@ -38,8 +38,19 @@ fn file(alloc: Global, text: &str) -> Result<Node, AllocError> {
     Ok(Node::File { bytes, access })
 }
 
+const LINK: &str = "-> ";
+
+fn node_of(alloc: Global, text: &str) -> Result<Node, AllocError> {
+    match text.strip_prefix(LINK) {
+        Some(target) => Ok(Node::Link {
+            target: Text::from_str(alloc, target)?,
+        }),
+        None => file(alloc, text),
+    }
+}
+
 fn put(alloc: Global, host: &mut MemoryHost, path: &str, text: &str) -> Result<(), AllocError> {
-    host.place(&path_of(alloc, path)?, file(alloc, text)?)?;
+    host.place(&path_of(alloc, path)?, node_of(alloc, text)?)?;
     Ok(())
 }
 

@@ -13,7 +13,6 @@ ghost use Rattle.unit_runs.specs.Taking.{GoesOn};
 ghost use Rattle.unit_runs.specs.Turns.{GoesTo, HasStopped, HaveAllTurned, IsAmidNext, IsAmidTurns, IsBrokenNext};
 
 use crate::turns::Turns;
-use diversions::Diversions;
 use held_administration::Administration;
 use host_core::Host;
 use unit_reports::{Unit, Watcher, what_is_told_in_turn};
@@ -30,34 +29,33 @@ fn has_room(units: &mut Vec<Unit>) -> bool
 fn run_one<H: Host, T: Turns<H>, W: Watcher>(
     host: &mut H,
     administration: &mut Administration,
-    diversions: &Diversions,
     turns: &mut T,
     units: &mut Vec<Unit>,
     watcher: &mut W,
 ) -> Result<bool, Unit>
     requires between { T.between turns.old administration.old }
-    requires open { IsOpen diversions.now.ways administration.old }
+    requires open { IsOpen (T.diverted turns.old).ways administration.old }
     requires order { Needs (H.state host.old)
         (IsInOrder administration.old.database administration.old.lists.lists) }
     ensures ok { IfOk result (GoesOn (T.turn (T.task turns.old)) (T.over turns.new)
-        (T.left turns.old) (T.left turns.new) (held_by administration.old diversions.now)
-        (held_by administration.new diversions.now) (H.state host.old) (H.state host.new)
+        (T.left turns.old) (T.left turns.new) (held_by administration.old (T.diverted turns.old))
+        (held_by administration.new (T.diverted turns.new)) (H.state host.old) (H.state host.new)
         units.old.items units.new.items) }
     ensures between { OnOk result (T.between turns.new administration.new) }
-    ensures open { OnOk result (IsOpen diversions.now.ways administration.new) }
+    ensures open { OnOk result (IsOpen (T.diverted turns.new).ways administration.new) }
     ensures order { OnOk result (Needs (H.state host.new)
         (IsInOrder administration.new.database administration.new.lists.lists)) }
     ensures answered { OnOk result (IsAnswered (H.state host.old) (H.state host.new)) }
     ensures err { OnErr result (units.new.items ≡ units.old.items) }
     ensures broken_off { IfErr result (IsBrokenNext (T.called (T.task turns.old)) (T.left turns.old)
-        (T.left turns.new) (held_by administration.old diversions.now) (H.state host.old)
+        (T.left turns.new) (held_by administration.old (T.diverted turns.old)) (H.state host.old)
         (H.state host.new)) }
     ensures told { OnOk result (TellsAll (H.state host.old) (H.state host.new)
         (calls_of units.old.items) (calls_of units.new.items)) }
     ensures told_broken { IfErr result (λ unit. TellsAll (H.state host.old) (H.state host.new) []
         unit.calls.items) }
     ensures any_moment { AtEachMomentOf (IsAmidNext (T.amid (T.task turns.old)) (T.left turns.old)
-        (T.left turns.new) (held_by administration.old diversions.now)) (H.state host.old)
+        (T.left turns.new) (held_by administration.old (T.diverted turns.old))) (H.state host.old)
         (H.state host.new) }
     ensures no_fault { OnOk result (NoFault (H.state host.old) (H.state host.new)) }
     ensures counts { IfErr result (λ unit. CountsReply (H.state host.old) (H.state host.new)
@@ -72,7 +70,7 @@ fn run_one<H: Host, T: Turns<H>, W: Watcher>(
 {
     what_is_told_in_turn::<W>();
     let room = has_room(units);
-    match turns.take(host, administration, diversions, room) {
+    match turns.take(host, administration, room) {
         Ok(Some(unit)) => {
             watcher.finished(host, &unit);
             units.push(unit).unwrap();
@@ -88,27 +86,26 @@ fn run_one<H: Host, T: Turns<H>, W: Watcher>(
 pub fn run_units<H: Host, T: Turns<H>, W: Watcher>(
     host: &mut H,
     administration: &mut Administration,
-    diversions: &Diversions,
     turns: &mut T,
     units: &mut Vec<Unit>,
     watcher: &mut W,
 ) -> Result<(), Unit>
     requires between { T.between turns.old administration.old }
-    requires open { IsOpen diversions.now.ways administration.old }
+    requires open { IsOpen (T.diverted turns.old).ways administration.old }
     requires order { Needs (H.state host.old)
         (IsInOrder administration.old.database administration.old.lists.lists) }
     ensures turned { OnOk result (HaveAllTurned (T.turn (T.task turns.old)) (T.over turns.new)
-        (T.left turns.old) (held_by administration.old diversions.now) (H.state host.old)
-        units.old.items units.new.items (held_by administration.new diversions.now)
+        (T.left turns.old) (held_by administration.old (T.diverted turns.old)) (H.state host.old)
+        units.old.items units.new.items (held_by administration.new (T.diverted turns.new))
         (H.state host.new)) }
     ensures between { OnOk result (T.between turns.new administration.new) }
-    ensures open { OnOk result (IsOpen diversions.now.ways administration.new) }
+    ensures open { OnOk result (IsOpen (T.diverted turns.new).ways administration.new) }
     ensures order { OnOk result (Needs (H.state host.new)
         (IsInOrder administration.new.database administration.new.lists.lists)) }
     ensures answered { OnOk result (IsAnswered (H.state host.old) (H.state host.new)) }
     ensures stopped { IfErr result (HasStopped (T.turn (T.task turns.old))
         (T.amid (T.task turns.old)) (T.called (T.task turns.old)) (T.left turns.old)
-        (held_by administration.old diversions.now) (H.state host.old) units.old.items
+        (held_by administration.old (T.diverted turns.old)) (H.state host.old) units.old.items
         units.new.items (T.left turns.new) (H.state host.new)) }
     ensures told { OnOk result (TellsAll (H.state host.old) (H.state host.new)
         (calls_of units.old.items) (calls_of units.new.items)) }
@@ -116,7 +113,7 @@ pub fn run_units<H: Host, T: Turns<H>, W: Watcher>(
         (calls_of units.old.items) (calls_of units.new.items ++ unit.calls.items)) }
     ensures any_moment { Since (IsAmidTurns (T.turn (T.task turns.old)) (T.amid (T.task turns.old))
         (λ later. GoesTo (T.goes (T.task turns.old)) later (T.left turns.new)) (T.left turns.old)
-        (held_by administration.old diversions.now) (H.state host.old)) (H.state host.old)
+        (held_by administration.old (T.diverted turns.old)) (H.state host.old)) (H.state host.old)
         (H.state host.new) }
     ensures no_fault { OnOk result (NoFault (H.state host.old) (H.state host.new)) }
     ensures counts { IfErr result (λ unit. CountsReply (H.state host.old) (H.state host.new)
@@ -129,7 +126,7 @@ pub fn run_units<H: Host, T: Turns<H>, W: Watcher>(
 {
     what_is_told_in_turn::<W>();
     loop {
-        match run_one(host, administration, diversions, turns, units, watcher) {
+        match run_one(host, administration, turns, units, watcher) {
             Ok(true) => {}
             Ok(false) => return Ok(()),
             Err(unit) => return Err(unit),

@@ -4,6 +4,7 @@ ghost use Rattle.host_core.specs.Events.{Event};
 ghost use Rattle.host_core.specs.Host.{AtEachMomentOf, Needs, State};
 ghost use Rattle.host_core.specs.Loss.{IsAnswered};
 ghost use Rattle.host_core.specs.World.{World};
+ghost use Rattle.diversions.specs.Diverted.{Diverted};
 ghost use Rattle.held_administration.specs.Open.{IsOpen};
 ghost use Rattle.held_administration.specs.Order.{IsInOrder};
 ghost use Rattle.held_administration.specs.declared.held.Administration.{Administration as AnAdministration};
@@ -15,7 +16,6 @@ ghost use Rattle.unit_reports.specs.declared.report.Unit.{Unit as AUnit};
 ghost use Rattle.unit_runs.specs.Taking.{CountsTaken, IsTaken, calls_in};
 ghost use Rattle.unit_runs.specs.Turns.{IsAmidNext};
 
-use diversions::Diversions;
 use held_administration::Administration;
 use host_core::Host;
 use unit_reports::Unit;
@@ -48,6 +48,9 @@ pub trait Turns<H: Host> {
     /// What waits goes on so by a turn, whatever its end.
     ghost goes: { Self.Task → Self.Left → Self.Left → Type 0 };
 
+    /// The diversions that its turns go by, and the aliases.
+    ghost diverted: { Self → Diverted };
+
     /// What holds between turns.
     ghost between: { Self → AnAdministration → Type 0 };
 
@@ -60,26 +63,25 @@ pub trait Turns<H: Host> {
         &mut self,
         host: &mut H,
         administration: &mut Administration,
-        diversions: &Diversions,
         room: bool,
     ) -> Result<Option<Unit>, Unit>
         requires between { between self.old administration.old }
-        requires open { IsOpen diversions.now.ways administration.old }
+        requires open { IsOpen (diverted self.old).ways administration.old }
         requires order { Needs (H.state host.old)
             (IsInOrder administration.old.database administration.old.lists.lists) }
         ensures taken { IsTaken (turn (task self.old)) (called (task self.old)) (over self.new)
-            (left self.old) (left self.new) (held_by administration.old diversions.now)
-            (held_by administration.new diversions.now) (H.state host.old) (H.state host.new)
+            (left self.old) (left self.new) (held_by administration.old (diverted self.old))
+            (held_by administration.new (diverted self.new)) (H.state host.old) (H.state host.new)
             result }
         ensures room { room ≡ false → IfOk result (λ found. found ≡ None) }
         ensures between { OnOk result (between self.new administration.new) }
-        ensures open { OnOk result (IsOpen diversions.now.ways administration.new) }
+        ensures open { OnOk result (IsOpen (diverted self.new).ways administration.new) }
         ensures order { OnOk result (Needs (H.state host.new)
             (IsInOrder administration.new.database administration.new.lists.lists)) }
         ensures answered { OnOk result (IsAnswered (H.state host.old) (H.state host.new)) }
         ensures told { TellsAll (H.state host.old) (H.state host.new) [] (calls_in result) }
         ensures any_moment { AtEachMomentOf (IsAmidNext (amid (task self.old)) (left self.old)
-            (left self.new) (held_by administration.old diversions.now)) (H.state host.old)
+            (left self.new) (held_by administration.old (diverted self.old))) (H.state host.old)
             (H.state host.new) }
         ensures counts { CountsTaken (H.state host.old) (H.state host.new) result }
         ensures not_closed { IfErr result (λ unit. IsBrokenBy Closed unit.reply → ⊥) }

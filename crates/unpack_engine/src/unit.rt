@@ -183,8 +183,9 @@ fn plan_and_carry_out<H: Host>(
     }
 }
 
-// To make the lists' index costs about as much as to look through all lists once for each of so many paths.
-const FEW_PATHS: usize = 30;
+// To make the lists' index costs less than to look through all lists once for each of more paths than these: to look whether
+// a listed path lies at a place takes as long as to find its key.
+const FEW_PATHS: usize = 3;
 
 // Makes the lists' index where the tree ships many paths, each of whose owners is asked for.
 fn index_where_many(

@@ -2,6 +2,7 @@
 use Rattle.std.proofs.Common.{◌≡◌, ℕ, zero, suc, ◌<◌, Bool, true, false, cond, List, [], ◌∷◌, length, get_or, map, is_some, Option, Some, refl, sym, ap, subst, ◌∙◌, arith}
 use Rattle.std.specs.Str.{bytes_eq}
 use Rattle.recorded_packages.specs.Packages.{ArePackagesOf}
+use Rattle.recorded_packages.proofs.Named.{as_many, names_are}
 use Rattle.relation_index.proofs.Ordered.{in_order}
 use Rattle.relation_index.specs.Order.{AreInOrder, IsBefore, IsBeforeAll}
 use Rattle.relation_index.specs.Packages.{AreInNameOrder}
@@ -12,18 +13,6 @@ use Rattle.status_records.specs.declared.record.Record.{Record}
 use Rattle.status_db.proofs.Ordered.{before_differs}
 use Rattle.status_records.proofs.Tables.{found_here}
 use Rattle.unpack_relations.specs.Beside.{name_at}
-
-names_are : (records : List Record) (packages : List Package) → ArePackagesOf records packages → map (λ p. p.name) packages ≡ names_of records
-names_are [] [] are = refl
-names_are [] (p ∷ ps) are = absurd are
-names_are (r ∷ rs) [] are = absurd are
-names_are (r ∷ rs) (p ∷ ps) are = ap (λ (n : List ℕ). n ∷ map (λ q. q.name) ps) are.0.name ∙ ap (λ (l : List (List ℕ)). r.name ∷ l) (names_are rs ps are.1)
-
-as_many : (records : List Record) (packages : List Package) → ArePackagesOf records packages → length packages ≡ length records
-as_many [] [] are = refl
-as_many [] (p ∷ ps) are = absurd are
-as_many (r ∷ rs) [] are = absurd are
-as_many (r ∷ rs) (p ∷ ps) are = ap suc (as_many rs ps are.1)
 
 name_later : (name : List ℕ) (ps : List Package) (y : ℕ) → IsBeforeAll name ps → y < length ps → IsBefore name (name_at ps y)
 name_later name [] y all lt = absurd (omega (arith, lt))

@@ -26,7 +26,7 @@ IsNumbered packages d = (d.number < length packages) × (d.removing < length pac
 
 -- Policy 7.6.1: another package that is at least half-installed, which Replaces admits by its own name and version
 abbrev pub is_replaced : Package → Package → Bool
-is_replaced incoming p = is_other incoming p && (is_present p && list_any (λ clause. clause_admits clause p.name p.version []) incoming.replaces)
+is_replaced incoming p = is_other incoming p && (is_present p && list_any (λ clause. clause_admits clause p.name p.architecture p.version []) incoming.replaces)
 
 -- the plan with names in the place of numbers, and the replaced packages
 pub record IsBeside (packages : List Package) (incoming : Package) (plan : Plan) (b : Beside) : Type 0 where

@@ -1,13 +1,14 @@
--- The package of a tree, as relations see it (Policy 7.1): nothing of it is installed yet.
-use Rattle.std.specs.Prelude.{◌≡◌, false, None}
+-- The package of a tree, as relations see it in a root of this architecture (Policy 7.1): nothing of it is installed yet.
+use Rattle.std.specs.Prelude.{◌≡◌, ℕ, false, List, Option, None}
 use Rattle.package_tree.specs.declared.package.Package.{Package as Tree}
 use Rattle.relation_fields.specs.declared.relation_field.RelationField.TheVariants.{PreDepends, Depends, Breaks, Conflicts, Replaces}
 use Rattle.relation_index.specs.declared.package.Package.{Package}
 use Rattle.relation_index.specs.declared.package.PackageState.TheVariants.{NotInstalled}
-use Rattle.stated_relations.specs.Relations.{StatesClauses, StatesProvides, is_essential}
+use Rattle.stated_relations.specs.Relations.{StatesClauses, StatesProvides, architecture_of, counted_as, is_essential}
 
-pub record IsIncomingPackage (tree : Tree) (p : Package) : Type 0 where
+pub record IsIncomingPackage (root : Option (List ℕ)) (tree : Tree) (p : Package) : Type 0 where
   pub name : p.name ≡ tree.name
+  pub architecture : p.architecture ≡ counted_as root (architecture_of tree.control)
   pub version : p.version ≡ tree.version
   pub state : p.state ≡ NotInstalled
   pub reinstreq : p.reinstreq ≡ false

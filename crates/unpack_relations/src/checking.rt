@@ -1,16 +1,19 @@
 // Whether a tree can be unpacked beside the recorded packages.
-ghost use Rattle.std.specs.Prelude.{IfOk, List};
+ghost use Rattle.std.specs.Prelude.{◌≡◌, IfOk, List, option_copied};
 ghost use Rattle.recorded_packages.specs.Packages.{ArePackagesOf};
 ghost use Rattle.status_records.specs.declared.record.Record.{Record as ARecord};
-ghost use Rattle.unpack_relations.specs.Checks.{AreBesideApart, IsChecked, IsCheckedBy};
+ghost use Rattle.unpack_relations.specs.Checks.{AreBesideApart, IsChecked, IsCheckedBy, other_architecture};
 
 use crate::beside::{Beside, beside_of};
 use crate::incoming::incoming_package;
 use crate::refusal::rule_of;
 use dependency_check::{CheckFault, check_unpack};
 use package_tree::Package;
+use recorded_packages::root_architecture;
 use relation_index::Packages;
+use stated_relations::architecture_of;
 use std::alloc::{AllocError, Global};
+use texts::Text;
 use unit_reports::Rule;
 
 /// What an unpack does to other packages, or the first rule that refuses it.
@@ -40,8 +43,19 @@ fn checked_by(
     }
 }
 
-/// What the unpack of a tree does to other packages, or the first reason that refuses it, by the packages of the records. They are
-/// deconfigured only by leave.
+// The architecture of a package, where it is another one than that of the root.
+fn other_architecture<'a>(root: Option<&str>, own: Option<&'a str>) -> Option<&'a str>
+    ensures { option_copied result ≡ other_architecture (option_copied root.entry) (option_copied
+        own.entry) }
+{
+    match (root, own) {
+        (Some(root), Some(own)) if own != root => Some(own),
+        _ => None,
+    }
+}
+
+/// What the unpack of a tree does to other packages, or the first reason that refuses it: its architecture, or by the packages of
+/// the records. They are deconfigured only by leave.
 pub fn check(
     alloc: Global,
     packages: &Packages,
@@ -54,7 +68,12 @@ pub fn check(
     ensures apart { IfOk result (λ checked. (records : List ARecord)
         → ArePackagesOf records packages.now → AreBesideApart incoming.now.name records checked) }
 {
-    let package = incoming_package(incoming)?;
+    let root = root_architecture(packages);
+    if let Some(other) = other_architecture(root, architecture_of(&incoming.control)) {
+        let other = Text::from_str(alloc, other)?;
+        return Ok(Checked::Refused(Rule::Architecture(other)));
+    }
+    let package = incoming_package(alloc, root, incoming)?;
     let checked = checked_by(alloc, packages, &package, auto_deconfigure)?;
     Ok(checked)
 }

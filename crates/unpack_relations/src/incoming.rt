@@ -1,14 +1,18 @@
 // The package of a tree, as relations see it.
-ghost use Rattle.std.specs.Prelude.{IfOk};
+ghost use Rattle.std.specs.Prelude.{IfOk, option_copied};
 ghost use Rattle.unpack_relations.specs.Incoming.{IsIncomingPackage};
 
 use relation_index::{Package, PackageState};
-use stated_relations::{StatedRelations, is_essential};
-use std::alloc::AllocError;
+use stated_relations::{StatedRelations, counted_as, is_essential};
+use std::alloc::{AllocError, Global};
 
-/// The package of a tree: it is not installed, whatever is recorded of its name.
-pub(crate) fn incoming_package(tree: &package_tree::Package) -> Result<Package, AllocError>
-    ensures { IfOk result (IsIncomingPackage tree.now) }
+/// The package of a tree in a root of this architecture: it is not installed, whatever is recorded of its name.
+pub(crate) fn incoming_package(
+    alloc: Global,
+    root: Option<&str>,
+    tree: &package_tree::Package,
+) -> Result<Package, AllocError>
+    ensures { IfOk result (IsIncomingPackage (option_copied root.entry) tree.now) }
 {
     let StatedRelations {
         provides,
@@ -20,6 +24,7 @@ pub(crate) fn incoming_package(tree: &package_tree::Package) -> Result<Package, 
     } = tree.relations.copy()?;
     Ok(Package {
         name: tree.name.copy()?,
+        architecture: counted_as(alloc, root, &tree.control)?,
         version: tree.version.copy()?,
         state: PackageState::NotInstalled,
         reinstreq: false,

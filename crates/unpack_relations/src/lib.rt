@@ -4,7 +4,7 @@
 //! # What is proved
 //!
 //! `check`, over the packages of the records, whatever table they are those of, and the package of
-//! a tree: the first reason why its unpack is refused, with the clause or the name of the package
+//! a tree: the first reason why its unpack is refused, its architecture where that isn't the root's, else with the clause or the name of the package
 //! that stands in its way, or what it would do to other packages, by their names: which it breaks,
 //! which lose what they depend on, with which it conflicts, which it replaces (`checked`:
 //! `IsChecked`).

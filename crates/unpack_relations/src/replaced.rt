@@ -11,12 +11,13 @@ use texts::Texts;
 
 // Whether a field admits a package by its own name and version, whatever it provides.
 fn admits_by_name(alloc: Global, field: &[Clause], other: &Package) -> bool
-    ensures { result ≡ list_any (λ clause. clause_admits clause other.now.name other.now.version [])
-        field.now }
+    ensures { result ≡ list_any (λ clause. clause_admits clause other.now.name
+        other.now.architecture other.now.version []) field.now }
 {
     let nothing = Provides::new(alloc);
     let offer = Offer {
         name: other.name.as_str(),
+        architecture: &other.architecture,
         version: &other.version,
         provides: &nothing,
     };

@@ -13,6 +13,7 @@ mod disappearing_rows;
 mod diversion_rows;
 mod file_rows;
 mod first_rows;
+mod merged_rows;
 mod opening_rows;
 mod removal_rows;
 mod script_rows;
@@ -150,6 +151,14 @@ fn is_beside(name: &str, path: &str) -> bool {
     }
 }
 
+// The same of a path below the link of the rows over a merged root, whose place is behind it.
+fn is_behind(name: &str, path: &str) -> bool {
+    match (name.strip_prefix("/srv/own"), path.strip_prefix("/opt/own")) {
+        (Some(name), Some(path)) => is_beside(name, path) && !name.is_empty(),
+        _ => false,
+    }
+}
+
 // What tells behind the units that a step was declined while their notes were merged.
 const LEFT_NOTES: &str = "|notes left: /var/lib/dpkg/updates: declined\n|2\n";
 
@@ -167,7 +176,9 @@ fn tells_denial(answer: &str, name: &str) -> bool {
         return name.is_empty() || name.starts_with("/var/lib/dpkg/");
     }
     match told_declined(answer) {
-        Some(path) => is_beside(name, path) && answer.ends_with("|1\n"),
+        Some(path) => {
+            (is_beside(name, path) || is_behind(name, path)) && answer.ends_with("|1\n")
+        }
         None if answer.contains("broken declined\n") => answer.ends_with(BROKEN_OFF),
         None => is_second_name(answer, name) && !answer.ends_with(BROKEN_OFF),
     }

@@ -4,19 +4,32 @@ use relation_fields::{Form, Offer, Provides, Relations};
 use std::alloc::{AllocError, Global};
 use std::process::Abort;
 use std::test::Fail;
+use texts::Text;
 use version_order::Version;
 
 pub(crate) const FIELD_ROWS: &[(&str, &str)] = &[
     (
         "bravo (>= 1) | charlie, delta:any",
-        "bravo (>= 1) | charlie\ndelta\n",
+        "bravo (>= 1) | charlie\ndelta:any\n",
     ),
     ("bravo (== 1)", "Operator"),
     ("B (= 1)", "Name"),
     ("bravo,,delta", "bravo\ndelta\n"),
     ("bravo (< 2)", "bravo (<= 2)\n"),
     ("bravo (>= )", "Version"),
-    ("bravo:amd64", "Name"),
+    (
+        "bravo:amd64, bravo:native (>= 1) | charlie:i386",
+        "bravo:amd64\nbravo:native (>= 1) | charlie:i386\n",
+    ),
+    ("bravo:", "Name"),
+    ("bravo:am_d", "Name"),
+    ("bravo:-x", "Name"),
+    ("bravo:amd64:any", "Name"),
+    ("bravo :amd64", "Syntax(6)"),
+    (
+        "bravo:AMD64, bravo:x-, bravo:9a",
+        "bravo:AMD64\nbravo:x-\nbravo:9a\n",
+    ),
 ];
 
 const PLAIN_ROWS: &[(&str, &str)] = &[
@@ -30,11 +43,23 @@ pub(crate) const PROVIDES_ROWS: &[(&str, &str)] = &[
     ("mta | web", "Syntax(4)"),
 ];
 
-// A relation field, and whether each of its clauses admits alpha 1.5, which provides these.
+// A relation field, and whether each of its clauses admits alpha 1.5 of amd64, which provides these.
 const ADMISSION_ROWS: &[(&str, &str, &str)] = &[
     ("alpha, alpha (<< 1.5), alpha (>= 1.0)", "", "yes no yes "),
     ("web, web (= 2), bravo | web", "web", "yes no yes "),
     ("web (>= 2), web (>> 2), web", "web (= 2)", "yes no yes "),
+    (
+        "alpha:amd64, alpha:i386, alpha:any, alpha:native, alpha:all",
+        "",
+        "yes no yes yes yes ",
+    ),
+    (
+        "web, web:amd64, web:i386, web:i386 | alpha",
+        "web",
+        "yes yes no yes ",
+    ),
+    ("web, web:amd64, web:i386", "web:i386", "no no yes "),
+    ("web, web:amd64, web:i386", "web:amd64", "yes yes no "),
 ];
 
 fn admitted(alloc: Global, relations: &Relations, offer: &Offer) -> Result<String, AllocError> {
@@ -53,8 +78,10 @@ fn admissions(
     provides: &Provides,
 ) -> Result<String, Fail> {
     let relations = Relations::read(alloc, field.as_bytes(), Form::Alternatives)?;
+    let architecture = Some(Text::from_str(alloc, "amd64")?);
     let offer = Offer {
         name: "alpha",
+        architecture: &architecture,
         version,
         provides,
     };

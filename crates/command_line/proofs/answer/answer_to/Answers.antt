@@ -1,7 +1,7 @@
 use Rattle.std.proofs.Common.{rules, ◌≡◌, ◌∙◌, [], ap, map, string_bytes, true, None, Some, refl, inl, inr, subst, sym}
 use Rattle.command_words.specs.Commands.{asked_of}
 use Rattle.command_words.specs.Topics.{HasScreen, named_in}
-use Rattle.command_words.specs.declared.words.Asked.TheVariants.{CompareVersions, Configure, Divert, Help, Install, Names, Purge, Query, Remove, Undivert, Unpack, Version}
+use Rattle.command_words.specs.declared.words.Asked.TheVariants.{CompareVersions, Configure, Divert, Help, Install, Names, Purge, Query, Remove, Undivert, Unpack, Verify, Version}
 use Rattle.command_line.specs.Reports.{comparison_answer, memory_answer, names_answer, prints, trees_answer, usage_answer, version_answer, work_answer}
 use Rattle.command_line.specs.declared.answer.Answer.{Answer}
 use Rattle.command_line.proofs.Held.{appends_nothing}
@@ -39,6 +39,12 @@ returns-in-Ok-Query-clause-answered g c =
     let asked : asked_of (map string_bytes c.args.words.now) ≡ Some (Query c.in-Ok-Query.query) = search rules in
     let told = c.queried.ensures.answered in
     (told.0, rw asked told.1, c.whole-in-Ok-Query.ensures.left told.0 (g.O.Write.contents c.args.out.now) told.2)
+
+pub returns-in-Ok-Verify-clause-answered : goal.returns-in-Ok-Verify-clause-answered
+returns-in-Ok-Verify-clause-answered g c =
+    let asked : asked_of (map string_bytes c.args.words.now) ≡ Some (Verify c.in-Ok-Verify.asked) = search rules in
+    let told = c.verified.ensures.answered in
+    (told.0, rw asked (inl told.1), c.whole-in-Ok-Verify.ensures.left told.0 (g.O.Write.contents c.args.out.now) told.2)
 
 pub diverted-requires : goal.diverted-requires
 diverted-requires g c =

@@ -28,7 +28,7 @@ returns-clause-run g c =
       run.0,
       run.1,
       installed_both c.args.auto_deconfigure run.0 _ c.args.policy c.unpack_trees-unpacked.result c.configure_done-configured.result c.as_slice-2.result.now c.as_slice.result.now
-          _ (held_by c.unpack_trees-unpacked.new.administration c.args.diversions.now) _ _ _ _ (c.as_slice.ensures ∙ run.3 none) told none (g.H.Host.settled c.configure_done-configured.new.host) run.2 configured.whole configured.part configured.any_moment,
+          _ (held_by c.unpack_trees-unpacked.new.administration c.unpack_trees-unpacked.new.diversions) _ _ _ _ (c.as_slice.ensures ∙ run.3 none) told none (g.H.Host.settled c.configure_done-configured.new.host) run.2 configured.whole configured.part configured.any_moment,
     )
 
 pub returns-clause-watched : goal.returns-clause-watched
@@ -37,7 +37,7 @@ returns-clause-watched g c =
     let none = sym c.is_some.ensures ∙ c.if-is_some.false in
     c.what_is_told_in_turn.ensures.more (g.H.Host.state c.args.host.now) (g.H.Host.state first.new.host) c.args.watcher.now first.new.watcher c.configure_done-configured.new.watcher first.result.units.items c.configure_done-configured.result.units.items
     first.ensures.watched (tells_units (g.H.Host.state c.args.host.now) (g.H.Host.state first.new.host) first.result none first.ensures.told)
-    (run_answered c.args.auto_deconfigure first.ensures.run.0 first.result.units.items (held_by c.args.administration.now c.args.diversions.now) (held_by first.new.administration c.args.diversions.now) (g.H.Host.state c.args.host.now) (g.H.Host.state first.new.host) (first.ensures.run.2.whole none)) c.configure_done-configured.ensures.watched
+    (run_answered c.args.auto_deconfigure first.ensures.run.0 first.result.units.items (held_by c.args.administration.now c.args.diversions.now) (held_by first.new.administration first.new.diversions) (g.H.Host.state c.args.host.now) (g.H.Host.state first.new.host) (first.ensures.run.2.whole none)) c.configure_done-configured.ensures.watched
 
 pub returns-clause-answered : goal.returns-clause-answered
 returns-clause-answered g c = λ none.

@@ -1,8 +1,8 @@
 use Rattle.std.proofs.Common.{inl, inr, subst, ◌∙◌}
 use Rattle.unit_reports.specs.Held.{held_by}
-use Rattle.dpkg_session.proofs.Amid.{since_decided, since_package_start}
+use Rattle.dpkg_session.proofs.Amid.{since_decided, since_decided_start}
 use Rattle.dpkg_session.proofs.Runs.{by_refused, by_unpacked, counts_refused}
-use Rattle.dpkg_session.proofs.Told.{called_decided, not_begun_package}
+use Rattle.dpkg_session.proofs.Told.{called_decided, not_begun_decided}
 use Rattle.unpack_relations.specs.Checks.{AreBesideApart}
 use Rattle.dpkg_session.proofs.units.decide_and_unpack.Goals as goal
 use Rattle.host_core.proofs.Barriers.{answered_here}
@@ -18,19 +18,19 @@ pub returns-in-Ok-Planned-clause-unit : goal.returns-in-Ok-Planned-clause-unit
 returns-in-Ok-Planned-clause-unit g c = by_unpacked _ _ c.in-Ok-Planned.beside _ (held_by c.args.administration.now c.args.diversions.now) _ c.unpack_unit.result _ _ (c.in-Ok-Planned.ensures.decided c.args.administration.now.database.records c.requires.indexed) c.in-Ok-Planned.field-0-is c.unpack_unit.ensures.unit
 
 pub returns-in-Ok-Refused-clause-any_moment : goal.returns-in-Ok-Refused-clause-any_moment
-returns-in-Ok-Refused-clause-any_moment g c = since_package_start c.args.auto_deconfigure c.args.incoming (held_by c.args.administration.now c.args.diversions.now) (g.H.Host.state c.args.host.now)
+returns-in-Ok-Refused-clause-any_moment g c = since_decided_start c.args.auto_deconfigure c.args.incoming (held_by c.args.administration.now c.args.diversions.now) (g.H.Host.state c.args.host.now)
 
 pub returns-in-Err-clause-any_moment : goal.returns-in-Err-clause-any_moment
-returns-in-Err-clause-any_moment g c = since_package_start c.args.auto_deconfigure c.args.incoming (held_by c.args.administration.now c.args.diversions.now) (g.H.Host.state c.args.host.now)
+returns-in-Err-clause-any_moment g c = since_decided_start c.args.auto_deconfigure c.args.incoming (held_by c.args.administration.now c.args.diversions.now) (g.H.Host.state c.args.host.now)
 
 pub returns-in-Ok-Planned-clause-any_moment : goal.returns-in-Ok-Planned-clause-any_moment
 returns-in-Ok-Planned-clause-any_moment g c = since_decided c.args.auto_deconfigure c.args.incoming c.in-Ok-Planned.beside _ (held_by c.args.administration.now c.args.diversions.now) _ _ (c.in-Ok-Planned.ensures.decided c.args.administration.now.database.records c.requires.indexed) c.in-Ok-Planned.field-0-is c.unpack_unit.ensures.any_moment
 
 pub returns-in-Ok-Refused-clause-told : goal.returns-in-Ok-Refused-clause-told
-returns-in-Ok-Refused-clause-told g c = not_begun_package c.args.auto_deconfigure c.args.incoming (held_by c.args.administration.now c.args.diversions.now) c.refused.result _ c.refused.ensures.calls
+returns-in-Ok-Refused-clause-told g c = not_begun_decided c.args.auto_deconfigure c.args.incoming (held_by c.args.administration.now c.args.diversions.now) c.refused.result _ c.refused.ensures.calls
 
 pub returns-in-Err-clause-told : goal.returns-in-Err-clause-told
-returns-in-Err-clause-told g c = not_begun_package c.args.auto_deconfigure c.args.incoming (held_by c.args.administration.now c.args.diversions.now) c.broken.result _ (c.broken.ensures.told ∙ c.new.ensures.items)
+returns-in-Err-clause-told g c = not_begun_decided c.args.auto_deconfigure c.args.incoming (held_by c.args.administration.now c.args.diversions.now) c.broken.result _ (c.broken.ensures.told ∙ c.new.ensures.items)
 
 pub returns-in-Ok-Planned-clause-told : goal.returns-in-Ok-Planned-clause-told
 returns-in-Ok-Planned-clause-told g c = called_decided _ _ c.in-Ok-Planned.beside _ (held_by c.args.administration.now c.args.diversions.now) c.unpack_unit.result _ _ (c.in-Ok-Planned.ensures.decided c.args.administration.now.database.records c.requires.indexed) c.in-Ok-Planned.field-0-is c.unpack_unit.ensures.told

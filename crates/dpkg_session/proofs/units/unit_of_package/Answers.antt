@@ -1,22 +1,70 @@
-use Rattle.std.proofs.Common.{inl, inr, ◌∙◌}
+use Rattle.std.proofs.Common.{inl, inr, sym, subst, ◌∙◌}
+use Rattle.std.specs.Prelude.{IfSome}
+use Rattle.held_administration.specs.Order.{IsInOrder}
+use Rattle.held_administration.specs.declared.held.Administration.{Administration}
+use Rattle.host_core.specs.World.{World}
+use Rattle.recorded_packages.specs.Packages.{ArePackagesOf}
 use Rattle.unit_reports.specs.Held.{held_by}
-use Rattle.dpkg_session.proofs.Amid.{since_package_start}
-use Rattle.dpkg_session.proofs.Told.{not_begun_package}
+use Rattle.unit_reports.proofs.Counting.{counts_from}
+use Rattle.dpkg_session.proofs.Growth.{answered_from, looked_moments, package_called, package_moments, package_unit}
 use Rattle.dpkg_session.proofs.units.unit_of_package.Goals as goal
-use Rattle.unit_reports.proofs.Counting.{counts_no_memory, no_fault_here}
 
-pub decide_and_unpack-unit-requires-clause-open : goal.decide_and_unpack-unit-requires-clause-open
-decide_and_unpack-unit-requires-clause-open g c = record { noting = c.requires.open.noting; listing = c.requires.open.listing; kept = c.requires.open.kept }
+pub unit_of_followed-requires-clause-order : goal.unit_of_followed-requires-clause-order
+unit_of_followed-requires-clause-order g c = λ h.
+    let looked = c.follow_tree.ensures in
+    subst (λ (a : Administration). IsInOrder a.database a.lists.lists (g.H.Host.state c.follow_tree.new.host).world) (sym looked.same)
+    (subst (λ (w : World). IsInOrder c.args.administration.now.database c.args.administration.now.lists.lists w) (sym looked.reads.world) (c.requires.order (looked.reads.honest h)))
 
-pub returns-in-Ok-clause-open : goal.returns-in-Ok-clause-open
-returns-in-Ok-clause-open g c =
-    elim c.decide_and_unpack-unit.ensures.open [ inl broken ↦ inl broken | inr is ↦ inr (record { noting = is.noting; listing = is.listing; kept = is.kept }) ]
+pub unit_of_followed-requires-clause-indexed : goal.unit_of_followed-requires-clause-indexed
+unit_of_followed-requires-clause-indexed g c = subst (λ (a : Administration). IfSome a.packages (ArePackagesOf a.database.records)) (sym c.follow_tree.ensures.same) c.requires.indexed
 
-pub returns-in-Err-clause-any_moment : goal.returns-in-Err-clause-any_moment
-returns-in-Err-clause-any_moment g c = since_package_start c.args.auto_deconfigure c.args.incoming (held_by c.args.administration.now c.args.diversions.now) (g.H.Host.state c.args.host.now)
+pub returns-in-Ok-clause-unit : goal.returns-in-Ok-clause-unit
+returns-in-Ok-clause-unit g c =
+    let looked = c.follow_tree.ensures in
+    let (added, same, read) = c.in-Ok.ensures.added in
+    let s = g.H.Host.state c.args.host.now in
+    let m = g.H.Host.state c.follow_tree.new.host in
+    let t = g.H.Host.state c.unit_of_followed.new.host in
+    elim c.unit_of_followed.ensures.unit [
+      | inl broken ↦ inl broken
+      | inr is ↦ inr (package_unit s m looked.reads looked.silent c.args.auto_deconfigure c.args.incoming (held_by c.args.administration.now c.args.diversions.now) (held_by c.follow_tree.new.administration c.follow_tree.new.diversions) added same read
+          c.unit_of_followed.result t c.unit_of_followed.ensures.any_moment.honest (held_by c.unit_of_followed.new.administration c.follow_tree.new.diversions) is)
+    ]
+
+pub returns-in-Ok-clause-told : goal.returns-in-Ok-clause-told
+returns-in-Ok-clause-told g c =
+    let looked = c.follow_tree.ensures in
+    let (added, same, read) = c.in-Ok.ensures.added in
+    let s = g.H.Host.state c.args.host.now in
+    let m = g.H.Host.state c.follow_tree.new.host in
+    let t = g.H.Host.state c.unit_of_followed.new.host in
+    package_called s m looked.reads looked.silent c.args.auto_deconfigure c.args.incoming (held_by c.args.administration.now c.args.diversions.now) (held_by c.follow_tree.new.administration c.follow_tree.new.diversions) added same read
+    c.unit_of_followed.result t c.unit_of_followed.ensures.any_moment.honest c.unit_of_followed.ensures.told
+
+pub returns-in-Ok-clause-any_moment : goal.returns-in-Ok-clause-any_moment
+returns-in-Ok-clause-any_moment g c =
+    let looked = c.follow_tree.ensures in
+    let (added, same, read) = c.in-Ok.ensures.added in
+    let s = g.H.Host.state c.args.host.now in
+    let m = g.H.Host.state c.follow_tree.new.host in
+    let t = g.H.Host.state c.unit_of_followed.new.host in
+    package_moments s m looked.reads looked.silent c.args.auto_deconfigure c.args.incoming (held_by c.args.administration.now c.args.diversions.now) (held_by c.follow_tree.new.administration c.follow_tree.new.diversions) added same read
+    c.unit_of_followed.result t c.unit_of_followed.ensures.any_moment.honest c.in-Ok.ensures.counts c.unit_of_followed.ensures.any_moment
+
+pub returns-in-Ok-clause-answered : goal.returns-in-Ok-clause-answered
+returns-in-Ok-clause-answered g c =
+    elim c.unit_of_followed.ensures.answered [
+      | inl broken ↦ inl broken
+      | inr is ↦ inr (answered_from (g.H.Host.state c.args.host.now) (g.H.Host.state c.follow_tree.new.host) (g.H.Host.state c.unit_of_followed.new.host) c.follow_tree.ensures.reads is)
+    ]
+
+pub returns-in-Ok-clause-counts : goal.returns-in-Ok-clause-counts
+returns-in-Ok-clause-counts g c =
+    counts_from c.unit_of_followed.result.reply (g.H.Host.state c.args.host.now) (g.H.Host.state c.follow_tree.new.host) (g.H.Host.state c.unit_of_followed.new.host) c.in-Ok.ensures.counts c.unit_of_followed.ensures.counts
 
 pub returns-in-Err-clause-told : goal.returns-in-Err-clause-told
-returns-in-Err-clause-told g c = not_begun_package c.args.auto_deconfigure c.args.incoming (held_by c.args.administration.now c.args.diversions.now) c.broken.result _ (c.broken.ensures.told ∙ c.new.ensures.items)
+returns-in-Err-clause-told g c = inl (record { silent = c.follow_tree.ensures.silent; told = c.broken.ensures.told ∙ c.new.ensures.items })
 
-pub returns-in-Err-clause-counts : goal.returns-in-Err-clause-counts
-returns-in-Err-clause-counts g c = counts_no_memory c.broken.result.reply (g.H.Host.state c.args.host.now) (g.H.Host.state c.args.host.now) (no_fault_here (g.H.Host.state c.args.host.now)) c.broken.ensures.reply
+pub returns-in-Err-clause-any_moment : goal.returns-in-Err-clause-any_moment
+returns-in-Err-clause-any_moment g c =
+    looked_moments c.args.auto_deconfigure c.args.incoming (held_by c.args.administration.now c.args.diversions.now) (g.H.Host.state c.args.host.now) (g.H.Host.state c.follow_tree.new.host) c.follow_tree.ensures.reads

@@ -6,7 +6,7 @@ use Rattle.unit_reports.specs.Watching.{IsTold}
 use Rattle.unit_reports.specs.declared.report.Unit.{Unit as AUnit}
 use Rattle.dpkg_session.specs.Turns.{unread}
 use Rattle.dpkg_session.proofs.Told.{tells_whole}
-use Rattle.dpkg_session.proofs.Turned.{all_taken, broken_taken, lent_stays}
+use Rattle.dpkg_session.proofs.Turned.{all_taken, broken_taken, entries_stay, lent_stays}
 use Rattle.dpkg_session.proofs.unpacks.take_trees.Goals as goal
 
 pub run_units-requires-clause-between : goal.run_units-requires-clause-between
@@ -17,7 +17,7 @@ returns-in-Ok-clause-run g c =
     let done = c.in-Ok.ensures.turned in
     let us = done.turned.turned in
     let new = c.run_units.new.turns in
-    all_taken g.T.Trees.reads g.T.Trees.words _ _ (held_by c.args.administration.now c.args.diversions.now) (g.H.Host.state c.args.host.now) c.requires.none us done.q (unread new.trees.now new.labels.now (new.trees.ghost_name, new.labels.ghost_name)) (held_by c.run_units.new.administration c.args.diversions.now) (g.H.Host.state c.run_units.new.host) _
+    all_taken g.T.Trees.reads g.T.Trees.words _ _ (held_by c.args.administration.now c.args.unpacks.now.diversions.now) (g.H.Host.state c.args.host.now) c.requires.none us done.q (unread new.trees.now new.labels.now new.diversions.now (new.trees.ghost_name, new.labels.ghost_name, new.diversions.ghost_name)) (held_by c.run_units.new.administration new.diversions.now) (g.H.Host.state c.run_units.new.host) _
     done.turned.come done.ended (g.H.Host.settled c.run_units.new.host) (done.turned.are ∙ ap (λ (l : List AUnit). l ++ us) c.new-units.ensures.items) refl
 
 pub returns-in-Err-clause-run : goal.returns-in-Err-clause-run
@@ -25,7 +25,7 @@ returns-in-Err-clause-run g c =
     let stop = c.in-Err.ensures.stopped in
     let us = stop.turned.turned in
     let new = c.run_units.new.turns in
-    broken_taken g.T.Trees.reads g.T.Trees.words _ _ (held_by c.args.administration.now c.args.diversions.now) (g.H.Host.state c.args.host.now) c.requires.none us stop.q (unread new.trees.now new.labels.now (new.trees.ghost_name, new.labels.ghost_name)) stop.after (held_by c.run_units.new.administration c.args.diversions.now) stop.m (g.H.Host.state c.run_units.new.host) c.in-Err.unit _
+    broken_taken g.T.Trees.reads g.T.Trees.words _ _ (held_by c.args.administration.now c.args.unpacks.now.diversions.now) (g.H.Host.state c.args.host.now) c.requires.none us stop.q (unread new.trees.now new.labels.now new.diversions.now (new.trees.ghost_name, new.labels.ghost_name, new.diversions.ghost_name)) stop.after (held_by c.run_units.new.administration new.diversions.now) stop.m (g.H.Host.state c.run_units.new.host) c.in-Err.unit _
     stop.turned.come stop.broken.called (g.H.Host.settled c.run_units.new.host) (stop.turned.are ∙ ap (λ (l : List AUnit). l ++ us) c.new-units.ensures.items) refl
 
 pub returns-in-Ok-clause-told : goal.returns-in-Ok-clause-told
@@ -53,13 +53,25 @@ returns-in-Err-clause-watched g c =
     subst (λ (us : List AUnit). IsTold g.W.Watcher.tells (g.H.Host.state c.args.host.now) c.args.watcher.now us c.run_units.new.watcher) (sym (tells.grown ∙ ap (λ (l : List AUnit). l ++ tells.more) c.new-units.ensures.items)) tells.told
 
 pub returns-in-Ok-clause-trees_stay : goal.returns-in-Ok-clause-trees_stay
-returns-in-Ok-clause-trees_stay g c = ap (λ (names : ℕ × ℕ). names.0) (lent_stays _ _ c.run_units.ensures.goes)
+returns-in-Ok-clause-trees_stay g c = ap (λ (names : ℕ × ℕ × ℕ). names.0) (lent_stays _ _ c.run_units.ensures.goes)
 
 pub returns-in-Ok-clause-labels_stay : goal.returns-in-Ok-clause-labels_stay
-returns-in-Ok-clause-labels_stay g c = ap (λ (names : ℕ × ℕ). names.1) (lent_stays _ _ c.run_units.ensures.goes)
+returns-in-Ok-clause-labels_stay g c = ap (λ (names : ℕ × ℕ × ℕ). names.1) (lent_stays _ _ c.run_units.ensures.goes)
 
 pub returns-in-Err-clause-trees_stay : goal.returns-in-Err-clause-trees_stay
-returns-in-Err-clause-trees_stay g c = ap (λ (names : ℕ × ℕ). names.0) (lent_stays _ _ c.run_units.ensures.goes)
+returns-in-Err-clause-trees_stay g c = ap (λ (names : ℕ × ℕ × ℕ). names.0) (lent_stays _ _ c.run_units.ensures.goes)
 
 pub returns-in-Err-clause-labels_stay : goal.returns-in-Err-clause-labels_stay
-returns-in-Err-clause-labels_stay g c = ap (λ (names : ℕ × ℕ). names.1) (lent_stays _ _ c.run_units.ensures.goes)
+returns-in-Err-clause-labels_stay g c = ap (λ (names : ℕ × ℕ × ℕ). names.1) (lent_stays _ _ c.run_units.ensures.goes)
+
+pub returns-in-Ok-clause-diversions_stay : goal.returns-in-Ok-clause-diversions_stay
+returns-in-Ok-clause-diversions_stay g c = ap (λ (names : ℕ × ℕ × ℕ). names.2) (lent_stays _ _ c.run_units.ensures.goes)
+
+pub returns-in-Ok-clause-kept : goal.returns-in-Ok-clause-kept
+returns-in-Ok-clause-kept g c = entries_stay _ _ c.run_units.ensures.goes
+
+pub returns-in-Err-clause-diversions_stay : goal.returns-in-Err-clause-diversions_stay
+returns-in-Err-clause-diversions_stay g c = ap (λ (names : ℕ × ℕ × ℕ). names.2) (lent_stays _ _ c.run_units.ensures.goes)
+
+pub returns-in-Err-clause-kept : goal.returns-in-Err-clause-kept
+returns-in-Err-clause-kept g c = entries_stay _ _ c.run_units.ensures.goes

@@ -19,7 +19,7 @@ returns-clause-ok g c =
 pub returns-clause-order : goal.returns-clause-order
 returns-clause-order g c =
     let unit = c.unit_of-unit in
-    ready_after c.args.auto_deconfigure c.args.candidate (held_by c.args.administration.now c.args.diversions.now) (held_by unit.new.administration c.args.diversions.now) unit.result (g.H.Host.state c.args.host.now) (g.H.Host.state unit.new.host) c.requires.order
+    ready_after c.args.auto_deconfigure c.args.candidate (held_by c.args.administration.now c.args.diversions.now) (held_by unit.new.administration unit.new.diversions) unit.result (g.H.Host.state c.args.host.now) (g.H.Host.state unit.new.host) c.requires.order
     (not_broken unit.result.reply c.is_broken.result c.if-is_broken.false c.is_broken.ensures unit.ensures.unit)
 
 pub returns-clause-open : goal.returns-clause-open

@@ -1,8 +1,13 @@
-use Rattle.std.proofs.Common.{◌∙◌, List, sym, subst, arith, rules, Contains}
+use Rattle.std.proofs.Common.{◌∙◌, String, Global, List, sym, ap, subst, arith, rules, Contains}
+use Rattle.std.specs.List.{list_any}
+use Rattle.std.specs.Str.{bytes_eq}
+use Rattle.std.specs.String.{string_bytes}
+use Rattle.std.proofs.lemmas.Bool.{false≢true}
 use Rattle.std.proofs.lemmas.List.{take_all}
 use Rattle.host_core.specs.Paths.{Path}
 use Rattle.host_core.specs.World.{World}
 use Rattle.host_core.proofs.Moments.{reads_then, silent_then}
+use Rattle.aliases.specs.Links.{above}
 use Rattle.aliases.specs.Reading.{AreAliasesIn, IsWhole}
 use Rattle.aliases.specs.Ways.{AreSettled}
 use Rattle.file_lists.specs.declared.paths.PackageList.{PackageList}
@@ -14,21 +19,14 @@ pub loop-list-init : goal.loop-list-init
 loop-list-init g c =
     let s = g.H.Host.state c.args.host.now in
     record {
-      settled = λ h. subst (AreSettled s.world c.args.diversions.now.ways.aliases) (sym c.none-looked.ensures) tt;
+      settled = λ h. subst (AreSettled s.world c.args.diversions.now.ways.aliases) (sym c.none.ensures) tt;
+      passed = λ h each path entered. absurd (false≢true (sym (ap (λ (keys : List (String Global)). list_any (λ k. bytes_eq (above path) (string_bytes k)) keys) c.new.ensures.empty) ∙ entered));
       grows = more_start s.honest s.world c.args.diversions.now;
       whole = λ h each list has. absurd (omega (arith, has.1));
       reads = search rules;
       silent = search rules;
       counts = search rules;
     }
-
-pub returns-in_err-read_above_each-clause-grows : goal.returns-in_err-read_above_each-clause-grows
-returns-in_err-read_above_each-clause-grows g c =
-    let inv = c.loop-list.invariant in
-    let before = g.H.Host.state c.loop-list.host in
-    let after = g.H.Host.state c.read_above_each.new.host in
-    let call = c.read_above_each.ensures in
-    more_joined before.honest after.honest (g.H.Host.state c.args.host.now).world before.world c.args.diversions.now c.loop-list.diversions c.read_above_each.new.diversions call.silent.honest inv.reads.world inv.grows call.grows
 
 pub returns-in_err-read_above_each-clause-reads : goal.returns-in_err-read_above_each-clause-reads
 returns-in_err-read_above_each-clause-reads g c = reads_then _ _ _ c.loop-list.invariant.reads c.read_above_each.ensures.reads
@@ -45,6 +43,7 @@ loop-list-preserved g c =
     let call = c.read_above_each.ensures in
     record {
       settled = call.settled;
+      passed = c.in_ok-read_above_each.ensures.passed;
       grows = more_joined before.honest after.honest w before.world old mid new call.silent.honest inv.reads.world inv.grows call.grows;
       whole = λ h each list has.
           (let there = aliases_grown before.honest w old mid inv.grows (call.silent.honest h) each in

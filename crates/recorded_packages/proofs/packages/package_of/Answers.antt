@@ -24,6 +24,7 @@ relations_of-requires-5-clause-readable c = readable c.args.entry.now Replaces
 pub returns : goal.returns
 returns c = record {
   name = c.in_ok-copy.ensures;
+  architecture = c.in_ok-counted_as.ensures;
   version = c.in_ok-copy-2.ensures;
   state = c.package_state.ensures;
   reinstreq = c.is_reinstreq.ensures;

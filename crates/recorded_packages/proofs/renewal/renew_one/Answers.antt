@@ -1,9 +1,13 @@
-use Rattle.std.proofs.Common.{[], ◌∷◌}
-use Rattle.recorded_packages.proofs.Renewing.{all_up_to_date, up_to_date_one}
+use Rattle.std.proofs.Common.{ℕ, List, subst}
+use Rattle.std.specs.Prelude.{OnOk}
+use Rattle.status_db.specs.Order.{AreInOrder}
+use Rattle.status_records.specs.declared.record.Record.{Record}
+use Rattle.recorded_packages.specs.Packages.{ArePackagesOf}
+use Rattle.recorded_packages.specs.Renewal.{AreSameBut}
 use Rattle.recorded_packages.proofs.renewal.renew_one.Goals as goal
 
-pub returns-in-Ok-clause-ok : goal.returns-in-Ok-clause-ok
-returns-in-Ok-clause-ok c = λ before order are same.
+pub returns-clause-ok : goal.returns-clause-ok
+returns-clause-ok c =
     let records = c.args.database.now.records in
-    let name = c.args.name.now in
-    all_up_to_date records before (name ∷ []) c.renew_package.new.packages c.law.ensures.order same (up_to_date_one records before name c.args.packages.now c.renew_package.new.packages order are c.in-Ok.ensures)
+    let P : List (List ℕ) → Type 0 = λ names. OnOk c.renew.result ((before : List Record) → AreInOrder before → ArePackagesOf before c.args.packages.now → AreSameBut names before records → ArePackagesOf records c.renew.new.packages) in
+    subst P c.from_ref.ensures.value c.renew.ensures.ok

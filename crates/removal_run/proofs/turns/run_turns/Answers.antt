@@ -20,7 +20,7 @@ returns-in-Err-clause-any_moment g c = since_turns_start (IsTurn c.args.purge c.
 
 pub returns-in-Some-clause-others : goal.returns-in-Some-clause-others
 returns-in-Some-clause-others g c =
-    let after = held_by c.run_units.new.administration c.args.diversions.now in
+    let after = held_by c.run_units.new.administration c.run_units.new.turns.diversions.now in
     let new = g.H.Host.state c.run_units.new.host in
     let all = subst (λ (ps : List Package). HaveAllTurned (IsTurn c.args.purge ps) (IsOver c.run_units.new.turns) c.args.waiting.items (held_by c.args.administration.now c.args.diversions.now) (g.H.Host.state c.args.host.now) c.args.units.now.items c.run_units.new.units.items after new) c.in-Ok.ensures.stated c.in-Ok-run_units.ensures.turned in
     turned_others c.args.purge c.args.packages c.args.waiting.items all.q (held_by c.args.administration.now c.args.diversions.now) after (g.H.Host.state c.args.host.now) new c.args.units.now.items c.run_units.new.units.items all.turned

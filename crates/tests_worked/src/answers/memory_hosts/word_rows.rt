@@ -57,6 +57,7 @@ status
 truename
 undivert
 unpack
+verify
 ||0
 ";
 

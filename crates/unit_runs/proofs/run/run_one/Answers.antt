@@ -10,8 +10,8 @@ returns-in-Ok-Some-clause-ok g c =
     record {
       unit = c.in-Ok-Some.unit;
       grown = grown;
-      is = taken_unit (g.T.Turns.turn task) (g.T.Turns.called task) (g.T.Turns.over c.take.new.self) (g.T.Turns.left c.args.turns.now) (g.T.Turns.left c.take.new.self) (held_by c.args.administration.now c.args.diversions.now)
-          (held_by c.take.new.administration c.args.diversions.now) (g.H.Host.state c.args.host.now) (g.H.Host.state c.take.new.host) c.in-Ok-Some.field-0 c.in-Ok-Some.unit c.in-Ok-Some.field-0-is c.in-Ok-Some.ensures.taken;
+      is = taken_unit (g.T.Turns.turn task) (g.T.Turns.called task) (g.T.Turns.over c.take.new.self) (g.T.Turns.left c.args.turns.now) (g.T.Turns.left c.take.new.self) (held_by c.args.administration.now (g.T.Turns.diverted c.args.turns.now))
+          (held_by c.take.new.administration (g.T.Turns.diverted c.take.new.self)) (g.H.Host.state c.args.host.now) (g.H.Host.state c.take.new.host) c.in-Ok-Some.field-0 c.in-Ok-Some.unit c.in-Ok-Some.field-0-is c.in-Ok-Some.ensures.taken;
     }
 
 pub returns-in-Ok-Some-clause-told : goal.returns-in-Ok-Some-clause-told

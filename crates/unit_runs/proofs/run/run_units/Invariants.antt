@@ -14,15 +14,15 @@ abbrev pub invariant-loop-unit : goal.invariant-loop-unit
 invariant-loop-unit g l =
     let old = g.H.Host.state l.fn.host in
     let now = g.H.Host.state l.host in
-    let before = held_by l.fn.administration l.diversions in
-    let mid = held_by l.administration l.diversions in
+    let before = held_by l.fn.administration (g.T.Turns.diverted l.fn.turns) in
+    let mid = held_by l.administration (g.T.Turns.diverted l.turns) in
     let task = g.T.Turns.task l.fn.turns in
     let start = g.T.Turns.left l.fn.turns in
     let left = g.T.Turns.left l.turns in
     record {
       turned : HaveTurned (g.T.Turns.turn task) start before old l.fn.units.items l.units.items left mid now;
       between : g.T.Turns.between l.turns l.administration;
-      is_open : IsOpen l.diversions.ways l.administration;
+      is_open : IsOpen (g.T.Turns.diverted l.turns).ways l.administration;
       order : Needs now (IsInOrder l.administration.database l.administration.lists.lists);
       answered : IsAnswered old now;
       told : TellsAll old now (calls_of l.fn.units.items) (calls_of l.units.items);

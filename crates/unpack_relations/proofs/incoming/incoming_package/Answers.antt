@@ -10,6 +10,7 @@ returns c =
     let stated = subst (λ (relations : StatedRelations). ∥ States tree.control relations ∥₁) (sym c.in_ok-provides.ensures) tree.stated in
     record {
       name = c.in_ok-copy.ensures;
+      architecture = c.in_ok-counted_as.ensures;
       version = c.in_ok-copy-2.ensures;
       state = refl;
       reinstreq = refl;

@@ -9,7 +9,7 @@ pub loop-name-preserved : goal.loop-name-preserved
 loop-name-preserved c =
     let aliases = c.args.self.now in
     let way = string_bytes c.loop-name.way in
-    let here = c.as_str.ensures.value ∙ c.in_ok-push_str.ensures.bytes in
+    let here = c.in_ok-push_str.ensures.bytes in
     record {
       text = search rules;
       gone = ap (λ (p : Path). way_from aliases p c.in-Some.behind.now) (c.in_ok-way.ensures ∙ ap (λ (p : Path). led aliases p ++ 47 ∷ []) here)

@@ -38,7 +38,7 @@ returns-in-None-clause-taken g c =
     let old = c.args.self.now.trees.now in
     let new = c.next.new.self in
     let next = MatchOption-at_none ((words old ≡ []) × (new ≡ old)) (λ (x : Candidate). g.T.Trees.reads old x new × (words old ≡ x.label ∷ words new)) c.in-None.is c.next.ensures in
-    record { ended = (next.0, ap (λ t. unread t c.args.self.now.labels.now (c.args.self.now.trees.ghost_name, c.args.self.now.labels.ghost_name)) next.1); held = refl; here = refl }
+    record { ended = (next.0, ap (λ t. unread t c.args.self.now.labels.now c.args.self.now.diversions.now (c.args.self.now.trees.ghost_name, c.args.self.now.labels.ghost_name, c.args.self.now.diversions.ghost_name)) next.1); held = refl; here = refl }
 
 pub returns-in-Ok-clause-any_moment : goal.returns-in-Ok-clause-any_moment
 returns-in-Ok-clause-any_moment g c =
@@ -72,4 +72,4 @@ returns-in-Ok-clause-room g c = λ none. absurd (true≢false (sym c.in-Ok.ensur
 
 pub returns-in-Err-clause-told : goal.returns-in-Err-clause-told
 returns-in-Err-clause-told g c =
-    called_tells c.args.self.now.auto_deconfigure c.in-Some.candidate.tree (held_by c.args.administration.now c.args.diversions.now) c.in-Err.unit (g.H.Host.state c.args.host.now) (g.H.Host.state c.take_unit.new.host) c.in-Err.ensures.broken_off.called
+    called_tells c.args.self.now.auto_deconfigure c.in-Some.candidate.tree (held_by c.args.administration.now c.args.self.now.diversions.now) c.in-Err.unit (g.H.Host.state c.args.host.now) (g.H.Host.state c.take_unit.new.host) c.in-Err.ensures.broken_off.called

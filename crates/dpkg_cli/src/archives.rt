@@ -1,0 +1,116 @@
+// Archives of packages: `dpkg-deb -R` unpacks each into a directory of its own, which is there while its tree is read.
+use std::fs::DirBuilder;
+use std::io::{Error, ErrorKind};
+use std::os::unix::fs::DirBuilderExt;
+use std::process::{Command, ExitStatus, Stdio};
+use std::{env, fs, io, process};
+
+// Below a root that is held. A killed program leaves it, and the next one that holds the root takes it away.
+const ROOM: &str = "/var/lib/dpkg/tmp.trees";
+
+const UNPACKER: &str = "dpkg-deb";
+
+/// Where archives are unpacked.
+#[derive(Drop)]
+pub(crate) struct Archives {
+    /// The room of the root that is held, if one is.
+    held: Option<String>,
+    /// The room that was made, with the tree of the last archive in it.
+    room: Option<String>,
+}
+
+fn is_file(rt: &HostRuntime, word: &str) -> bool {
+    match fs::metadata(rt, word) {
+        Ok(found) => found.is_file(),
+        Err(_) => false,
+    }
+}
+
+// Takes away what stands at the place of a room. What is no directory isn't touched.
+fn clear(rt: &HostRuntime, room: &str) -> io::Result<()> {
+    match fs::symlink_metadata(rt, room) {
+        Ok(found) if found.is_dir() => fs::remove_dir_all(rt, room),
+        Ok(_) => Err(Error::other("no directory")),
+        Err(error) if error.kind() == ErrorKind::NotFound => Ok(()),
+        Err(error) => Err(error),
+    }
+}
+
+// A room elsewhere, for a root that is only looked at.
+fn room_elsewhere(rt: &HostRuntime) -> io::Result<String> {
+    let directory = env::temp_dir(rt)?;
+    let number = process::id(rt.process());
+    Ok(format!(in rt.alloc(); "{}/coizkerra-{number}", directory.as_str())?)
+}
+
+// The tool tells a person itself why it fails.
+fn unpack(rt: &HostRuntime, archive: &str, tree: &str) -> io::Result<ExitStatus> {
+    let mut command = Command::new(rt.alloc(), UNPACKER)?;
+    command.arg("--raw-extract")?;
+    command.arg(archive)?;
+    command.arg(tree)?;
+    command.stdin(Stdio::null());
+    command.stdout(Stdio::null());
+    command.status(rt)
+}
+
+impl Archives {
+    pub(crate) fn none() -> Archives {
+        Archives {
+            held: None,
+            room: None,
+        }
+    }
+
+    /// From now on archives are unpacked below this root, whose locks are held. What a program left there that was killed goes.
+    pub(crate) fn hold(&mut self, rt: &HostRuntime, root: &str) -> io::Result<()> {
+        let front = root.trim_end_matches('/');
+        let room = format!(in rt.alloc(); "{front}{ROOM}")?;
+        clear(rt, room.as_str())?;
+        self.held = Some(room);
+        Ok(())
+    }
+
+    // The place of the next room. A path that begins with a dash isn't taken for a flag.
+    fn place(&self, rt: &HostRuntime) -> io::Result<String> {
+        match &self.held {
+            Some(room) => Ok(String::from_str(rt.alloc(), room.as_str())?),
+            None => room_elsewhere(rt),
+        }
+    }
+
+    // Makes a room that its own user alone can enter, and unpacks the archive there.
+    fn fill(&mut self, rt: &HostRuntime, archive: &str, room: String) -> io::Result<String> {
+        DirBuilder::new().mode(0o700).create(rt, room.as_str())?;
+        let tree = format!(in rt.alloc(); "{}/tree", room.as_str())?;
+        self.room = Some(room);
+        if unpack(rt, archive, tree.as_str())?.success() {
+            return Ok(tree);
+        }
+        Err(Error::other("dpkg-deb can't unpack it"))
+    }
+
+    /// The tree of a word that names a file: an archive, which is unpacked. The one before it goes; of no other word is there one.
+    pub(crate) fn tree_of(&mut self, rt: &HostRuntime, word: &str) -> io::Result<Option<String>> {
+        self.drop_last(rt);
+        if !is_file(rt, word) {
+            return Ok(None);
+        }
+        let room = self.place(rt)?;
+        clear(rt, room.as_str())?;
+        let archive = format!(in rt.alloc(); "./{word}")?;
+        let place = if word.starts_with('-') {
+            archive.as_str()
+        } else {
+            word
+        };
+        Ok(Some(self.fill(rt, place, room)?))
+    }
+
+    /// Takes the tree of the last archive away, as far as that can be done.
+    pub(crate) fn drop_last(&mut self, rt: &HostRuntime) {
+        if let Some(room) = self.room.take() {
+            let _ = fs::remove_dir_all(rt, room.as_str());
+        }
+    }
+}

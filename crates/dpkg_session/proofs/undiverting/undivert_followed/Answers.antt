@@ -1,0 +1,68 @@
+use Rattle.std.proofs.Common.{◌≡◌, ◌++◌, ◌∷◌, [], inl, inr, ℕ, List, ap, refl, subst, sym, ◌∙◌}
+use Rattle.host_core.proofs.Moments.{since_start}
+use Rattle.host_core.specs.Host.{AtEachMoment}
+use Rattle.host_core.specs.World.{World}
+use Rattle.diversions.proofs.Turning.{goes_here, later_by, looks_then_turn, looks_turn}
+use Rattle.diversions.specs.Changes.{IsAdding, IsRemoving, IsTableReady}
+use Rattle.diversions.specs.Diverted.{Diverted}
+use Rattle.diversions.specs.Ways.{Ways}
+use Rattle.dpkg_session.specs.Diversions.{HasDiverted, HasUndiverted, IsDiverted, IsDiverting, IsUndiverted, IsUndiverting, asked_entry, seen_of}
+use Rattle.dpkg_session.specs.Growth.{AreAdded, with_more}
+use Rattle.dpkg_session.proofs.Growth.{diverting_looked, diverting_moments, undiverted_from}
+use Rattle.dpkg_session.proofs.undiverting.undivert_followed.Goals as goal
+
+pub returns-in-Ok-follow_paths-clause-whole : goal.returns-in-Ok-follow_paths-clause-whole
+returns-in-Ok-follow_paths-clause-whole g c = λ none.
+    let asked = c.args.asked.now in
+    let before = c.args.diversions.now.ways in
+    let (added, ways, read) = c.in-Ok-follow_paths.ensures.added in
+    let s = g.H.Host.state c.args.host.now in
+    let m = g.H.Host.state c.follow_paths.new.host in
+    let t = g.H.Host.state c.undivert_on.new.host in
+    let one = c.undivert_on.ensures.whole none in (
+      one.0,
+      one.1,
+      record {
+        added = added;
+        read = λ h. subst (λ (ps : List (List ℕ)). AreAdded s.world ps before.aliases added) (c.as_slice.ensures.value ∙ c.in-Ok.ensures) (read (c.undivert_on.ensures.any_moment.honest h));
+        is = undiverted_from asked (with_more before added) c.undivert_on.new.diversions.ways one.0 s m t c.follow_paths.ensures.reads
+            (subst (λ (w : Ways). IsUndiverted asked w c.undivert_on.new.diversions.ways one.0 m t) ways one.2);
+      },
+    )
+
+pub returns-in-Ok-follow_paths-clause-any_moment : goal.returns-in-Ok-follow_paths-clause-any_moment
+returns-in-Ok-follow_paths-clause-any_moment g c =
+    let asked = c.args.asked.now in
+    let before = c.args.diversions.now.ways in
+    let (added, ways, read) = c.in-Ok-follow_paths.ensures.added in
+    let s = g.H.Host.state c.args.host.now in
+    let m = g.H.Host.state c.follow_paths.new.host in
+    let t = g.H.Host.state c.undivert_on.new.host in
+    let P : Ways → World → World → Type 0 = λ w old now. IsRemoving w asked.path asked.rename old now in
+    diverting_moments (P (with_more before added)) (IsUndiverting asked before) s m t c.follow_paths.ensures.reads c.in-Ok-follow_paths.ensures.counts
+    (λ h now amid. inr (added, subst (λ (ps : List (List ℕ)). AreAdded s.world ps before.aliases added) (c.as_slice.ensures.value ∙ c.in-Ok.ensures) (read (c.undivert_on.ensures.any_moment.honest h)), amid))
+    (subst (λ (w : Ways). AtEachMoment (P w) m t) ways c.undivert_on.ensures.any_moment)
+
+pub undivert_on-requires-clause-ready : goal.undivert_on-requires-clause-ready
+undivert_on-requires-clause-ready g c = λ h. subst IsTableReady (sym c.follow_paths.ensures.reads.world) (c.requires.ready (c.follow_paths.ensures.reads.honest h))
+
+pub undivert_on-requires-clause-writable : goal.undivert_on-requires-clause-writable
+undivert_on-requires-clause-writable g c = ap (λ (d : Diverted). d.closed) c.follow_paths.ensures.kept ∙ c.requires.writable
+
+pub undivert_on-requires-clause-kept : goal.undivert_on-requires-clause-kept
+undivert_on-requires-clause-kept g c = c.in-Ok-follow_paths.ensures.places
+
+pub returns-in-Ok-follow_paths-clause-turns : goal.returns-in-Ok-follow_paths-clause-turns
+returns-in-Ok-follow_paths-clause-turns g c = looks_then_turn _ _ _ c.follow_paths.ensures.reads (later_by _ _ _ c.undivert_on.ensures.any_moment) c.undivert_on.ensures.turns
+
+pub returns-clause-any_moment : goal.returns-clause-any_moment
+returns-clause-any_moment g c = diverting_looked (IsUndiverting c.args.asked.now c.args.diversions.now.ways) (g.H.Host.state c.args.host.now) (g.H.Host.state c.follow_paths.new.host) c.follow_paths.ensures.reads (inl refl)
+
+pub returns-clause-turns : goal.returns-clause-turns
+returns-clause-turns g c = looks_turn _ _ c.follow_paths.ensures.reads
+
+pub returns-in_default-clause-turns : goal.returns-in_default-clause-turns
+returns-in_default-clause-turns g c = goes_here _
+
+pub returns-in_default-clause-any_moment : goal.returns-in_default-clause-any_moment
+returns-in_default-clause-any_moment g c = since_start _ (g.H.Host.state c.args.host.now) (inl refl)

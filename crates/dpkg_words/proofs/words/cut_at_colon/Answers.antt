@@ -1,0 +1,6 @@
+use Rattle.std.proofs.Common.{arith}
+use Rattle.dpkg_words.proofs.Cutting.{cut_parts}
+use Rattle.dpkg_words.proofs.words.cut_at_colon.Goals as goal
+
+pub returns : goal.returns
+returns c = cut_parts 58 c.args.text.now c.split_once.result (omega arith) c.split_once.ensures.cases

@@ -1,0 +1,67 @@
+-- The program's own words for what dpkg's ask for.
+use Rattle.std.specs.Prelude.{◌&&◌, ◌||◌, Bool, not, List, [], ◌∷◌, ◌++◌, Option, Some, None, codes, cond, if◌then◌else◌, map}
+use Rattle.std.specs.Str.{bytes_eq}
+use Rattle.dpkg_words.specs.Cutting.{cut_at}
+use Rattle.dpkg_words.specs.Options.{Text}
+use Rattle.dpkg_words.specs.declared.forces.Forced.{Forced}
+use Rattle.dpkg_words.specs.declared.reading.Options.{Options}
+
+abbrev pub root_of : Text → Text
+root_of [] = codes "/"
+root_of (c ∷ cs) = c ∷ cs
+
+-- a subcommand under the root
+abbrev pub own_words : Text → Options → List Text
+own_words name o = codes "coizkerra" ∷ name ∷ codes "--root" ∷ root_of o.instdir ∷ []
+
+-- one that changes what is there, unless it is only rehearsed
+abbrev pub changing_words : Text → Options → List Text
+changing_words name o = own_words name o ++ cond o.no_act (codes "--dry-run" ∷ []) []
+
+-- an edited conffile stays: by confdef, whatever else is forced, or by confold without confnew
+abbrev pub keeps : Forced → Bool
+keeps f = f.confdef || (f.confold && not f.confnew)
+
+-- the package's takes its place
+abbrev pub takes : Forced → Bool
+takes f = not f.confdef && f.confnew
+
+abbrev pub conffile_words : Forced → List Text → List Text
+conffile_words f words = ((words ++ cond (keeps f) (codes "--force-confold" ∷ []) []) ++ cond (takes f) (codes "--force-confnew" ∷ []) [])
+    ++ cond f.confmiss (codes "--force-confmiss" ∷ []) []
+
+-- none of these is a flag
+abbrev pub behind_dashes : List Text → List Text → List Text
+behind_dashes words names = (words ++ codes "--" ∷ []) ++ names
+
+-- all packages are of one architecture here
+abbrev pub is_plain : Text → Bool
+is_plain architecture = bytes_eq architecture (codes "amd64") || bytes_eq architecture (codes "all")
+
+abbrev pub plain_from : Text → Option (Text × Text) → Text
+plain_from name (Some parts) = if is_plain parts.1 then parts.0 else name
+plain_from name None = name
+
+-- `PKG:amd64` and `PKG:all` are PKG
+abbrev pub plain_name : Text → Text
+plain_name name = plain_from name (cut_at 58 name)
+
+abbrev pub plain_names : List Text → List Text
+plain_names names = map plain_name names
+
+-- `install` or `unpack`, of files
+abbrev pub tree_words : Text → Options → List Text → List Text
+tree_words name o files =
+    behind_dashes (conffile_words o.forced (changing_words name o ++ cond o.auto_deconfigure (codes "--auto-deconfigure" ∷ []) [])) files
+
+-- `configure`, of all packages that wait for it where none is named
+abbrev pub configuring_words : Options → List Text → List Text
+configuring_words o names = behind_dashes (conffile_words o.forced (changing_words (codes "configure") o)) (plain_names names)
+
+-- `remove` or `purge`
+abbrev pub removing_words : Text → Options → List Text → List Text
+removing_words name o names = behind_dashes (changing_words name o) (plain_names names)
+
+-- a question
+abbrev pub asking_words : Text → Options → List Text → List Text
+asking_words name o asked = behind_dashes (own_words name o) asked

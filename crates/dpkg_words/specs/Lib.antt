@@ -1,0 +1,10 @@
+pub mod Arguments
+pub mod Cutting
+pub mod Forces
+pub mod Names
+pub mod Options
+pub mod Reading
+pub mod Refusals
+pub mod Screens
+pub mod Selections
+pub mod Translated

@@ -1,0 +1,153 @@
+// The program's own words for what dpkg's ask for.
+ghost use Rattle.std.specs.Prelude.{◌≡◌, IfOk, OnOk};
+ghost use Rattle.dpkg_words.specs.Arguments.{asking_words, behind_dashes, changing_words, conffile_words, configuring_words, is_plain, keeps, own_words, plain_name, plain_names, removing_words, root_of, takes, tree_words};
+
+use crate::forces::Forced;
+use crate::own_words::OwnWords;
+use crate::reading::Options;
+use crate::words::cut_at_colon;
+use std::alloc::{AllocError, Global};
+use texts::{Text, Texts};
+
+fn root_of(instdir: &str) -> &str
+    ensures { result.now ≡ root_of instdir.now }
+{
+    if instdir.is_empty() {
+        return "/";
+    }
+    instdir
+}
+
+// A subcommand under the root.
+fn own_words(alloc: Global, name: &str, options: &Options) -> Result<OwnWords, AllocError>
+    ensures { IfOk result (λ words. words ≡ own_words name.now options.now) }
+{
+    let mut words = OwnWords::new(alloc);
+    words.push("coizkerra")?;
+    words.push(name)?;
+    words.push("--root")?;
+    words.push(root_of(options.instdir.as_str()))?;
+    Ok(words)
+}
+
+// One that changes what is there, unless it is only rehearsed.
+fn changing_words(alloc: Global, name: &str, options: &Options) -> Result<OwnWords, AllocError>
+    ensures { IfOk result (λ words. words ≡ changing_words name.now options.now) }
+{
+    let mut words = own_words(alloc, name, options)?;
+    words.push_if(options.no_act, "--dry-run")?;
+    Ok(words)
+}
+
+fn keeps(forced: Forced) -> bool
+    ensures { result ≡ keeps forced }
+{
+    forced.confdef || (forced.confold && !forced.confnew)
+}
+
+fn takes(forced: Forced) -> bool
+    ensures { result ≡ takes forced }
+{
+    !forced.confdef && forced.confnew
+}
+
+fn push_conffiles(words: &mut OwnWords, forced: Forced) -> Result<(), AllocError>
+    ensures { OnOk result (words.new ≡ conffile_words forced words.old) }
+{
+    words.push_if(keeps(forced), "--force-confold")?;
+    words.push_if(takes(forced), "--force-confnew")?;
+    words.push_if(forced.confmiss, "--force-confmiss")
+}
+
+fn push_behind(words: &mut OwnWords, names: &[Text]) -> Result<(), AllocError>
+    ensures { OnOk result (words.new ≡ behind_dashes words.old names.now) }
+{
+    words.push("--")?;
+    words.push_all(names)
+}
+
+/// `install` or `unpack`, of files.
+pub(crate) fn tree_words(
+    alloc: Global,
+    name: &str,
+    options: &Options,
+    files: &[Text],
+) -> Result<OwnWords, AllocError>
+    ensures { IfOk result (λ words. words ≡ tree_words name.now options.now files.now) }
+{
+    let mut words = changing_words(alloc, name, options)?;
+    words.push_if(options.auto_deconfigure, "--auto-deconfigure")?;
+    push_conffiles(&mut words, options.forced)?;
+    push_behind(&mut words, files)?;
+    Ok(words)
+}
+
+/// `configure`, of all packages that wait for it where none is named.
+pub(crate) fn configuring_words(
+    alloc: Global,
+    options: &Options,
+    names: &[Text],
+) -> Result<OwnWords, AllocError>
+    ensures { IfOk result (λ words. words ≡ configuring_words options.now names.now) }
+{
+    let mut words = changing_words(alloc, "configure", options)?;
+    push_conffiles(&mut words, options.forced)?;
+    let names = plain_names(alloc, names)?;
+    push_behind(&mut words, names.as_slice())?;
+    Ok(words)
+}
+
+/// `remove` or `purge`.
+pub(crate) fn removing_words(
+    alloc: Global,
+    name: &str,
+    options: &Options,
+    names: &[Text],
+) -> Result<OwnWords, AllocError>
+    ensures { IfOk result (λ words. words ≡ removing_words name.now options.now names.now) }
+{
+    let mut words = changing_words(alloc, name, options)?;
+    let names = plain_names(alloc, names)?;
+    push_behind(&mut words, names.as_slice())?;
+    Ok(words)
+}
+
+/// A question.
+pub(crate) fn asking_words(
+    alloc: Global,
+    name: &str,
+    options: &Options,
+    asked: &[Text],
+) -> Result<OwnWords, AllocError>
+    ensures { IfOk result (λ words. words ≡ asking_words name.now options.now asked.now) }
+{
+    let mut words = own_words(alloc, name, options)?;
+    push_behind(&mut words, asked)?;
+    Ok(words)
+}
+
+fn is_plain(architecture: &str) -> bool
+    ensures { result ≡ is_plain architecture.now }
+{
+    architecture == "amd64" || architecture == "all"
+}
+
+fn plain_name(name: &str) -> &str
+    ensures { result.now ≡ plain_name name.now }
+{
+    match cut_at_colon(name) {
+        Some((front, architecture)) if is_plain(architecture) => front,
+        _ => name,
+    }
+}
+
+/// The names of packages, without the architecture that all packages here are of.
+pub(crate) fn plain_names(alloc: Global, names: &[Text]) -> Result<Texts, AllocError>
+    ensures { IfOk result (λ plain. plain ≡ plain_names names.now) }
+{
+    let mut plain = Texts::new(alloc);
+    for name in names {
+        plain.push(Text::from_str(alloc, plain_name(name.as_str()))?)?;
+    }
+    Ok(plain)
+}

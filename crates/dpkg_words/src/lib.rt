@@ -1,0 +1,25 @@
+//! dpkg's words, translated into this program's own: for those that call it where they call dpkg.
+//!
+//! # What is proved
+//!
+//! `translate` gives of dpkg's words exactly what its definition has (specs/), which is a table in
+//! dpkg's terms: the program's own words, a text with a status, or a refusal that names the option
+//! that isn't taken. `speaks_dpkg` tells by which names of the program its words are dpkg's.
+#![tactic(auto)]
+
+mod arguments;
+mod forces;
+mod names;
+mod options;
+mod own_words;
+mod reading;
+mod refusals;
+mod screens;
+mod selections;
+mod translation;
+mod words;
+
+pub use names::speaks_dpkg;
+pub use own_words::OwnWords;
+pub use selections::are_set_anyway;
+pub use translation::{Printed, Translated, translate};

@@ -1,0 +1,42 @@
+// What is told at once.
+ghost use Rattle.std.specs.Prelude.{◌≡◌};
+ghost use Rattle.dpkg_words.specs.Screens.{help_screen, version_of};
+
+const HELP: &str = "dpkg's words, carried out by coizkerra. Usage: [OPTION ..] ACTION
+
+  -i, --install FILE..    --unpack FILE..    archives, or directories as dpkg-deb -R makes them
+  --configure PKG..       --configure -a, --pending
+  -r, --remove PKG..      -P, --purge PKG..
+  -s, --status PKG        -L, --listfiles PKG    -S, --search PATH
+  -C, --audit             -V, --verify [PKG..]   --compare-versions A OP B
+  --set-selections        of packages to be installed, removed or purged
+  --print-architecture    --print-foreign-architectures    --assert-FEATURE
+  -h, --help              --version
+
+  --root=DIR              the root; --instdir=DIR and --admindir=DIR where they name one
+  -B, --auto-deconfigure  installed packages may be deconfigured in favour of one that is unpacked
+  --no-act, --dry-run, --simulate
+                          the lines are told as if it were done, and nothing is changed
+  --force-confold, --force-confdef, --force-confnew, --force-confmiss
+
+Taken, and without effect: other --force-X and --refuse-X, --triggers, --no-triggers,
+--triggers-only, --no-pager, --no-debsig, --log, --status-fd, --status-logger, --abort-after, -D.
+What is printed are coizkerra's own lines: coizkerra help.
+";
+
+const VERSION: &str = "Debian 'dpkg' package management program version 1.21.22 (amd64).
+These are its words, which coizkerra carries out.
+";
+
+pub(crate) fn help_screen() -> &'static str
+    ensures { result.now ≡ help_screen }
+{
+    HELP
+}
+
+/// The version of dpkg whose words these are; for a program alone.
+pub(crate) fn version_of(robot: bool) -> &'static str
+    ensures { result.now ≡ version_of robot }
+{
+    if robot { "1.21.22" } else { VERSION }
+}

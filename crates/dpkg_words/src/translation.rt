@@ -1,0 +1,311 @@
+// What dpkg's words come to.
+ghost use Rattle.std.specs.Prelude.{◌≡◌, IfOk, map, string_bytes};
+ghost use Rattle.dpkg_words.specs.Translated.{asked_one, audited, behind_program, compared, configured, done, ended_by, is_pattern, is_rooted, is_searchable, is_sign, printed, refusal, removed, searched, selecting, status_for, told, translated, translated_from, trees, triggered, under_root, verified};
+
+use crate::arguments::{asking_words, configuring_words, plain_names, removing_words, tree_words};
+use crate::options::{Action, name_of};
+use crate::own_words::OwnWords;
+use crate::reading::{Options, Outcome, Reading, administration_of, read_all};
+use crate::refusals::{Why, fault_line};
+use crate::screens::{help_screen, version_of};
+use std::alloc::{AllocError, Global};
+use texts::Text;
+
+/// A text for standard output, and the status.
+#[derive(Drop)]
+pub struct Printed {
+    pub text: Text,
+    pub status: u8,
+}
+
+/// What dpkg's words come to.
+#[derive(Drop)]
+pub enum Translated {
+    /// The program's own words, which are carried out.
+    Ours(OwnWords),
+    Prints(Printed),
+    /// What standard input selects is looked at.
+    Selects,
+    /// A line for standard error; the status is 2.
+    Refused(Text),
+}
+
+fn refusal(alloc: Global, why: Why, word: &str) -> Result<Translated, AllocError>
+    ensures { IfOk result (λ t. t ≡ refusal why word.now) }
+{
+    Ok(Translated::Refused(fault_line(alloc, why, word)?))
+}
+
+fn telling(alloc: Global, text: &str, status: u8) -> Result<Translated, AllocError>
+    ensures { IfOk result (λ t. t ≡ printed text.now status) }
+{
+    Ok(Translated::Prints(Printed {
+        text: Text::from_str(alloc, text)?,
+        status,
+    }))
+}
+
+fn is_rooted(instdir: &str) -> bool
+    ensures { result ≡ is_rooted instdir.now }
+{
+    instdir.is_empty() || instdir.as_bytes()[0] == b'/'
+}
+
+// Words under a root of which the administration is its own.
+fn under_root(alloc: Global, options: &Options, words: OwnWords) -> Result<Translated, AllocError>
+    ensures { IfOk result (λ t. t ≡ under_root options.now words) }
+{
+    let own = administration_of(alloc, options.instdir.as_str())?;
+    if options.admindir.as_str() != own.as_str() {
+        return refusal(alloc, Why::Administration, options.admindir.as_str());
+    }
+    if !is_rooted(options.instdir.as_str()) {
+        return refusal(alloc, Why::RelativeRoot, options.instdir.as_str());
+    }
+    Ok(Translated::Ours(words))
+}
+
+fn trees(
+    alloc: Global,
+    action: Action,
+    name: &str,
+    options: &Options,
+    words: &[Text],
+) -> Result<Translated, AllocError>
+    ensures { IfOk result (λ t. t ≡ trees action name.now options.now words.now) }
+{
+    if words.is_empty() {
+        return refusal(alloc, Why::NoWords, name_of(action));
+    }
+    under_root(alloc, options, tree_words(alloc, name, options, words)?)
+}
+
+// All packages that wait for it, or those that are named.
+fn configured(alloc: Global, options: &Options, words: &[Text]) -> Result<Translated, AllocError>
+    ensures { IfOk result (λ t. t ≡ configured options.now words.now) }
+{
+    if options.pending && !words.is_empty() {
+        return refusal(alloc, Why::Words, "--pending");
+    }
+    if !options.pending && words.is_empty() {
+        return refusal(alloc, Why::NoWords, "--configure");
+    }
+    under_root(alloc, options, configuring_words(alloc, options, words)?)
+}
+
+// There are no triggers.
+fn triggered(alloc: Global, options: &Options, words: &[Text]) -> Result<Translated, AllocError>
+    ensures { IfOk result (λ t. t ≡ triggered options.now words.now) }
+{
+    if options.pending && !words.is_empty() {
+        return refusal(alloc, Why::Words, "--pending");
+    }
+    if !options.pending && words.is_empty() {
+        return refusal(alloc, Why::NoWords, "--triggers-only");
+    }
+    telling(alloc, "", 0)
+}
+
+fn removed(
+    alloc: Global,
+    action: Action,
+    name: &str,
+    options: &Options,
+    words: &[Text],
+) -> Result<Translated, AllocError>
+    ensures { IfOk result (λ t. t ≡ removed action name.now options.now words.now) }
+{
+    if options.pending {
+        return refusal(alloc, Why::Pending, name_of(action));
+    }
+    if words.is_empty() {
+        return refusal(alloc, Why::NoWords, name_of(action));
+    }
+    under_root(alloc, options, removing_words(alloc, name, options, words)?)
+}
+
+fn selecting(alloc: Global, words: &[Text]) -> Result<Translated, AllocError>
+    ensures { IfOk result (λ t. t ≡ selecting words.now) }
+{
+    if !words.is_empty() {
+        return refusal(alloc, Why::Words, "--set-selections");
+    }
+    Ok(Translated::Selects)
+}
+
+// A question about one package.
+fn asked_one(
+    alloc: Global,
+    action: Action,
+    name: &str,
+    options: &Options,
+    words: &[Text],
+) -> Result<Translated, AllocError>
+    ensures { IfOk result (λ t. t ≡ asked_one action name.now options.now words.now) }
+{
+    if words.len() != 1 {
+        return refusal(alloc, Why::OneWord, name_of(action));
+    }
+    let plain = plain_names(alloc, words)?;
+    let asked = asking_words(alloc, name, options, plain.as_slice())?;
+    under_root(alloc, options, asked)
+}
+
+fn is_sign(byte: u8) -> bool
+    ensures { result ≡ is_sign byte }
+{
+    byte == b'*' || byte == b'?' || byte == b'[' || byte == b'\\'
+}
+
+fn is_pattern(word: &str) -> bool
+    ensures { result ≡ is_pattern word.now }
+{
+    word.as_bytes().iter().any(|byte| is_sign(*byte))
+}
+
+// An absolute path, and no pattern.
+fn is_searchable(word: &str) -> bool
+    ensures { result ≡ is_searchable word.now }
+{
+    !word.is_empty() && word.as_bytes()[0] == b'/' && !is_pattern(word)
+}
+
+fn searched(alloc: Global, options: &Options, words: &[Text]) -> Result<Translated, AllocError>
+    ensures { IfOk result (λ t. t ≡ searched options.now words.now) }
+{
+    if words.len() != 1 {
+        return refusal(alloc, Why::OneWord, "--search");
+    }
+    let word = words[0].as_str();
+    if !is_searchable(word) {
+        return refusal(alloc, Why::Pattern, word);
+    }
+    let asked = asking_words(alloc, "search", options, words)?;
+    under_root(alloc, options, asked)
+}
+
+fn audited(alloc: Global, options: &Options, words: &[Text]) -> Result<Translated, AllocError>
+    ensures { IfOk result (λ t. t ≡ audited options.now words.now) }
+{
+    if !words.is_empty() {
+        return refusal(alloc, Why::Words, "--audit");
+    }
+    let asked = asking_words(alloc, "audit", options, words)?;
+    under_root(alloc, options, asked)
+}
+
+fn verified(alloc: Global, options: &Options, words: &[Text]) -> Result<Translated, AllocError>
+    ensures { IfOk result (λ t. t ≡ verified options.now words.now) }
+{
+    let plain = plain_names(alloc, words)?;
+    let asked = asking_words(alloc, "verify", options, plain.as_slice())?;
+    under_root(alloc, options, asked)
+}
+
+fn compared(alloc: Global, words: &[Text]) -> Result<Translated, AllocError>
+    ensures { IfOk result (λ t. t ≡ compared words.now) }
+{
+    if words.len() != 3 {
+        return refusal(alloc, Why::ThreeWords, "--compare-versions");
+    }
+    let mut own = OwnWords::new(alloc);
+    own.push("coizkerra")?;
+    own.push("compare-versions")?;
+    own.push("--")?;
+    own.push_all(words)?;
+    Ok(Translated::Ours(own))
+}
+
+// What is told without a look at a root.
+fn told(
+    alloc: Global,
+    action: Action,
+    text: &str,
+    status: u8,
+    words: &[Text],
+) -> Result<Translated, AllocError>
+    ensures { IfOk result (λ t. t ≡ told action text.now status words.now) }
+{
+    if !words.is_empty() {
+        return refusal(alloc, Why::Words, name_of(action));
+    }
+    telling(alloc, text, status)
+}
+
+fn status_for(holds: bool) -> u8
+    ensures { result ≡ status_for holds }
+{
+    if holds { 0 } else { 1 }
+}
+
+fn done(
+    alloc: Global,
+    action: Action,
+    options: &Options,
+    words: &[Text],
+) -> Result<Translated, AllocError>
+    ensures { IfOk result (λ t. t ≡ done action options.now words.now) }
+{
+    match action {
+        Action::Install => trees(alloc, action, "install", options, words),
+        Action::Unpack => trees(alloc, action, "unpack", options, words),
+        Action::Configure => configured(alloc, options, words),
+        Action::TriggersOnly => triggered(alloc, options, words),
+        Action::Remove => removed(alloc, action, "remove", options, words),
+        Action::Purge => removed(alloc, action, "purge", options, words),
+        Action::SetSelections => selecting(alloc, words),
+        Action::Status => asked_one(alloc, action, "status", options, words),
+        Action::ListFiles => asked_one(alloc, action, "listfiles", options, words),
+        Action::Search => searched(alloc, options, words),
+        Action::Audit => audited(alloc, options, words),
+        Action::Verify => verified(alloc, options, words),
+        Action::CompareVersions => compared(alloc, words),
+        Action::PrintArchitecture => told(alloc, action, "amd64\n", 0, words),
+        Action::PrintForeignArchitectures => told(alloc, action, "", 0, words),
+        Action::Assert(holds) => told(alloc, action, "", status_for(holds), words),
+    }
+}
+
+// What ends the reading before any action.
+fn ended_by(alloc: Global, outcome: &Outcome, options: &Options) -> Result<Translated, AllocError>
+    ensures { IfOk result (λ t. t ≡ ended_by outcome.now options.now) }
+{
+    match outcome {
+        Outcome::Help => telling(alloc, help_screen(), 0),
+        Outcome::Version => telling(alloc, version_of(options.robot), 0),
+        Outcome::Fault(why, word) => refusal(alloc, *why, word.as_str()),
+    }
+}
+
+fn translated_from(alloc: Global, reading: &Reading) -> Result<Translated, AllocError>
+    ensures { IfOk result (λ t. t ≡ translated_from reading.now) }
+{
+    let options = &reading.options;
+    if let Some(outcome) = &reading.outcome {
+        return ended_by(alloc, outcome, options);
+    }
+    if reading.wants.is_some() {
+        return refusal(alloc, Why::NoValue, "");
+    }
+    match options.action {
+        Some(action) => done(alloc, action, options, reading.words.as_slice()),
+        None => refusal(alloc, Why::NoAction, ""),
+    }
+}
+
+fn behind_program(words: &[String]) -> &[String]
+    ensures { map string_bytes result.now ≡ behind_program (map string_bytes words.now) }
+{
+    match words {
+        [_, rest @ ..] => rest,
+        [] => words,
+    }
+}
+
+/// What dpkg's words come to, the first of which is the program's name.
+pub fn translate(alloc: Global, words: &[String]) -> Result<Translated, AllocError>
+    ensures { IfOk result (λ t. t ≡ translated (map string_bytes words.now)) }
+{
+    let reading = read_all(alloc, behind_program(words))?;
+    translated_from(alloc, &reading)
+}
