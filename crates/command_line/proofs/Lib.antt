@@ -9,3 +9,5 @@ mod Inquired
 mod Turns
 mod Rehearsed
 mod Verified
+mod ChangedPaths
+pub mod Told

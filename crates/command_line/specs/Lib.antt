@@ -1,5 +1,7 @@
 pub mod Roots
+pub mod Differing
 pub mod Dry
+pub mod Telling
 pub mod Endings
 pub mod Unpacks
 pub mod Queries

@@ -93,7 +93,8 @@ pub(crate) fn complained(alloc: Global, error: String) -> Answer
     }
 }
 
-fn quiet(alloc: Global, status: u8) -> Answer
+/// Nothing.
+pub(crate) fn quiet(alloc: Global, status: u8) -> Answer
     ensures { result ≡ record { output = []; error = []; status = status } }
 {
     printed(alloc, String::new(alloc), status)
@@ -224,7 +225,8 @@ fn locked_line(alloc: Global, lock: Lock) -> Result<String, AllocError>
     line(alloc, content.as_str())
 }
 
-fn not_opened(alloc: Global, fault: &NotOpened) -> Result<Answer, AllocError>
+/// Tells on standard error why a root isn't opened.
+pub(crate) fn not_opened(alloc: Global, fault: &NotOpened) -> Result<Answer, AllocError>
     ensures { IfOk result (λ answer. answer ≡ opening_answer fault.now) }
 {
     match fault {

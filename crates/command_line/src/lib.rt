@@ -55,6 +55,7 @@
 mod answer;
 mod changing;
 mod command;
+mod differing;
 mod dry_hosts;
 mod ending;
 mod fault;
@@ -65,6 +66,8 @@ mod questions;
 mod reading;
 mod shown;
 mod steady;
+mod telling;
+mod telling_hosts;
 mod unpacking;
 mod verifying;
 mod writing;

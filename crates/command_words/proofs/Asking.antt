@@ -2,7 +2,7 @@
 use Rattle.std.proofs.Common.{arith, ◌≡◌, ◌<◌, ◌≤◌, List, [], ◌∷◌, length, ℕ, Option, Some, None, Bool, true, false, Result, Ok, Err, nat_le, if◌then◌else◌, refl, sym, ap, subst, ◌∙◌}
 use Rattle.std.specs.Option.{option_or}
 use Rattle.std.specs.Prelude.{IfOk}
-use Rattle.host_overlay.specs.declared.failing.AssumedFailure.{AssumedFailure}
+use Rattle.command_words.specs.Rehearsals.{Rehearsed}
 use Rattle.clap.specs.Words.{App, HasMatchesOf, IsAmong, Kinds, Text, fault_of, is_simple_and_free, subcommand_rows_of}
 use Rattle.clap.specs.declared.error.kind.ErrorKind.{ErrorKind}
 use Rattle.clap.specs.declared.parser.matches.ArgMatches.{ArgMatches}
@@ -66,10 +66,10 @@ rehearsed_by : (words : List Text) (asked : Asked) → asked_of words ≡ Some a
 unfolding rehearsal_of
 rehearsed_by words asked is = ap (λ a. rehearsed_beside a words) is
 
-few_rehearsed : (few : Bool) (other : Option (List AssumedFailure)) → few ≡ true → (if few then None else other) ≡ None
+few_rehearsed : (few : Bool) (other : Option Rehearsed) → few ≡ true → (if few then None else other) ≡ None
 few_rehearsed few other e = rw e refl
 
-more_rehearsed : (few : Bool) (other : Option (List AssumedFailure)) → few ≡ false → (if few then None else other) ≡ other
+more_rehearsed : (few : Bool) (other : Option Rehearsed) → few ≡ false → (if few then None else other) ≡ other
 more_rehearsed few other e = rw e refl
 
 pub rehearsed_names : (words : List Text) → length words ≤ 1 → rehearsal_of words ≡ None
@@ -82,7 +82,7 @@ rehearsed_flagged words asked more flag =
     ∙ ap (λ f. unless_flagged f (rehearsed_in (entered words))) flag
 
 -- what is read of words without such a flag
-pub rehearsed_parsed : {C E : Type 0} (words : List Text) → 1 < length words → flagged words ≡ None → (asked : C → Asked) (failing : C → Option (List AssumedFailure)) (r : Result C E)
+pub rehearsed_parsed : {C E : Type 0} (words : List Text) → 1 < length words → flagged words ≡ None → (asked : C → Asked) (failing : C → Option Rehearsed) (r : Result C E)
     → IfOk r (λ c. parsed_of words ≡ Some (asked c)) → IfOk r (λ c. failing c ≡ rehearsed_in (entered words)) → IfOk r (λ c. failing c ≡ rehearsal_of words)
 rehearsed_parsed words more none asked failing (Err e) is told = tt
 rehearsed_parsed words more none asked failing (Ok c) is told =

@@ -46,9 +46,9 @@ help_app = with_rule (new_app (codes "help")) (maybe_word_rule (codes "COMMAND")
 abbrev pub rooted_app : Text → App
 rooted_app name = with_rule (new_app name) root_rule
 
--- `--dry-run` and `--assume-failure PKG:SCRIPT:WORD`
+-- `--dry-run`, `--changes` and `--assume-failure PKG:SCRIPT:WORD`
 abbrev pub with_rehearsal : App → App
-with_rehearsal a = with_rule (with_rule a (flag_rule (codes "dry-run"))) (options_rule (codes "assume-failure"))
+with_rehearsal a = with_rule (with_rule (with_rule a (flag_rule (codes "dry-run"))) (flag_rule (codes "changes"))) (options_rule (codes "assume-failure"))
 
 -- a subcommand that changes what is under a root: `--wait SECONDS`
 abbrev pub changing_app : Text → App
@@ -70,11 +70,11 @@ with_owner a = with_rule (with_rule a (option_rule (codes "package"))) (flag_rul
 abbrev pub with_diverted : App → App
 with_diverted a = with_rule (with_rule a (flag_rule (codes "rename"))) (word_rule (codes "PATH"))
 
--- `divert [--root DIR] [--wait SECONDS] [--dry-run [--assume-failure PKG:SCRIPT:WORD]..] (--package P | --local) [--divert TARGET] [--rename] PATH`
+-- `divert [--root DIR] [--wait SECONDS] [--dry-run [--changes] [--assume-failure PKG:SCRIPT:WORD]..] (--package P | --local) [--divert TARGET] [--rename] PATH`
 abbrev pub divert_app : App
 divert_app = with_diverted (with_rule (with_owner (changing_app (codes "divert"))) (option_rule (codes "divert")))
 
--- `undivert [--root DIR] [--wait SECONDS] [--dry-run [--assume-failure PKG:SCRIPT:WORD]..] (--package P | --local) [--rename] PATH`
+-- `undivert [--root DIR] [--wait SECONDS] [--dry-run [--changes] [--assume-failure PKG:SCRIPT:WORD]..] (--package P | --local) [--rename] PATH`
 abbrev pub undivert_app : App
 undivert_app = with_diverted (with_owner (changing_app (codes "undivert")))
 
@@ -86,18 +86,18 @@ with_forced a = with_rule (with_rule (with_rule a (flag_rule (codes "force-confo
 abbrev pub calling_app : Text → App
 calling_app name = with_rule (changing_app name) (flag_rule (codes "scripts-stderr"))
 
--- `install [--root DIR] [--wait SECONDS] [--dry-run [--assume-failure PKG:SCRIPT:WORD]..] [--scripts-stderr] [--owner-root] [--auto-deconfigure]
+-- `install [--root DIR] [--wait SECONDS] [--dry-run [--changes] [--assume-failure PKG:SCRIPT:WORD]..] [--scripts-stderr] [--owner-root] [--auto-deconfigure]
 -- [--force-confold | --force-confnew] [--force-confmiss] TREE..`; `unpack` likewise
 abbrev pub trees_app : Text → App
 trees_app name =
     with_rule (with_forced (with_rule (with_rule (calling_app name) (flag_rule (codes "owner-root"))) (flag_rule (codes "auto-deconfigure"))))
     (words_rule (codes "TREE") true)
 
--- `configure [--root DIR] [--wait SECONDS] [--dry-run [--assume-failure PKG:SCRIPT:WORD]..] [--scripts-stderr] [--force-confold | --force-confnew] [--force-confmiss] [PKG..]`
+-- `configure [--root DIR] [--wait SECONDS] [--dry-run [--changes] [--assume-failure PKG:SCRIPT:WORD]..] [--scripts-stderr] [--force-confold | --force-confnew] [--force-confmiss] [PKG..]`
 abbrev pub configure_app : App
 configure_app = with_rule (with_forced (calling_app (codes "configure"))) (words_rule (codes "PKG") false)
 
--- `remove [--root DIR] [--wait SECONDS] [--dry-run [--assume-failure PKG:SCRIPT:WORD]..] [--scripts-stderr] PKG..`; `purge` likewise
+-- `remove [--root DIR] [--wait SECONDS] [--dry-run [--changes] [--assume-failure PKG:SCRIPT:WORD]..] [--scripts-stderr] PKG..`; `purge` likewise
 abbrev pub removing_app : Text → App
 removing_app name = with_rule (calling_app name) (words_rule (codes "PKG") true)
 

@@ -12,8 +12,7 @@ use Rattle.command_words.specs.Topics.{has_help_flag, is_help_flag, topic_in, to
 use Rattle.command_words.specs.declared.help.Topic.TheVariants.{Program}
 use Rattle.command_words.specs.Unpacks.{unpacking_of}
 use Rattle.command_words.specs.Verifications.{verifying_of}
-use Rattle.command_words.specs.Rehearsals.{is_rehearsable, rehearsal_in}
-use Rattle.host_overlay.specs.declared.failing.AssumedFailure.{AssumedFailure}
+use Rattle.command_words.specs.Rehearsals.{Rehearsed, is_rehearsable, rehearsal_in, rehearsed}
 use Rattle.command_words.specs.declared.comparison.Comparison.{Comparison}
 use Rattle.command_words.specs.declared.words.Asked.{Asked}
 use Rattle.command_words.specs.declared.words.Command.{Command}
@@ -59,8 +58,8 @@ asked_with name rows = if is_rehearsable rows then asked_by name rows else None
 abbrev pub asked_in : Option (Text × List Row) → Option Asked
 asked_in sub = option_and_then (λ p. asked_with p.0 p.1) sub
 
--- the calls that are assumed to fail, where it is only rehearsed
-abbrev pub rehearsed_in : Option (Text × List Row) → Option (List AssumedFailure)
+-- its rehearsal, where it is only rehearsed
+abbrev pub rehearsed_in : Option (Text × List Row) → Option Rehearsed
 rehearsed_in sub = option_and_then (λ p. rehearsal_in p.1) sub
 
 -- only words in which clap finds no fault ask for anything
@@ -92,21 +91,20 @@ asked_of words =
     else option_or (flagged words) (parsed_of words)
 
 -- what a command has of it
-abbrev pub failing_in : Command → Option (List AssumedFailure)
-failing_in c = option_map (λ v. v.items) c.failing
+abbrev pub rehearsal_with : Command → Option Rehearsed
+rehearsal_with c = option_map rehearsed c.rehearsal
 
 -- what is said of a rehearsal beside the flag that asks for the version or help
-abbrev pub unless_flagged : Option Asked → Option (List AssumedFailure) → Option (List AssumedFailure)
+abbrev pub unless_flagged : Option Asked → Option Rehearsed → Option Rehearsed
 unless_flagged None rehearsal = rehearsal
 unless_flagged (Some asked) rehearsal = None
 
-abbrev pub rehearsed_beside : Option Asked → List Text → Option (List AssumedFailure)
+abbrev pub rehearsed_beside : Option Asked → List Text → Option Rehearsed
 rehearsed_beside None words = None
 rehearsed_beside (Some asked) words =
     if nat_le (length words) 1 then None
     else unless_flagged (flagged words) (rehearsed_in (entered words))
 
--- The calls of scripts that are assumed to fail, where what the words ask for is only rehearsed; words that ask for nothing
--- rehearse nothing.
-unfoldable pub rehearsal_of : List Text → Option (List AssumedFailure)
+-- The rehearsal, where what the words ask for is only rehearsed; words that ask for nothing rehearse nothing.
+unfoldable pub rehearsal_of : List Text → Option Rehearsed
 rehearsal_of words = rehearsed_beside (asked_of words) words

@@ -1,5 +1,5 @@
--- Which commands are only rehearsed, and which calls of scripts are assumed to fail then.
-use Rattle.std.specs.Prelude.{◌&&◌, ◌==◌, Bool, true, not, List, [], ◌∷◌, Option, Some, None, codes, if◌then◌else◌, flat_map, is_some, length, nat_eq, option_and_then, option_map, option_to_list}
+-- Which commands are only rehearsed, which calls of scripts are assumed to fail then, and whether changed paths are told.
+use Rattle.std.specs.Prelude.{◌&&◌, ◌||◌, ◌==◌, Bool, true, not, List, [], ◌∷◌, Option, Some, None, codes, if◌then◌else◌, flat_map, is_some, length, nat_eq, option_and_then, option_map, option_to_list}
 use Rattle.std.specs.List.{list_all}
 use Rattle.std.specs.Str.{bytes_eq}
 use Rattle.texts.specs.PackageNames.{is_package_name}
@@ -9,6 +9,7 @@ use Rattle.host_core.specs.declared.call.Script.TheVariants.{Preinst, Postinst, 
 use Rattle.host_overlay.specs.declared.failing.AssumedFailure.{AssumedFailure}
 use Rattle.command_words.specs.Given.{is_set}
 use Rattle.command_words.specs.declared.rehearsal.Named.{Named}
+use Rattle.command_words.specs.declared.rehearsal.Rehearsal.{Rehearsal}
 
 -- what stands before the first colon, and what behind it
 abbrev pub cut_at_colon : Text → Option (Text × Text)
@@ -57,14 +58,28 @@ is_rehearsable_by dry (Some texts) = dry && list_all (λ text. is_some (failure_
 abbrev pub is_dry : List Row → Bool
 is_dry rows = is_set (first_of (codes "dry-run") rows)
 
+abbrev pub tells_changes : List Row → Bool
+tells_changes rows = is_set (first_of (codes "changes") rows)
+
+-- changed paths are told of a rehearsal alone
+abbrev pub is_tellable_by : Bool → Bool → Bool
+is_tellable_by dry changes = dry || not changes
+
 -- whether a subcommand can be rehearsed, or carried out, with these texts
 abbrev pub is_rehearsable : List Row → Bool
-is_rehearsable rows = is_rehearsable_by (is_dry rows) (all_of (codes "assume-failure") rows)
+is_rehearsable rows = is_tellable_by (is_dry rows) (tells_changes rows) && is_rehearsable_by (is_dry rows) (all_of (codes "assume-failure") rows)
 
 abbrev pub failing_from : Option (List Text) → List AssumedFailure
 failing_from None = []
 failing_from (Some texts) = failures_in texts
 
--- the calls that are assumed to fail, where a subcommand is only rehearsed
-abbrev pub rehearsal_in : List Row → Option (List AssumedFailure)
-rehearsal_in rows = if is_dry rows then Some (failing_from (all_of (codes "assume-failure") rows)) else None
+-- a rehearsal: the calls that are assumed to fail, and whether changed paths are told
+abbrev pub Rehearsed : Type 0
+Rehearsed = List AssumedFailure × Bool
+
+abbrev pub rehearsed : Rehearsal → Rehearsed
+rehearsed r = (r.failing.items, r.changes)
+
+-- that of a subcommand, where it is only rehearsed
+abbrev pub rehearsal_in : List Row → Option Rehearsed
+rehearsal_in rows = if is_dry rows then Some (failing_from (all_of (codes "assume-failure") rows), tells_changes rows) else None

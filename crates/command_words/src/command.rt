@@ -107,16 +107,15 @@ fn rooted<'a>(alloc: Global, name: &'a str) -> Result<Command<'a>, AllocError>
     with_arg(Command::new(alloc, name), root(alloc))
 }
 
-// Whether a subcommand is only rehearsed, and the calls that are assumed to fail then.
+// Whether a subcommand is only rehearsed, whether changed paths are told, and the calls that are assumed to fail then.
 fn with_rehearsal<'a>(alloc: Global, command: Command<'a>) -> Result<Command<'a>, AllocError>
     ensures app { IfOk result (λ c. app_of c ≡ with_rehearsal (app_of command.entry)) }
     ensures local { IfOk result (λ c. (fields_of c).has_globals
         ≡ (fields_of command.entry).has_globals) }
 {
-    with_arg(
-        with_arg(command, flag(alloc, "dry-run"))?,
-        options(alloc, "assume-failure"),
-    )
+    let command = with_arg(command, flag(alloc, "dry-run"))?;
+    let command = with_arg(command, flag(alloc, "changes"))?;
+    with_arg(command, options(alloc, "assume-failure"))
 }
 
 // A subcommand that changes what is under a root.

@@ -72,6 +72,7 @@ of all that wait for it where none is named.
   --root DIR        the root, an absolute directory; / if it isn't given
   --wait SECONDS    how long the lock of another program is waited for; 0 if it isn't given
   --dry-run         the lines are told as if it were done, and nothing is changed
+  --changes         behind the lines of a dry run one for each path that would be changed
   --assume-failure PKG:SCRIPT:WORD
                     in a dry run this call fails, which WORD is the first argument of
   --scripts-stderr  what scripts write goes to standard error
@@ -95,6 +96,7 @@ const DIVERT: &str = "Files at PATH of all packages but P go to TARGET from now 
   --root DIR       the root, an absolute directory; / if it isn't given
   --wait SECONDS   how long the lock of another program is waited for; 0 if it isn't given
   --dry-run        the lines are told as if it were done, and nothing is changed
+  --changes        behind the lines of a dry run one for each path that would be changed
   --assume-failure PKG:SCRIPT:WORD
                    in a dry run this call fails, which WORD is the first argument of
   --package P      whose own file stays at PATH
@@ -116,6 +118,7 @@ const INSTALL: &str =
   --root DIR          the root, an absolute directory; / if it isn't given
   --wait SECONDS      how long the lock of another program is waited for; 0 if it isn't given
   --dry-run           the lines are told as if it were done, and nothing is changed
+  --changes           behind the lines of a dry run one for each path that would be changed
   --assume-failure PKG:SCRIPT:WORD
                       in a dry run this call fails, which WORD is the first argument of
   --scripts-stderr    what scripts write goes to standard error
@@ -147,6 +150,7 @@ const PURGE: &str = "Removes packages with their conffiles, in the order that re
   --root DIR        the root, an absolute directory; / if it isn't given
   --wait SECONDS    how long the lock of another program is waited for; 0 if it isn't given
   --dry-run         the lines are told as if it were done, and nothing is changed
+  --changes         behind the lines of a dry run one for each path that would be changed
   --assume-failure PKG:SCRIPT:WORD
                     in a dry run this call fails, which WORD is the first argument of
   --scripts-stderr  what scripts write goes to standard error
@@ -159,6 +163,7 @@ const REMOVE: &str = "Removes packages but their conffiles, in the order that re
   --root DIR        the root, an absolute directory; / if it isn't given
   --wait SECONDS    how long the lock of another program is waited for; 0 if it isn't given
   --dry-run         the lines are told as if it were done, and nothing is changed
+  --changes         behind the lines of a dry run one for each path that would be changed
   --assume-failure PKG:SCRIPT:WORD
                     in a dry run this call fails, which WORD is the first argument of
   --scripts-stderr  what scripts write goes to standard error
@@ -194,6 +199,7 @@ const UNDIVERT: &str = "Takes the diversion of PATH away.
   --root DIR      the root, an absolute directory; / if it isn't given
   --wait SECONDS  how long the lock of another program is waited for; 0 if it isn't given
   --dry-run       the lines are told as if it were done, and nothing is changed
+  --changes       behind the lines of a dry run one for each path that would be changed
   --assume-failure PKG:SCRIPT:WORD
                   in a dry run this call fails, which WORD is the first argument of
   --package P     the package whose diversion it is
@@ -209,6 +215,7 @@ const UNPACK: &str =
   --root DIR          the root, an absolute directory; / if it isn't given
   --wait SECONDS      how long the lock of another program is waited for; 0 if it isn't given
   --dry-run           the lines are told as if it were done, and nothing is changed
+  --changes           behind the lines of a dry run one for each path that would be changed
   --assume-failure PKG:SCRIPT:WORD
                       in a dry run this call fails, which WORD is the first argument of
   --scripts-stderr    what scripts write goes to standard error
@@ -265,26 +272,26 @@ impl Topic {
             Topic::Audit => "audit [--root DIR]",
             Topic::CompareVersions => "compare-versions A OP B",
             Topic::Configure =>
-                "configure [--root DIR] [--wait SECONDS] [--dry-run [--assume-failure PKG:SCRIPT:WORD]..] [--scripts-stderr] [--force-confold | --force-confnew] [--force-confmiss] [PKG..]",
+                "configure [--root DIR] [--wait SECONDS] [--dry-run [--changes] [--assume-failure PKG:SCRIPT:WORD]..] [--scripts-stderr] [--force-confold | --force-confnew] [--force-confmiss] [PKG..]",
             Topic::Diversions => "diversions [--root DIR]",
             Topic::Divert =>
-                "divert [--root DIR] [--wait SECONDS] [--dry-run [--assume-failure PKG:SCRIPT:WORD]..] (--package P | --local) [--divert TARGET] [--rename] PATH",
+                "divert [--root DIR] [--wait SECONDS] [--dry-run [--changes] [--assume-failure PKG:SCRIPT:WORD]..] (--package P | --local) [--divert TARGET] [--rename] PATH",
             Topic::Help => "help [COMMAND]",
             Topic::Install =>
-                "install [--root DIR] [--wait SECONDS] [--dry-run [--assume-failure PKG:SCRIPT:WORD]..] [--scripts-stderr] [--owner-root] [--auto-deconfigure] [--force-confold | --force-confnew] [--force-confmiss] TREE..",
+                "install [--root DIR] [--wait SECONDS] [--dry-run [--changes] [--assume-failure PKG:SCRIPT:WORD]..] [--scripts-stderr] [--owner-root] [--auto-deconfigure] [--force-confold | --force-confnew] [--force-confmiss] TREE..",
             Topic::List => "list [--root DIR]",
             Topic::ListFiles => "listfiles [--root DIR] PKG",
             Topic::Purge =>
-                "purge [--root DIR] [--wait SECONDS] [--dry-run [--assume-failure PKG:SCRIPT:WORD]..] [--scripts-stderr] PKG..",
+                "purge [--root DIR] [--wait SECONDS] [--dry-run [--changes] [--assume-failure PKG:SCRIPT:WORD]..] [--scripts-stderr] PKG..",
             Topic::Remove =>
-                "remove [--root DIR] [--wait SECONDS] [--dry-run [--assume-failure PKG:SCRIPT:WORD]..] [--scripts-stderr] PKG..",
+                "remove [--root DIR] [--wait SECONDS] [--dry-run [--changes] [--assume-failure PKG:SCRIPT:WORD]..] [--scripts-stderr] PKG..",
             Topic::Search => "search [--root DIR] PATH",
             Topic::Status => "status [--root DIR] PKG",
             Topic::Truename => "truename [--root DIR] [--package P] PATH",
             Topic::Undivert =>
-                "undivert [--root DIR] [--wait SECONDS] [--dry-run [--assume-failure PKG:SCRIPT:WORD]..] (--package P | --local) [--rename] PATH",
+                "undivert [--root DIR] [--wait SECONDS] [--dry-run [--changes] [--assume-failure PKG:SCRIPT:WORD]..] (--package P | --local) [--rename] PATH",
             Topic::Unpack =>
-                "unpack [--root DIR] [--wait SECONDS] [--dry-run [--assume-failure PKG:SCRIPT:WORD]..] [--scripts-stderr] [--owner-root] [--auto-deconfigure] [--force-confold | --force-confnew] [--force-confmiss] TREE..",
+                "unpack [--root DIR] [--wait SECONDS] [--dry-run [--changes] [--assume-failure PKG:SCRIPT:WORD]..] [--scripts-stderr] [--owner-root] [--auto-deconfigure] [--force-confold | --force-confnew] [--force-confmiss] TREE..",
             Topic::Verify => "verify [--root DIR] [PKG..]",
         }
     }

@@ -6,7 +6,8 @@
 //! accepts them and they are no usage fault (`asked`, `usage`): confold with confnew is one; a flag
 //! for help or the version asks for that, whatever else the words are (`flagged`); behind a usage
 //! fault stands the screen of the subcommand that the words name (`screen`); `rehearsal_of` tells
-//! whether the command is only rehearsed, and which calls are assumed to fail then;
+//! whether the command is only rehearsed, which calls are assumed to fail then, and whether changed
+//! paths are told;
 //! `Comparison::verdict` is that of the versions' order, with an empty text before or behind all versions as the operator
 //! has it (`order_of`), or the first text that is neither empty nor a version.
 #![tactic(auto)]
@@ -36,6 +37,7 @@ pub use help::{Topic, help_text, version_text};
 pub use owners::TreeOwners;
 pub use packages::{Configuring, Removing};
 pub use query::{Query, Question};
+pub use rehearsal::Rehearsal;
 pub use streams::ScriptStreams;
 pub use unpacking::Unpacking;
 pub use verifying::Verifying;

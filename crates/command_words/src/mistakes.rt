@@ -43,13 +43,7 @@ fn of_wait(alloc: Global, found: &ArgMatches<'_>) -> Result<Option<String>, Allo
     Ok(Some(wrong_word(alloc, "--wait", text_of(found, "wait"), why)?))
 }
 
-fn of_rehearsal(alloc: Global, found: &ArgMatches<'_>) -> Result<Option<String>, AllocError> {
-    let Some(texts) = all_texts_of(found, "assume-failure") else {
-        return Ok(None);
-    };
-    if !flag_of(found, "dry-run") {
-        return Ok(Some(wrong_word(alloc, "--dry-run", None, "")?));
-    }
+fn of_failures(alloc: Global, texts: &[&str]) -> Result<Option<String>, AllocError> {
     for text in texts {
         if !is_failure(text) {
             let why = "isn't PKG:SCRIPT:WORD";
@@ -57,6 +51,18 @@ fn of_rehearsal(alloc: Global, found: &ArgMatches<'_>) -> Result<Option<String>,
         }
     }
     Ok(None)
+}
+
+fn of_rehearsal(alloc: Global, found: &ArgMatches<'_>) -> Result<Option<String>, AllocError> {
+    let texts = all_texts_of(found, "assume-failure");
+    let asked = texts.is_some() || flag_of(found, "changes");
+    if asked && !flag_of(found, "dry-run") {
+        return Ok(Some(wrong_word(alloc, "--dry-run", None, "")?));
+    }
+    match texts {
+        Some(texts) => of_failures(alloc, texts),
+        None => Ok(None),
+    }
 }
 
 fn of_package(alloc: Global, found: &ArgMatches<'_>) -> Result<String, AllocError> {

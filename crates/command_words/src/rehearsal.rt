@@ -1,8 +1,8 @@
-// Whether a command is only rehearsed, and which calls of scripts are assumed to fail then.
+// Whether a command is only rehearsed, which calls of scripts are assumed to fail then, and whether changed paths are told.
 ghost use Rattle.std.specs.Prelude.{◌≡◌, IfOk, is_some, map, option_map};
 ghost use Rattle.std.specs.List.{list_all};
 ghost use Rattle.clap.specs.Words.{all_of, found_of, rows_of};
-ghost use Rattle.command_words.specs.Rehearsals.{cut_at_colon, failing_from, failure_from, failure_in, failure_named, failure_of, failures_in, is_dry, is_rehearsable, is_rehearsable_by, rehearsal_in, script_of};
+ghost use Rattle.command_words.specs.Rehearsals.{cut_at_colon, failing_from, failure_from, failure_in, failure_named, failure_of, failures_in, is_dry, is_rehearsable, is_rehearsable_by, is_tellable_by, rehearsal_in, rehearsed, script_of, tells_changes};
 
 use crate::found::{all_texts_of, flag_of};
 use clap::ArgMatches;
@@ -10,6 +10,13 @@ use host_core::Script;
 use host_overlay::AssumedFailure;
 use std::alloc::{AllocError, Global};
 use texts::{Text, package_name};
+
+/// A rehearsal: the calls that are assumed to fail, and whether the paths are told that would be changed.
+#[derive(Drop)]
+pub struct Rehearsal {
+    pub failing: Vec<AssumedFailure>,
+    pub changes: bool,
+}
 
 /// The parts of a text that names a call.
 #[derive(Clone, Copy)]
@@ -141,23 +148,40 @@ fn is_dry(found: &ArgMatches<'_>) -> bool
     flag_of(found, "dry-run")
 }
 
-/// Whether each call that is assumed to fail is named, and none is given but for a rehearsal.
+fn tells_changes(found: &ArgMatches<'_>) -> bool
+    ensures { result ≡ tells_changes (rows_of (found_of found.now)) }
+{
+    flag_of(found, "changes")
+}
+
+fn is_tellable_by(dry: bool, changes: bool) -> bool
+    ensures { result ≡ is_tellable_by dry changes }
+{
+    dry || !changes
+}
+
+/// Whether each call that is assumed to fail is named, and nothing of a rehearsal is given without one.
 pub(crate) fn is_rehearsable(found: &ArgMatches<'_>) -> bool
     ensures { result ≡ is_rehearsable (rows_of (found_of found.now)) }
 {
-    is_rehearsable_by(is_dry(found), all_texts_of(found, "assume-failure"))
+    is_tellable_by(is_dry(found), tells_changes(found))
+        && is_rehearsable_by(is_dry(found), all_texts_of(found, "assume-failure"))
 }
 
-/// The calls that are assumed to fail, where the subcommand is only rehearsed.
+/// The rehearsal, where the subcommand is only rehearsed.
 pub(crate) fn rehearsal_in(
     alloc: Global,
     found: &ArgMatches<'_>,
-) -> Result<Option<Vec<AssumedFailure>>, AllocError>
-    ensures { IfOk result (λ failing. option_map (λ v. v.items) failing
+) -> Result<Option<Rehearsal>, AllocError>
+    ensures { IfOk result (λ told. option_map rehearsed told
         ≡ rehearsal_in (rows_of (found_of found.now))) }
 {
     if !is_dry(found) {
         return Ok(None);
     }
-    Ok(Some(failing_from(alloc, all_texts_of(found, "assume-failure"))?))
+    let failing = failing_from(alloc, all_texts_of(found, "assume-failure"))?;
+    Ok(Some(Rehearsal {
+        failing,
+        changes: tells_changes(found),
+    }))
 }

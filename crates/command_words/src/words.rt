@@ -2,11 +2,11 @@
 ghost use Rattle.std.specs.Prelude.{◌≡◌, ◌⊎◌, IfErr, IfOk, None, Some, codes, map, option_map, string_bytes};
 ghost use Rattle.clap.specs.Words.{first_of, found_of, kind_of, rows_of, subcommand_rows_of};
 ghost use Rattle.clap.specs.declared.error.kind.ErrorKind.TheVariants.{OutOfMemory};
-ghost use Rattle.command_words.specs.Commands.{asked_by, asked_in, asked_of, asked_with, comparison_from, comparison_in, comparison_of, entered, failing_in, flagged, flagged_by, parsed_of, rehearsal_of, rehearsed_in};
+ghost use Rattle.command_words.specs.Commands.{asked_by, asked_in, asked_of, asked_with, comparison_from, comparison_in, comparison_of, entered, flagged, flagged_by, parsed_of, rehearsal_of, rehearsal_with, rehearsed_in};
 ghost use Rattle.command_words.specs.Diversions.{diverting_of, undiverting_of};
 ghost use Rattle.command_words.specs.Packages.{configuring_of, removing_of};
 ghost use Rattle.command_words.specs.Queries.{query_of};
-ghost use Rattle.command_words.specs.Rehearsals.{rehearsal_in};
+ghost use Rattle.command_words.specs.Rehearsals.{rehearsal_in, rehearsed};
 ghost use Rattle.command_words.specs.Topics.{IsToldOf, named_in, topic_in};
 ghost use Rattle.command_words.specs.Unpacks.{unpacking_of};
 ghost use Rattle.command_words.specs.Verifications.{verifying_of};
@@ -20,12 +20,11 @@ use crate::help::{Topic, has_help_flag, is_help_flag, named_in, topic_in, usage_
 use crate::mistakes::mistake_text;
 use crate::packages::{Configuring, Removing, configuring_of, removing_of};
 use crate::query::{Query, query_of};
-use crate::rehearsal::{is_rehearsable, rehearsal_in};
+use crate::rehearsal::{Rehearsal, is_rehearsable, rehearsal_in};
 use crate::unpacking::{Unpacking, unpacking_of};
 use crate::verifying::{Verifying, verifying_of};
 use clap::ArgMatches;
 use clap::error::ErrorKind;
-use host_overlay::AssumedFailure;
 use shown_lines::shown;
 use std::alloc::{AllocError, Global};
 use texts::Text;
@@ -55,11 +54,11 @@ pub enum Asked {
     Verify(Verifying),
 }
 
-/// What is asked of the program, and the calls that are assumed to fail where it is only rehearsed.
+/// What is asked of the program, and its rehearsal where it is only rehearsed.
 #[derive(Drop)]
 struct Command {
     asked: Asked,
-    failing: Option<Vec<AssumedFailure>>,
+    rehearsal: Option<Rehearsal>,
 }
 
 /// Why words ask for nothing: a text that says how they are used, or want of memory.
@@ -229,7 +228,7 @@ fn asked_or_mistake(
 ) -> Result<Command, WordsFault>
     ensures asked { IfOk result (λ c. asked_with name.now (rows_of (found_of found.now))
         ≡ Some c.asked) }
-    ensures rehearsal { IfOk result (λ c. failing_in c
+    ensures rehearsal { IfOk result (λ c. rehearsal_with c
         ≡ rehearsal_in (rows_of (found_of found.now))) }
     ensures usage { IfErr result (λ fault. (fault ≡ NoMemory)
         ⊎ (asked_with name.now (rows_of (found_of found.now)) ≡ None)) }
@@ -237,7 +236,7 @@ fn asked_or_mistake(
     match asked_with(alloc, name, found)? {
         Some(asked) => Ok(Command {
             asked,
-            failing: rehearsal_in(alloc, found)?,
+            rehearsal: rehearsal_in(alloc, found)?,
         }),
         None => Err(WordsFault::Usage(mistake_text(alloc, name, found)?)),
     }
@@ -246,7 +245,7 @@ fn asked_or_mistake(
 fn asked_in(alloc: Global, matches: &ArgMatches<'_>) -> Result<Command, WordsFault>
     ensures asked { IfOk result (λ c. asked_in (subcommand_rows_of matches.now)
         ≡ Some c.asked) }
-    ensures rehearsal { IfOk result (λ c. failing_in c
+    ensures rehearsal { IfOk result (λ c. rehearsal_with c
         ≡ rehearsed_in (subcommand_rows_of matches.now)) }
     ensures usage { IfErr result (λ fault. (fault ≡ NoMemory)
         ⊎ (asked_in (subcommand_rows_of matches.now) ≡ None)) }
@@ -285,7 +284,7 @@ fn flagged(words: &[String]) -> Option<Asked>
 // What words without such a flag ask for, or why they ask for nothing.
 fn parsed(alloc: Global, words: &[String]) -> Result<Command, WordsFault>
     ensures asked { IfOk result (λ c. parsed_of (map string_bytes words.now) ≡ Some c.asked) }
-    ensures rehearsal { IfOk result (λ c. failing_in c
+    ensures rehearsal { IfOk result (λ c. rehearsal_with c
         ≡ rehearsed_in (entered (map string_bytes words.now))) }
     ensures usage { IfErr result (λ fault. (fault ≡ NoMemory)
         ⊎ (parsed_of (map string_bytes words.now) ≡ None)) }
@@ -298,18 +297,18 @@ fn parsed(alloc: Global, words: &[String]) -> Result<Command, WordsFault>
 
 // What asks for no rehearsal.
 fn carried_out(asked: Asked) -> Command
-    ensures { (result.asked ≡ asked) × (failing_in result ≡ None) }
+    ensures { (result.asked ≡ asked) × (rehearsal_with result ≡ None) }
 {
     Command {
         asked,
-        failing: None,
+        rehearsal: None,
     }
 }
 
 // What the words ask for, or why they ask for nothing.
 fn read_words(alloc: Global, words: &[String]) -> Result<Command, WordsFault>
     ensures asked { IfOk result (λ c. asked_of (map string_bytes words.now) ≡ Some c.asked) }
-    ensures rehearsal { IfOk result (λ c. failing_in c
+    ensures rehearsal { IfOk result (λ c. rehearsal_with c
         ≡ rehearsal_of (map string_bytes words.now)) }
     ensures usage { IfErr result (λ fault. (fault ≡ NoMemory)
         ⊎ (asked_of (map string_bytes words.now) ≡ None)) }
@@ -350,16 +349,13 @@ pub fn command_of(alloc: Global, words: &[String]) -> Result<Asked, WordsFault>
     }
 }
 
-/// The calls of scripts that are assumed to fail, where the words ask for a command that is only rehearsed.
-pub fn rehearsal_of(
-    alloc: Global,
-    words: &[String],
-) -> Result<Option<Vec<AssumedFailure>>, AllocError>
-    ensures { IfOk result (λ failing. option_map (λ v. v.items) failing
+/// The rehearsal, where the words ask for a command that is only rehearsed.
+pub fn rehearsal_of(alloc: Global, words: &[String]) -> Result<Option<Rehearsal>, AllocError>
+    ensures { IfOk result (λ told. option_map rehearsed told
         ≡ rehearsal_of (map string_bytes words.now)) }
 {
     match read_words(alloc, words) {
-        Ok(command) => Ok(command.failing),
+        Ok(command) => Ok(command.rehearsal),
         Err(WordsFault::Usage(_)) => Ok(None),
         Err(WordsFault::NoMemory) => Err(AllocError),
     }

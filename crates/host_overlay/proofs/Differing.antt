@@ -20,6 +20,7 @@ as_below (Some s) w q none = absurd (true≢false none)
 module _ {H : Type 0} {host : Ghosts H} (o : Overlay H host) where
   pub tells_changes : (told : List ChangedPath) → AreTold (changed_in o.layer) told → TellsChanges o told
   tells_changes told all = record {
+    once = all.once;
     stands = λ h x c. (let t = all.there x c in
         t.1 ∙ stands_shown (changed_in o.layer x.path) (begun_state o).world x.path t.0 (o.there h x.path) ∙ ap (λ (w : World). is_some (w x.path)) (o.layer.makes (begun_state o).world));
     whole = λ q none. sym (ap (λ (w : World). w q) (o.layer.makes (begun_state o).world)) ∙ elim (is_changed_or_not (changed_in o.layer q)) [

@@ -56,7 +56,7 @@ no_some None e is = false≢true is
 no_some (Some s) e is = absurd cc
 
 -- what stands at the first key stands at none of the others
-not_in_rest : (q : Path) (e : Entry) (es left : List Entry) → left ≡ e ∷ es → AreApart left → q ≡ string_bytes e.0 → Has es q → ⊥
+pub not_in_rest : (q : Path) (e : Entry) (es left : List Entry) → left ≡ e ∷ es → AreApart left → q ≡ string_bytes e.0 → Has es q → ⊥
 not_in_rest q e es left is apart at = no_some (here es q) (
     ap (λ (p : Path). here es p) at
     ∙ lookup-none (test (string_bytes e.0)) es
@@ -123,7 +123,7 @@ in_tail_at : (b : Bool) (n : Standing) (o : Option Standing) → IsSome o → Is
 in_tail_at true n o h = refl
 in_tail_at false n o h = h
 
-has_tail : (q : Path) (e : Entry) (es left : List Entry) → left ≡ e ∷ es → Has es q → Has left q
+pub has_tail : (q : Path) (e : Entry) (es left : List Entry) → left ≡ e ∷ es → Has es q → Has left q
 has_tail q e es left is h = subst (λ (l : List Entry). Has l q) (sym is) (in_tail_at (test q e.0) e.1 (here es q) h)
 
 -- what is left says what the whole does

@@ -1,5 +1,7 @@
 -- What an overlay tells of itself, and what its calls do to it and to the host below.
-use Rattle.std.specs.Prelude.{◌≡◌, List, IsTrue, Result, Ok, Err, Contains, is_some}
+use Rattle.std.specs.Prelude.{◌≡◌, List, IsTrue, Result, Ok, Err, Contains, is_some, map}
+use Rattle.std.specs.List.{IsDistinct}
+use Rattle.std.specs.Str.{bytes_eq}
 use Rattle.host_core.specs.Events.{follow_all}
 use Rattle.host_core.specs.Host.{State, Silent, Counts, Does, Reads}
 use Rattle.host_core.specs.Looks.{Looks}
@@ -45,8 +47,9 @@ module _ {H : Type 0} {host : Ghosts H} where
   pub overlay_settled : (o : Overlay H host) → IsTrue (overlay_state o).honest → IsSettled (overlay_state o).events
   overlay_settled o honest = o.settled honest
 
-  -- of each of these paths it is told whether something stands there; at all others stands what stood there below
+  -- of each of these paths, which are told once, it is told whether something stands there; at all others stands what stood there below
   pub record TellsChanges (o : Overlay H host) (told : List ChangedPath) : Type 0 where
+    pub once : IsDistinct bytes_eq (map (λ (x : ChangedPath). x.path) told)
     pub stands : IsTrue (overlay_state o).honest → (x : ChangedPath) → Contains told x → x.stands ≡ is_some ((overlay_state o).world x.path)
     pub whole : (q : Path) → ((x : ChangedPath) → Contains told x → x.path ≡ q → ⊥) → (overlay_state o).world q ≡ (begun_state o).world q
 

@@ -1,5 +1,5 @@
 -- What stands at the paths that were changed over a host below, and the world that this makes of the host's.
-use Rattle.std.specs.Prelude.{◌≡◌, Bool, true, false, List, ◌∷◌, ◌++◌, Option, Some, None, cond, is_some, not, IsSome, Contains}
+use Rattle.std.specs.Prelude.{◌≡◌, Bool, true, false, List, ◌∷◌, ◌++◌, Option, Some, None, cond, is_some, map, not, IsSome, Contains}
 use Rattle.std.specs.List.{IsDistinct}
 use Rattle.std.specs.Map.{update}
 use Rattle.std.specs.Str.{bytes_eq, IsUtf8}
@@ -105,8 +105,9 @@ pub record AreNamesIn (m : Changed) (path : Path) (names : List Path) : Type 0 w
   pub whole : (name : Path) → has_slash name ≡ false → is_shown (m (path ++ 47 ∷ name)) ≡ true → Contains names name
   pub all : (name : Path) → has_slash name ≡ false → IsSome (m (path ++ 47 ∷ name)) → IsUtf8 name
 
--- these are the paths that were changed, each with whether a node stands there
+-- these are the paths that were changed, each once and with whether a node stands there
 pub record AreTold (m : Changed) (told : List ChangedPath) : Type 0 where
+  pub once : IsDistinct bytes_eq (map (λ (x : ChangedPath). x.path) told)
   pub there : (x : ChangedPath) → Contains told x → IsSome (m x.path) × (x.stands ≡ is_shown (m x.path))
   pub whole : (q : Path) → IsSome (m q) → (x : ChangedPath) × Contains told x × (x.path ≡ q)
 

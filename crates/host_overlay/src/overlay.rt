@@ -43,7 +43,7 @@ impl<H: Host> Overlay<H> {
     ghost use Rattle.host_core.specs.Unsynced.{KeepsSettled};
     ghost use Rattle.host_overlay.specs.Able.{CanDo};
     ghost use Rattle.host_overlay.specs.Doings.{step_of};
-    ghost use Rattle.host_overlay.specs.Overlays.{assumed, begun_state, below_state, overlay_state, MakesStep, TellsChanges};
+    ghost use Rattle.host_overlay.specs.Overlays.{assumed, begun_state, below_state, overlay_state, LooksOver, MakesStep, TellsChanges};
 
     /// Over this host, with these calls assumed to fail.
     pub fn over(alloc: Global, below: H, failing: Vec<AssumedFailure>) -> Overlay<H>
@@ -83,6 +83,17 @@ impl<H: Host> Overlay<H> {
         ensures { IfOk result (λ told. TellsChanges self.now told.items) }
     {
         self.layer.changes.told()
+    }
+
+    /// What stands at a path of the host below, whatever was done over it.
+    pub fn node_below(&mut self, path: &RootPath) -> Result<Option<Node>, HostFault>
+        ensures { LooksOver result (λ node w. node ≡ (begun_state self.old).world path.now)
+            self.old self.new }
+    {
+        self.layer.make_room()?;
+        let told = self.below.node(path);
+        self.layer.tell(&told);
+        told
     }
 
     /// The calls that were assumed to fail and weren't made.

@@ -1,12 +1,13 @@
 use Rattle.std.proofs.Common.{◌≡◌, ◌∙◌, Some, None, inl, inr, map, refl, string_bytes}
 use Rattle.command_line.specs.Rehearsed.{Rehearsal, reply_of}
 use Rattle.command_line.specs.Reports.{memory_answer}
+use Rattle.command_line.proofs.Told.{behind_status}
 use Rattle.command_words.specs.Commands.{rehearsal_of}
 use Rattle.dpkg_cli.proofs.run.Goals as goal
 
 want_status : (rehearsal : Rehearsal) → (reply_of rehearsal memory_answer).status ≡ 2
 want_status None = refl
-want_status (Some failing) = refl
+want_status (Some rehearsed) = refl
 
 -- an answer that was given ends with its status, or with 2; want of memory ends with 2
 pub returns-clause-answered : goal.returns-clause-answered
@@ -16,11 +17,13 @@ returns-clause-answered g c =
       c.run_words-status.new.hosts.faults,
       (
         told.0,
-        elim told.1 [
+        told.1,
+        told.5,
+        elim told.6 [
           | inl answers ↦ inl answers
           | inr wants ↦ inr wants.0
         ],
-        elim told.2 [
+        behind_status told.1 _ _ _ _ told.4 c.run_words-status.result told.0.status (elim told.7 [
           | inl given ↦ elim given [
             | inl written ↦ inl written.status
             | inr cut ↦ inr cut.0
@@ -35,6 +38,6 @@ returns-clause-answered g c =
               | inr cut ↦ inr cut.0
             ]
           ]
-        ],
+        ]) told.8,
       ),
     )

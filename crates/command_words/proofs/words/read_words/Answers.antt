@@ -1,7 +1,7 @@
 use Rattle.std.proofs.Common.{map, string_bytes, length, ◌<◌, ◌∙◌, Some, ap, sym, inl, inr}
 use Rattle.std.proofs.lemmas.List.{length-map}
 use Rattle.std.proofs.lemmas.Result.{IfOk-weaker, IfErr-weaker}
-use Rattle.command_words.specs.Commands.{failing_in}
+use Rattle.command_words.specs.Commands.{rehearsal_with}
 use Rattle.command_words.proofs.Asking.{asked_flagged, asked_names, asked_parsed, rehearsed_flagged, rehearsed_names, rehearsed_parsed}
 use Rattle.command_words.proofs.words.read_words.Goals as goal
 
@@ -33,7 +33,7 @@ pub returns-in-None-clause-rehearsal : goal.returns-in-None-clause-rehearsal
 returns-in-None-clause-rehearsal c =
     let words = map string_bytes c.args.words.now in
     let more : 1 < length words = rw (length-map c.args.words.now string_bytes) c.if-words-le1.false in
-    rehearsed_parsed words more (sym c.flagged.ensures ∙ c.in-None.is) (λ x. x.asked) failing_in c.parsed.result c.parsed.ensures.asked c.parsed.ensures.rehearsal
+    rehearsed_parsed words more (sym c.flagged.ensures ∙ c.in-None.is) (λ x. x.asked) rehearsal_with c.parsed.result c.parsed.ensures.asked c.parsed.ensures.rehearsal
 
 pub returns-in-None-clause-usage : goal.returns-in-None-clause-usage
 returns-in-None-clause-usage c =
