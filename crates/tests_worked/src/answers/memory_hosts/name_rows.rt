@@ -49,14 +49,29 @@ const BROUGHT: NameRow = (
         READ,
         "read /opt",
     ],
-    "",
+    "|damaged /var/lib/dpkg/info/alpha:amd64.list 0
+|2
+||0
+directory: alpha.list alpha.postrm bravo.list
+alpha: /opt/a
+||0
+call old alpha postrm remove: exit 0
+call old alpha postrm purge: exit 0
+state alpha none
+done
+||0
+directory: bravo.list
+directory:
+",
 );
 
 // What an opening left that was stopped, before `format` went and behind that.
 const GIVEN: NameRow = (
     &[RECORDS, FORMAT, LONG, SHORT, SCRIPT],
     &[CONFIGURE, READ],
-    "",
+    "||0
+directory: alpha.list alpha.postrm
+",
 );
 
 const LEFT_BESIDE: NameRow = (
@@ -66,26 +81,40 @@ const LEFT_BESIDE: NameRow = (
         READ,
         "read /var/lib/dpkg/info/alpha.list",
     ],
-    "",
+    "state alpha 2 install ok unpacked
+done
+||0
+directory: alpha.list
+/.
+
+",
 );
 
 // Another file at the name without the architecture, and formats that aren't known.
 const CLASH: NameRow = (
     &[RECORDS, FORMAT, LONG, OTHER, SCRIPT],
     &[CONFIGURE, READ],
-    "",
+    "|damaged /var/lib/dpkg/info/alpha:amd64.list 0
+|2
+directory: alpha.list alpha:amd64.list alpha:amd64.postrm format
+",
 );
 
 const UNKNOWN: NameRow = (
     &[RECORDS, "write /var/lib/dpkg/info/format 2\n", LONG],
     &[CONFIGURE, READ],
-    "",
+    "|damaged /var/lib/dpkg/info/format 0
+|2
+directory: alpha:amd64.list format
+",
 );
 
 const UNKNOWN_WITHOUT: NameRow = (
     &[RECORDS, "write /var/lib/dpkg/info/format 2\n", SHORT],
     &[CONFIGURE, READ],
-    "",
+    "||0
+directory: alpha.list format
+",
 );
 
 // A name of a package without a record, and one of another architecture than the record's.
@@ -96,7 +125,10 @@ const OF_NOBODY: NameRow = (
         "write /var/lib/dpkg/info/gone:amd64.list /.\n",
     ],
     &[CONFIGURE, READ],
-    "",
+    "|damaged /var/lib/dpkg/info/gone:amd64.list 0
+|2
+directory: gone:amd64.list
+",
 );
 
 const OF_ANOTHER: NameRow = (
@@ -106,7 +138,10 @@ const OF_ANOTHER: NameRow = (
         "write /var/lib/dpkg/info/alpha:arm64.list /.\n",
     ],
     &[CONFIGURE, READ],
-    "",
+    "|damaged /var/lib/dpkg/info/alpha:arm64.list 0
+|2
+directory: alpha:arm64.list
+",
 );
 
 const ROWS: &[NameRow] = &[
