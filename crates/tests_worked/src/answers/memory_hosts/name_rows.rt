@@ -50,6 +50,7 @@ const BROUGHT: NameRow = (
         "read /opt",
     ],
     "|damaged /var/lib/dpkg/info/alpha:amd64.list 0
+expected: a file of a package whose name has no architecture
 |2
 ||0
 directory: alpha.list alpha.postrm bravo.list
@@ -95,6 +96,7 @@ const CLASH: NameRow = (
     &[RECORDS, FORMAT, LONG, OTHER, SCRIPT],
     &[CONFIGURE, READ],
     "|damaged /var/lib/dpkg/info/alpha:amd64.list 0
+expected: a file of a package whose name has no architecture
 |2
 directory: alpha.list alpha:amd64.list alpha:amd64.postrm format
 ",
@@ -104,6 +106,7 @@ const UNKNOWN: NameRow = (
     &[RECORDS, "write /var/lib/dpkg/info/format 2\n", LONG],
     &[CONFIGURE, READ],
     "|damaged /var/lib/dpkg/info/format 0
+expected: a file of a package whose name has no architecture
 |2
 directory: alpha:amd64.list format
 ",
@@ -126,6 +129,7 @@ const OF_NOBODY: NameRow = (
     ],
     &[CONFIGURE, READ],
     "|damaged /var/lib/dpkg/info/gone:amd64.list 0
+expected: a file of a package whose name has no architecture
 |2
 directory: gone:amd64.list
 ",
@@ -139,6 +143,7 @@ const OF_ANOTHER: NameRow = (
     ],
     &[CONFIGURE, READ],
     "|damaged /var/lib/dpkg/info/alpha:arm64.list 0
+expected: a file of a package whose name has no architecture
 |2
 directory: alpha:arm64.list
 ",
