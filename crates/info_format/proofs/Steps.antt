@@ -147,9 +147,9 @@ none_of None is = refl
 none_of (Some n) is = absurd (false≢true is)
 
 -- a fault that a `?` passes on is no answer
-pub no_answer : {T : Type 0} {P : T → Type 0} {Q : HostFault → Type 0} (result : Result T HostFault) → IsErrAnd result Q → IfOk result P
-no_answer (Ok x) told = absurd told
-no_answer (Err e) told = tt
+pub no_answer : {T : Type 0} (P : T → Type 0) (Q : HostFault → Type 0) (result : Result T HostFault) → IsErrAnd result Q → IfOk result P
+no_answer P Q (Ok x) told = absurd told
+no_answer P Q (Err e) told = tt
 
 pub none_told : (node : Option Node) → is_some node ≡ false → node ≡ None
 none_told None is = refl

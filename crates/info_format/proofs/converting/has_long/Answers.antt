@@ -12,7 +12,7 @@ use Rattle.info_format.proofs.converting.has_long.Goals as goal
 pub returns-in_err-is_there : goal.returns-in_err-is_there
 returns-in_err-is_there g c = record {
   looks = record {
-    found = λ h. no_answer c.from_residual.result c.from_residual.ensures.1;
+    found = λ h. no_answer _ _ c.from_residual.result c.from_residual.ensures.1;
     reads = search (rules, reads_then);
     silent = search rules;
     counts = search rules;
