@@ -12,10 +12,14 @@
 //! the audit (`finds`).
 #![tactic(auto)]
 
+mod comparing;
 mod difference;
+mod following;
 mod looking;
 mod packages;
+mod shipped;
 mod sums;
 mod verifying;
 
+pub use comparing::verify_tree;
 pub use verifying::{Verified, verify};
