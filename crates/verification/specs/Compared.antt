@@ -20,12 +20,17 @@ use Rattle.verification.specs.Verified.{cut_lines, has_files, unknown_lines}
 abbrev pub is_compared : Record → List ℕ → Bool
 is_compared r version = has_files r.state && bytes_eq r.version version
 
--- `refused PKG WrongState` where the package hasn't its files, `refused PKG OtherVersion RECORDED`, or that work on it was cut off
+-- `refused PKG WrongState`, where it hasn't its files
+abbrev pub state_line : Record → List ℕ
+state_line r = line (codes "refused " ++ (r.name ++ codes " WrongState"))
+
+-- `refused PKG OtherVersion RECORDED`
+abbrev pub version_line : Record → List ℕ
+version_line r = line (codes "refused " ++ (r.name ++ (codes " OtherVersion " ++ r.version)))
+
+-- why a package isn't compared, or that work on it was cut off
 abbrev pub standing_lines : Record → List ℕ → List ℕ
-standing_lines r version =
-    if not (has_files r.state) then line (codes "refused " ++ (r.name ++ codes " WrongState"))
-    else if bytes_eq r.version version then cut_lines r
-    else line (codes "refused " ++ (r.name ++ (codes " OtherVersion " ++ r.version)))
+standing_lines r version = if not (has_files r.state) then state_line r else if bytes_eq r.version version then cut_lines r else version_line r
 
 abbrev pub recorded_lines : Option Record → List ℕ → List ℕ
 recorded_lines None version = []

@@ -42,7 +42,7 @@ stands_for aliases path shipped = not (is_file shipped) && is_alias aliases (way
 
 -- what a look told: the difference, or that there is no knowing
 abbrev pub compared_by : (failed : Bool) → Option Node → Node → Option Difference
-compared_by true node shipped = Some Unread
+compared_by true _ shipped = Some Unread
 compared_by false node shipped = difference_between node shipped
 
 -- the difference of a shipped path; none where a link to a directory stands for it

@@ -6,7 +6,7 @@ ghost use Rattle.status_records.specs.Records.{record_in};
 ghost use Rattle.inquiries.specs.Read.{HasFollowed, all_parts};
 ghost use Rattle.opening.specs.Followed.{AreWhole};
 ghost use Rattle.opening.specs.Parts.{Finds, fault_in};
-ghost use Rattle.verification.specs.Compared.{IsCompared, compared_files, heading_lines, is_compared, recorded_lines, standing_lines};
+ghost use Rattle.verification.specs.Compared.{IsCompared, compared_files, heading_lines, is_compared, recorded_lines, standing_lines, state_line, version_line};
 ghost use Rattle.verification.specs.Counting.{CountsLooks, CountsVerified};
 ghost use Rattle.verification.specs.Looks.{AddsEach};
 ghost use Rattle.verification.specs.Shipped.{looked_paths, shipped_lines};
@@ -38,22 +38,35 @@ fn is_compared(entry: &Record, version: &Version) -> bool
     has_files(entry.state) && has_version(entry, version)
 }
 
+fn state_line(alloc: Global, entry: &Record) -> Result<String, AllocError>
+    ensures { IfOk result (λ printed. string_bytes printed ≡ state_line entry.now) }
+{
+    let name = entry.name.as_str();
+    let content = format!(in alloc; "refused {name} WrongState")?;
+    line(alloc, content.as_str())
+}
+
+fn version_line(alloc: Global, entry: &Record) -> Result<String, AllocError>
+    ensures { IfOk result (λ printed. string_bytes printed ≡ version_line entry.now) }
+{
+    let name = entry.name.as_str();
+    let recorded = entry.version.text();
+    let content = format!(in alloc; "refused {name} OtherVersion {recorded}")?;
+    line(alloc, content.as_str())
+}
+
 // What is told of a package that has a record.
 fn standing_lines(alloc: Global, entry: &Record, version: &Version) -> Result<String, AllocError>
     ensures { IfOk result
         (λ printed. string_bytes printed ≡ standing_lines entry.now version.now) }
 {
-    let name = entry.name.as_str();
     if !has_files(entry.state) {
-        let content = format!(in alloc; "refused {name} WrongState")?;
-        return line(alloc, content.as_str());
+        return state_line(alloc, entry);
     }
     if has_version(entry, version) {
         return cut_lines(alloc, entry);
     }
-    let recorded = entry.version.text();
-    let content = format!(in alloc; "refused {name} OtherVersion {recorded}")?;
-    line(alloc, content.as_str())
+    version_line(alloc, entry)
 }
 
 fn recorded_lines(
@@ -74,25 +87,25 @@ fn recorded_lines(
 fn heading_lines(
     alloc: Global,
     database: &NotedDatabase,
-    package: &Package,
+    incoming: &Package,
 ) -> Result<String, AllocError>
     ensures { IfOk result
-        (λ printed. string_bytes printed ≡ heading_lines database.now.records package.now) }
+        (λ printed. string_bytes printed ≡ heading_lines database.now.records incoming.now) }
 {
-    let mut lines = unknown_lines(alloc, database, &package.name)?;
-    let entry = database.get(&package.name);
-    let recorded = recorded_lines(alloc, entry, &package.version)?;
+    let mut lines = unknown_lines(alloc, database, &incoming.name)?;
+    let entry = database.get(&incoming.name);
+    let recorded = recorded_lines(alloc, entry, &incoming.version)?;
     lines.push_str(recorded.as_str())?;
     Ok(lines)
 }
 
 // The shipped paths that are compared.
-fn compared_files<'a>(database: &NotedDatabase, package: &'a Package) -> &'a [Shipped]
-    ensures { result.now ≡ compared_files (record_in database.now.records package.now.name)
-        package.now }
+fn compared_files<'a>(database: &NotedDatabase, incoming: &'a Package) -> &'a [Shipped]
+    ensures { result.now ≡ compared_files (record_in database.now.records incoming.now.name)
+        incoming.now }
 {
-    match database.get(&package.name) {
-        Some(entry) if is_compared(entry, &package.version) => package.files.as_slice(),
+    match database.get(&incoming.name) {
+        Some(entry) if is_compared(entry, &incoming.version) => incoming.files.as_slice(),
         Some(_) => &[],
         None => &[],
     }
@@ -103,21 +116,21 @@ fn compare_files<H: Host>(
     alloc: Global,
     host: &mut H,
     all: &Opened,
-    package: &Package,
+    incoming: &Package,
 ) -> Result<Verified, HostFault>
     ensures added { IfOk result (λ v. AddsEach
-        (shipped_lines all.now.diversions.ways package.now.name)
-        (compared_files (record_in all.now.database.records package.now.name) package.now)
+        (shipped_lines all.now.diversions.ways incoming.now.name)
+        (compared_files (record_in all.now.database.records incoming.now.name) incoming.now)
         (H.state host.old) (H.state host.new)
-        (heading_lines all.now.database.records package.now) v.text) }
+        (heading_lines all.now.database.records incoming.now) v.text) }
     ensures differs { IfOk result (λ v. IsTrue v.differs ↔ (v.text ≢ [])) }
     ensures reads { Reads (H.state host.old) (H.state host.new) }
     ensures silent { Silent (H.state host.old) (H.state host.new) }
     ensures counts { CountsLooks (H.state host.old) (H.state host.new) result }
 {
-    let mut lines = heading_lines(alloc, &all.database, package)?;
-    let files = compared_files(&all.database, package);
-    let name = &package.name;
+    let mut lines = heading_lines(alloc, &all.database, incoming)?;
+    let files = compared_files(&all.database, incoming);
+    let name = &incoming.name;
     match add_files(alloc, host, &all.diversions, name, files, &mut lines) {
         Ok(()) => Ok(told(lines)),
         Err(fault) => Err(fault),
@@ -129,19 +142,19 @@ fn compare_read<H: Host>(
     alloc: Global,
     host: &mut H,
     all: &mut Opened,
-    package: &Package,
+    incoming: &Package,
 ) -> Result<Verified, HostFault>
     requires { Needs (H.state host.old)
         (HasFollowed all.old.database.records all.old.lists.lists all.old.diversions.ways) }
     ensures told { IfOk result
-        (λ v. IsCompared package.now (H.state host.old) (H.state host.new) v.text) }
+        (λ v. IsCompared incoming.now (H.state host.old) (H.state host.new) v.text) }
     ensures differs { IfOk result (λ v. IsTrue v.differs ↔ (v.text ≢ [])) }
     ensures reads { Reads (H.state host.old) (H.state host.new) }
     ensures silent { Silent (H.state host.old) (H.state host.new) }
     ensures counts { CountsLooks (H.state host.old) (H.state host.new) result }
 {
-    follow_files(alloc, host, package.files.as_slice(), &mut all.diversions)?;
-    compare_files(alloc, host, all, package)
+    follow_files(alloc, host, incoming.files.as_slice(), &mut all.diversions)?;
+    compare_files(alloc, host, all, incoming)
 }
 
 /// Which paths that a package's tree ships differ from what the tree has there; or why they aren't
@@ -149,10 +162,10 @@ fn compare_read<H: Host>(
 pub fn verify_tree<H: Host>(
     alloc: Global,
     host: &mut H,
-    package: &Package,
+    incoming: &Package,
 ) -> Result<Verified, AdministrationFault>
     ensures told { IfOk result
-        (λ v. IsCompared package.now (H.state host.old) (H.state host.new) v.text) }
+        (λ v. IsCompared incoming.now (H.state host.old) (H.state host.new) v.text) }
     ensures differs { IfOk result (λ v. IsTrue v.differs ↔ (v.text ≢ [])) }
     ensures finds { IsTrue (H.state host.new).honest
         → Finds all_parts (H.state host.old).world (fault_in result) }
@@ -161,7 +174,7 @@ pub fn verify_tree<H: Host>(
     ensures counts { CountsVerified (H.state host.old) (H.state host.new) result }
 {
     let mut all = read_followed(alloc, host)?;
-    match compare_read(alloc, host, &mut all, package) {
+    match compare_read(alloc, host, &mut all, incoming) {
         Ok(verified) => Ok(verified),
         Err(fault) => Err(AdministrationFault::from(fault)),
     }
