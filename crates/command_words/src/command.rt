@@ -235,8 +235,8 @@ fn verify_command<'a>(alloc: Global) -> Result<Command<'a>, AllocError>
     ensures local { IfOk result (λ c. (fields_of c).has_globals ≡ false) }
 {
     let command = with_arg(rooted(alloc, "verify")?, option(alloc, "tree"))?;
-    let command = with_arg(command, flag(alloc, "owner-root"))?;
-    with_arg(command, words(alloc, "PKG", false))
+    let with_owners = with_arg(command, flag(alloc, "owner-root"))?;
+    with_arg(with_owners, words(alloc, "PKG", false))
 }
 
 // Clap makes no flag and no subcommand for help: the subcommand is ours, and a flag for it is a usage fault.
