@@ -17,7 +17,7 @@ one_failed : (b : Bool) (n m : ℕ) → n ≡ m + cond b 1 0 → n ≡ m + (0 + 
 one_failed b n m e = omega (arith, e)
 
 -- its line, by whether a link to a directory stands for it
-lines_by : Ways → List ℕ → World → Shipped → Bool → Bool → List ℕ
+abbrev lines_by : Ways → List ℕ → World → Shipped → Bool → Bool → List ℕ
 lines_by ways name w file failed stands = difference_lines file.path name (if stands then None else compared_by failed (w (place_of ways name file.path)) file.node)
 
 -- none where a link to a directory stands for it
