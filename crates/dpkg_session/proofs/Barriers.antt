@@ -14,7 +14,7 @@ use Rattle.host_core.specs.declared.fault.HostFault.TheVariants.{Device, NoMemor
 use Rattle.undo_rows.specs.Transcripts.{Ended, MayRun}
 use Rattle.file_lists.specs.declared.paths.PackageList.{PackageList}
 use Rattle.opening.specs.Leaving.{IsOpeningOrMerging}
-use Rattle.opening.specs.Parts.{HasMerged, IsDamaged, Merges, Opens, OpensAndMerges, parts}
+use Rattle.opening.specs.Parts.{GoesOn, HasMerged, IsDamaged, Merges, Opens, OpensAndMerges, ReadsAndMerges, parts}
 use Rattle.undo_rows.specs.declared.unwinding.Unwinding.{Unwinding}
 use Rattle.status_db.specs.Noting.{IsMerging}
 use Rattle.status_db.specs.Recorded.{Recorded}
@@ -98,21 +98,25 @@ brought_behind result a b c begins does = begins_then a b c begins (since_barrie
 
 -- where the barrier failed it is refused for that, and all else stands
 pub opens_stopped : (fault : HostFault) (given : AdministrationFault) (old now later : World) → given ≡ fault_of fault → later ≡ now → OpensAndMerges None old now → OpensAndMerges (Some given) old later
-opens_stopped fault given old now later is same opens = by opens.found opens.opens opens.merges
+opens_stopped fault given old now later is same all = record { begun = all.begun; first = all.first; names = all.names; goes = going all.first all.goes }
   where
     sound : (f : HostFault) → IsDamaged (Some (fault_of f)) → ⊥
     sound Device damaged = damaged
     sound NoMemory damaged = damaged
     sound Declined damaged = damaged
 
-    merged : HasMerged None opens.read now → HasMerged (Some given) opens.read later
-    merged has = record {
+    merged : (read : World) → HasMerged None read now → HasMerged (Some given) read later
+    merged read has = record {
       sound = λ damaged. sound fault (subst (λ f. IsDamaged (Some f)) is damaged);
       table = has.table;
       records = has.records;
-      merging = subst (IsMerging has.table opens.read) (sym same) has.merging;
+      merging = subst (IsMerging has.table read) (sym same) has.merging;
     }
 
-    by : (found : Option AdministrationFault) → Opens parts found old opens.read → Merges found None opens.read now → OpensAndMerges (Some given) old later
-    by None goes merges = record { read = opens.read; found = None; opens = goes; merges = merged merges }
-    by (Some f) goes merges = absurd (let e : None ≡ Some f = merges.0 in cc)
+    by : (begun read : World) (found : Option AdministrationFault) → Opens parts found begun read → Merges found None read now → ReadsAndMerges (Some given) begun later
+    by begun read None goes merges = record { read = read; found = None; opens = goes; merges = merged read merges }
+    by begun read (Some f) goes merges = absurd (let e : None ≡ Some f = merges.0 in cc)
+
+    going : (first : Option AdministrationFault) → GoesOn first None all.begun now → GoesOn first (Some given) all.begun later
+    going None reads = by all.begun reads.read reads.found reads.opens reads.merges
+    going (Some f) goes = absurd (let e : None ≡ Some f = goes.0 in cc)

@@ -6,7 +6,6 @@ pub mod Run
 pub mod Growth
 pub mod Trees
 pub mod Turns
-pub mod Growth
 pub mod History
 pub mod PowerLoss
 pub mod Checkpoints

@@ -1,9 +1,10 @@
 // What an unpack displaces behind its commit.
-ghost use Rattle.std.specs.Prelude.{◌≡◌, ℕ, List, [], None, IfOk, IfSome, OnOk, map};
+ghost use Rattle.std.specs.Prelude.{◌≡◌, ℕ, List, [], None, IfOk, IfSome, OnOk, length, map, take, true};
 ghost use Rattle.host_core.specs.Host.{AtEachMomentOf, Counts, Needs};
 ghost use Rattle.host_core.specs.Loss.{IsOnDisk};
+ghost use Rattle.file_lists.specs.Beside.{HadPlaces};
 ghost use Rattle.file_lists.specs.Owners.{places_in};
-ghost use Rattle.held_administration.specs.Open.{CanWrite, IsOpen};
+ghost use Rattle.held_administration.specs.Open.{IsOpen};
 ghost use Rattle.recorded_packages.specs.Packages.{ArePackagesOf};
 ghost use Rattle.recorded_packages.specs.Renewal.{AreSameBut};
 ghost use Rattle.status_db.specs.Order.{AreInOrder};
@@ -105,7 +106,37 @@ fn undisplaced(alloc: Global, unpacked: Unpacked) -> UnpackEnd
     }
 }
 
-// Computes the places anew, and reads what the touched packages state now.
+fn place_count(places: &Places) -> usize
+    ensures { result ≡ length places.now }
+{
+    places.items.len()
+}
+
+// Computes the places of the package anew, of which those of all lists were the first so many; or all, where another list has
+// changed.
+fn renew_places(
+    alloc: Global,
+    lists: &FileLists,
+    places: &mut Places,
+    diversions: &Diversions,
+    name: &Text,
+    kept: usize,
+    alone: bool,
+) -> Result<(), AllocError>
+    requires had { alone ≡ true
+        → HadPlaces diversions.now.ways name.now lists.now.lists (take kept places.old) }
+    ensures { OnOk result (places.new ≡ places_in diversions.now.ways lists.now.lists) }
+{
+    if alone {
+        places.items.truncate(kept);
+        lists.renew_places(alloc, diversions, name, places)?;
+        return Ok(());
+    }
+    refresh(alloc, lists, diversions, places)?;
+    Ok(())
+}
+
+// Brings the places up to date, and reads what the touched packages state now.
 fn bring_up_to_date(
     alloc: Global,
     database: &NotedDatabase,
@@ -113,32 +144,39 @@ fn bring_up_to_date(
     lists: &FileLists,
     places: &mut Places,
     diversions: &Diversions,
+    name: &Text,
+    kept: usize,
+    alone: bool,
     touched: &[Text],
 ) -> Result<(), AllocError>
+    requires had { alone ≡ true
+        → HadPlaces diversions.now.ways name.now lists.now.lists (take kept places.old) }
     ensures places { OnOk result (places.new ≡ places_in diversions.now.ways lists.now.lists) }
     ensures packages { OnOk result ((before : List Record) → AreInOrder before
         → ArePackagesOf before packages.old → AreSameBut touched.now before database.now.records
         → ArePackagesOf database.now.records packages.new) }
 {
-    refresh(alloc, lists, diversions, places)?;
+    renew_places(alloc, lists, places, diversions, name, kept, alone)?;
     renew(alloc, packages, database, touched)?;
     Ok(())
 }
 
-// Unpacks a package, and then computes the places anew.
+// Unpacks the package of this name, and then brings up to date what is known of lists and records.
 fn unpack_refreshed<H: Host>(
     host: &mut H,
     administration: &mut Administration,
     packages: &mut Packages,
     diversions: &Diversions,
+    name: &Text,
     incoming: Package,
     beside: &Beside,
     told: &mut Vec<Called>,
 ) -> Result<Unpacked, HostFault>
+    requires named { name.now ≡ incoming.name }
     requires apart { AreApart incoming.name administration.old.database.records beside.now }
     requires order { Needs (H.state host.old)
         (IsInOrder administration.old.database administration.old.lists.lists) }
-    requires open { CanWrite administration.old }
+    requires open { IsOpen diversions.now.ways administration.old }
     requires indexed { ArePackagesOf administration.old.database.records packages.old }
     ensures unit { IfOk result (λ u. HasUnpackedBeside incoming beside.now
         (held_by administration.old diversions.now) administration.old.places u.unwinding
@@ -161,6 +199,8 @@ fn unpack_refreshed<H: Host>(
     ensures counts { Counts (H.state host.old) (H.state host.new) result }
 {
     administration.database.law();
+    administration.lists.law();
+    let kept = place_count(&administration.places);
     match unpack_beside(host, administration, diversions, incoming, beside, told) {
         Ok(unpacked) => match bring_up_to_date(
             administration.alloc,
@@ -169,6 +209,9 @@ fn unpack_refreshed<H: Host>(
             &administration.lists,
             &mut administration.places,
             diversions,
+            name,
+            kept,
+            unpacked.alone,
             unpacked.touched.as_slice(),
         ) {
             Ok(()) => Ok(unpacked),
@@ -224,6 +267,7 @@ pub(crate) fn unpack_whole<H: Host>(
         administration,
         packages,
         diversions,
+        &behind.package,
         incoming,
         beside,
         told,

@@ -69,7 +69,11 @@ fn answered(
     ensures untouched { IsBroken result.reply → TellsNoPackage result }
 {
     let UnpackEnd {
-        unpacked: Unpacked { unwinding, touched },
+        unpacked: Unpacked {
+            unwinding,
+            touched,
+            alone: _,
+        },
         displaced: Displaced { names, failed },
     } = end;
     let Behind {

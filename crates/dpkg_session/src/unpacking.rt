@@ -1,7 +1,8 @@
 // The unpack of a package beside others, brought to the disk.
-ghost use Rattle.std.specs.Prelude.{◌≡◌, IfOk, IfSome, OnOk};
+ghost use Rattle.std.specs.Prelude.{◌≡◌, ◌↔◌, IfOk, IfSome, OnOk, length, take, true};
 ghost use Rattle.host_core.specs.Host.{AtEachMomentOf, Counts, Needs, Reads, Silent};
 ghost use Rattle.host_core.specs.Loss.{IsOnDisk};
+ghost use Rattle.file_lists.specs.Beside.{AreSameBeside};
 ghost use Rattle.held_administration.specs.Open.{CanWrite};
 ghost use Rattle.undo_rows.specs.Ended.{ended_as};
 ghost use Rattle.held_administration.specs.Order.{IsInOrder};
@@ -73,6 +74,10 @@ fn unpack_to_disk<H: Host>(
         others.packages.items others.yields) (H.state host.old) (H.state host.new) u.unwinding) }
     ensures touched { IfOk result (λ u. IsTouched incoming.name administration.old.database.records
         administration.new.database.records u.touched) }
+    ensures alone { IfOk result (λ u. (u.alone ≡ true) ↔ AreSameBeside incoming.name
+        administration.old.lists.lists administration.new.lists.lists) }
+    ensures places { OnOk result (take (length administration.old.places)
+        administration.new.places ≡ administration.old.places) }
     ensures order { IfOk result (λ u. Needs (H.state host.new)
         (IsInOrder administration.new.database administration.new.lists.lists)) }
     ensures open { OnOk result (CanWrite administration.new) }
@@ -115,6 +120,10 @@ pub(crate) fn unpack_beside<H: Host>(
         (H.state host.new) told.old.items told.new.items) }
     ensures touched { IfOk result (λ u. IsTouched incoming.name administration.old.database.records
         administration.new.database.records u.touched) }
+    ensures alone { IfOk result (λ u. (u.alone ≡ true) ↔ AreSameBeside incoming.name
+        administration.old.lists.lists administration.new.lists.lists) }
+    ensures places { OnOk result (take (length administration.old.places)
+        administration.new.places ≡ administration.old.places) }
     ensures order { IfOk result (λ u. Needs (H.state host.new)
         (IsInOrder administration.new.database administration.new.lists.lists)) }
     ensures open { OnOk result (CanWrite administration.new) }

@@ -1,5 +1,5 @@
 -- What was stopped is brought to the disk.
-use Rattle.std.specs.Prelude.{◌≡◌, ◌↔◌, ◌⊎◌, Bool, true, false, List, [], ◌∷◌, ◌++◌, None, Some, IsSome, IsTrue, Result, Ok, Err, not}
+use Rattle.std.specs.Prelude.{◌≡◌, ◌↔◌, ◌⊎◌, Bool, true, false, List, [], ◌∷◌, ◌++◌, Option, None, Some, IsSome, IsTrue, Result, Ok, Err, not}
 use Rattle.std.proofs.Common.{inl, inr, refl, sym, ap, subst, ◌∙◌, append_assoc}
 use Rattle.std.proofs.lemmas.Result.{IfOk-from_err}
 use Rattle.std.proofs.lemmas.Bool.{true≢false, false≢true}
@@ -17,12 +17,12 @@ use Rattle.administration.specs.Places.{tmp_path, updates_path}
 use Rattle.administration.specs.declared.fault.AdministrationFault.{AdministrationFault}
 use Rattle.administration.specs.declared.fault.AdministrationFault.TheVariants as administration
 use Rattle.administration.specs.declared.fault.AdministrationFault.TheVariants.{Damaged}
-use Rattle.opening.specs.Leaving.{IsOpeningOrMerging}
-use Rattle.opening.specs.Parts.{IsDamage, IsDamaged, OpensAndMerges, parts}
+use Rattle.info_format.specs.Stage.{AreDamaged, AreDone, IsNaming}
+use Rattle.opening.specs.Leaving.{IsOpeningOrMerging, IsReading}
+use Rattle.opening.specs.Parts.{IsDamaged, OpensAndMerges, ReadsAndMerges}
 use Rattle.opening.specs.Stopped.{AreIdle, BeginsOnDisk, BeginsOnDiskIfAtAll, IsBrought, WasStopped}
-use Rattle.opening.proofs.Merging.{opens_failed}
-use Rattle.opening.proofs.Openings.{opening_same, opens_read}
-use Rattle.host_core.proofs.Moments.{since_reads, since_sync_root, since_then, since_weaker, since_weaker_if}
+use Rattle.opening.proofs.Openings.{opening_same}
+use Rattle.host_core.proofs.Moments.{since_now, since_reads, since_sync_root, since_then, since_weaker, since_weaker_if}
 use Rattle.std.specs.Result.{IsErr}
 
 fails_idle : (fs : List Event) → AllFailed fs → AreIdle fs
@@ -98,7 +98,7 @@ moments_synced result a b c reads does = since_then (λ so_far now. now ≡ a.wo
 
 -- where that is all
 pub as_before : (a b : State) → Since (λ so_far now. now ≡ a.world) a b → Since (λ so_far. IsOpeningOrMerging a.world) a b
-as_before a b since = since_weaker (λ so_far now. now ≡ a.world) (λ so_far. IsOpeningOrMerging a.world) a b (λ so_far w same. IsOpeningOrMerging.opening (opening_same a.world w same)) since
+as_before a b since = since_weaker (λ so_far now. now ≡ a.world) (λ so_far. IsOpeningOrMerging a.world) a b (λ so_far w same. record { begun = a.world; names = inl refl; reading = IsReading.opening (opening_same a.world w same) }) since
 
 -- and where the opening comes behind it
 pub moments_opened : (a b c : State) → (IsTrue b.honest → b.world ≡ a.world) → Falls b c → Since (λ so_far now. now ≡ a.world) a b → Since (λ so_far. IsOpeningOrMerging b.world) b c → Since (λ so_far. IsOpeningOrMerging a.world) a c
@@ -107,14 +107,30 @@ moments_opened a b c same falls first second = since_then (λ so_far. IsOpeningO
 
 -- what was opened
 
-undamaged : (w : World) (fault : AdministrationFault) → (IsDamaged (Some fault) → ⊥) → IsDamage parts w fault
+undamaged : (w : World) (fault : AdministrationFault) → (IsDamaged (Some fault) → ⊥) → AreDamaged w fault
 undamaged w (Damaged file line) sound = absurd (sound tt)
 undamaged w administration.Device sound = tt
 undamaged w administration.NoMemory sound = tt
 undamaged w administration.Declined sound = tt
 
 pub opens_unbrought : (fault : AdministrationFault) (u v : World) → v ≡ u → (IsDamaged (Some fault) → ⊥) → OpensAndMerges (Some fault) u v
-opens_unbrought fault u v same sound = opens_failed fault u v (opens_read parts (Some fault) u v same (undamaged u fault sound))
+opens_unbrought fault u v same sound = record { begun = v; first = Some fault; names = (inl same, undamaged u fault sound); goes = (refl, refl) }
 
 pub later_of : (P : List Event → World → Type 0) (b c : State) → Since P b c → IsLater b c
 later_of P b c since = since_weaker P (λ so_far w. Unit {0}) b c (λ so_far w is. tt) since
+
+-- names are brought to format 0 first
+
+pub opens_named : (fault : Option AdministrationFault) (u v w : World) → AreDone u v → ReadsAndMerges fault v w → OpensAndMerges fault u w
+opens_named fault u v w done reads = record { begun = v; first = None; names = done; goes = reads }
+
+pub opens_unnamed : (fault : AdministrationFault) (u v : World) → IsNaming u v → AreDamaged u fault → OpensAndMerges (Some fault) u v
+opens_unnamed fault u v naming damaged = record { begun = v; first = Some fault; names = (naming, damaged); goes = (refl, refl) }
+
+pub moments_naming : (a b : State) → Since (λ so_far. IsNaming a.world) a b → Since (λ so_far. IsOpeningOrMerging a.world) a b
+moments_naming a b since = since_weaker (λ so_far. IsNaming a.world) (λ so_far. IsOpeningOrMerging a.world) a b (λ so_far w is. record { begun = w; names = is; reading = IsReading.opening (opening_same w w refl) }) since
+
+pub moments_named : (a b c : State) → Falls b c → Since (λ so_far. IsNaming a.world) a b → Since (λ so_far. IsReading b.world) b c → Since (λ so_far. IsOpeningOrMerging a.world) a c
+moments_named a b c falls first second =
+    since_then (λ so_far. IsOpeningOrMerging a.world) a b c (moments_naming a b first)
+    (since_weaker_if (λ so_far. IsReading b.world) (λ so_far. IsOpeningOrMerging a.world) b c (λ h so_far w is. record { begun = b.world; names = since_now (λ so_far. IsNaming a.world) a b first (falls h); reading = is }) second)

@@ -19,7 +19,7 @@ use Rattle.host_core.specs.World.{World}
 use Rattle.host_core.proofs.Moments.{since_now, since_reads, since_then, since_weaker_if}
 use Rattle.opening.specs.Followed.{AreWhole, IsFollowed, named_paths}
 use Rattle.opening.specs.Opened.{IsOpened}
-use Rattle.opening.specs.Parts.{HasMerged, IsDamaged, Merges, Opens, OpensAndMerges, fault_in, parts}
+use Rattle.opening.specs.Parts.{GoesOn, HasMerged, IsDamaged, Merges, Opens, OpensAndMerges, ReadsAndMerges, fault_in, parts}
 use Rattle.opening.specs.Stopped.{BeginsOnDisk, IsBrought}
 use Rattle.opening.specs.declared.open.Opened.{Opened as AnOpened}
 use Rattle.opening.proofs.Brought.{brought_then}
@@ -60,14 +60,18 @@ stays_followed honest w lists old new more h is =
 -- behind an opening
 
 pub opens_looked : {T : Type 0} (result : Result T AdministrationFault) (u v w : World) → OpensAndMerges None u v → w ≡ v → (IsDamaged (fault_in result) → ⊥) → OpensAndMerges (fault_in result) u w
-opens_looked result u v w opens same sound = by opens.found opens.opens opens.merges
+opens_looked result u v w all same sound = record { begun = all.begun; first = all.first; names = all.names; goes = going all.first all.goes }
   where
-    merged : HasMerged None opens.read v → HasMerged (fault_in result) opens.read w
-    merged has = record { sound = sound; table = has.table; records = has.records; merging = subst (IsMerging has.table opens.read) (sym same) has.merging }
+    merged : (read : World) → HasMerged None read v → HasMerged (fault_in result) read w
+    merged read has = record { sound = sound; table = has.table; records = has.records; merging = subst (IsMerging has.table read) (sym same) has.merging }
 
-    by : (found : Option AdministrationFault) → Opens parts found u opens.read → Merges found None opens.read v → OpensAndMerges (fault_in result) u w
-    by None goes merges = record { read = opens.read; found = None; opens = goes; merges = merged merges }
-    by (Some f) goes merges = absurd (let e : None ≡ Some f = merges.0 in cc)
+    by : (begun read : World) (found : Option AdministrationFault) → Opens parts found begun read → Merges found None read v → ReadsAndMerges (fault_in result) begun w
+    by begun read None goes merges = record { read = read; found = None; opens = goes; merges = merged read merges }
+    by begun read (Some f) goes merges = absurd (let e : None ≡ Some f = merges.0 in cc)
+
+    going : (first : Option AdministrationFault) → GoesOn first None all.begun v → GoesOn first (fault_in result) all.begun w
+    going None reads = by all.begun reads.read reads.found reads.opens reads.merges
+    going (Some f) goes = absurd (let e : None ≡ Some f = goes.0 in cc)
 
 pub moments_looked : (P : World → Type 0) (a b c : State) → Since (λ so_far. P) a b → Reads b c → Since (λ so_far. P) a c
 moments_looked P a b c first reads =

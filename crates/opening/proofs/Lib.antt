@@ -4,7 +4,7 @@ pub mod OneTable
 mod Faultless
 mod OneDiversions
 pub mod Merging
-mod Reopened
+pub mod Reopened
 pub mod Brought
 pub mod KeptLists
 pub mod Followed

@@ -14,9 +14,9 @@ use Rattle.file_lists.specs.declared.paths.PackageList.{PackageList}
 use Rattle.status_db.specs.Held.{HasRecords}
 use Rattle.status_db.specs.Noting.{AreNoted, IsMerging}
 use Rattle.status_records.specs.declared.record.Record.{Record}
-use Rattle.opening.specs.Leaving.{IsOpening, IsOpeningOrMerging}
+use Rattle.opening.specs.Leaving.{IsOpening, IsReading}
 use Rattle.opening.specs.Opened.{IsFound, IsListed}
-use Rattle.opening.specs.Parts.{IsDamaged, Opens, OpensAndMerges, names_of, parts}
+use Rattle.opening.specs.Parts.{IsDamaged, Opens, ReadsAndMerges, names_of, parts}
 use Rattle.opening.proofs.KeptLists.{has_lists_kept}
 
 -- what was found stays so, and no note stands any more
@@ -43,10 +43,10 @@ found_noted records notes lists entries u v found noted = record {
 
 -- of all that was done
 
-pub opens_failed : (fault : AdministrationFault) (u v : World) → Opens parts (Some fault) u v → OpensAndMerges (Some fault) u v
+pub opens_failed : (fault : AdministrationFault) (u v : World) → Opens parts (Some fault) u v → ReadsAndMerges (Some fault) u v
 opens_failed fault u v opens = record { read = v; found = Some fault; opens = opens; merges = (refl, refl) }
 
-pub opens_merged : (fault : Option AdministrationFault) (table : List Record) (u v w : World) → Opens parts None u v → HasRecords v table → (IsDamaged fault → ⊥) → IsMerging table v w → OpensAndMerges fault u w
+pub opens_merged : (fault : Option AdministrationFault) (table : List Record) (u v w : World) → Opens parts None u v → HasRecords v table → (IsDamaged fault → ⊥) → IsMerging table v w → ReadsAndMerges fault u w
 opens_merged fault table u v w opens records sound merging = record {
   read = v;
   found = None;
@@ -54,10 +54,10 @@ opens_merged fault table u v w opens records sound merging = record {
   merges = record { sound = sound; table = table; records = records; merging = merging };
 }
 
-pub moments_opening : (a b : State) → Since (λ so_far. IsOpening a.world) a b → Since (λ so_far. IsOpeningOrMerging a.world) a b
-moments_opening a b since = since_weaker (λ so_far. IsOpening a.world) (λ so_far. IsOpeningOrMerging a.world) a b (λ so_far w is. IsOpeningOrMerging.opening is) since
+pub moments_opening : (a b : State) → Since (λ so_far. IsOpening a.world) a b → Since (λ so_far. IsReading a.world) a b
+moments_opening a b since = since_weaker (λ so_far. IsOpening a.world) (λ so_far. IsReading a.world) a b (λ so_far w is. IsReading.opening is) since
 
-pub moments_merging : (table : List Record) (a b c : State) → Since (λ so_far. IsOpening a.world) a b → (IsTrue b.honest → HasRecords b.world table) → Falls b c → Since (λ so_far. IsMerging table b.world) b c → Since (λ so_far. IsOpeningOrMerging a.world) a c
-moments_merging table a b c first records falls second = since_then (λ so_far. IsOpeningOrMerging a.world) a b c (moments_opening a b first)
-    (since_weaker_if (λ so_far. IsMerging table b.world) (λ so_far. IsOpeningOrMerging a.world) b c (λ h so_far w merging.
-    IsOpeningOrMerging.merging b.world table (since_now (λ so_far. IsOpening a.world) a b first (falls h)) (records (falls h)) merging) second)
+pub moments_merging : (table : List Record) (a b c : State) → Since (λ so_far. IsOpening a.world) a b → (IsTrue b.honest → HasRecords b.world table) → Falls b c → Since (λ so_far. IsMerging table b.world) b c → Since (λ so_far. IsReading a.world) a c
+moments_merging table a b c first records falls second = since_then (λ so_far. IsReading a.world) a b c (moments_opening a b first)
+    (since_weaker_if (λ so_far. IsMerging table b.world) (λ so_far. IsReading a.world) b c (λ h so_far w merging.
+    IsReading.merging b.world table (since_now (λ so_far. IsOpening a.world) a b first (falls h)) (records (falls h)) merging) second)

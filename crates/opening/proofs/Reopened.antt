@@ -1,21 +1,28 @@
 -- An opening that was broken off leaves what the next one reads.
-use Rattle.std.proofs.Common.{◌≡◌, inl, inr, ℕ, true, false, List, [], ◌∷◌, ◌++◌, Option, None, refl, sym, subst}
+use Rattle.std.proofs.Common.{◌≡◌, ◌⊎◌, ◌∙◌, inl, inr, ℕ, true, false, codes, drop, List, [], ◌∷◌, ◌++◌, Option, Some, None, refl, sym, ap, subst}
 use Rattle.std.specs.Prelude.{IsSome}
 use Rattle.std.specs.List.{AllByRecursion}
+use Rattle.std.specs.Str.{IsUtf8}
+use Rattle.std.proofs.lemmas.Bool.{false≢true, true≢false}
+use Rattle.std.proofs.lemmas.Str.{IsUtf8-from_ascii}
 use Rattle.std.proofs.Props.{props}
 use Rattle.std.proofs.Math.Logic.{∥∥₁_elim, ∥∥₁_prop}
 use Rattle.host_core.proofs.Nodes.{none_stands}
 use Rattle.host_core.specs.Paths.{Path}
 use Rattle.host_core.specs.World.{World, IsDirectory, IsLoose}
+use Rattle.host_core.specs.Tree.{IsOdd, has_slash}
 use Rattle.host_core.specs.declared.node.Node.{Node}
+use Rattle.host_core.specs.declared.node.Node.TheVariants.{File, Dir, Link}
+use Rattle.texts.proofs.PackageNames.{signs_ascii}
 use Rattle.administration.specs.Directories.{HasBadName}
 use Rattle.administration.specs.Files.{NoDirectory}
 use Rattle.administration.specs.Places.{home_path, info_path, status_path, diversions_path, updates_path, tmp_path, list_path, temporary, is_within}
 use Rattle.administration.specs.declared.fault.AdministrationFault.TheVariants.{Damaged}
+use Rattle.administration.proofs.Within.{below_within, directory_differs}
 use Rattle.administration.proofs.WholeFiles.{no_directory_at, no_directory_none}
 use Rattle.diversions.specs.declared.entry.Diversion.{Diversion}
 use Rattle.diversions.specs.Lines.{HasDiversions, HasEntries, IsDamageAt}
-use Rattle.file_lists.specs.Info.{HasFault, IsInfoDamage, IsSound, entry_path}
+use Rattle.file_lists.specs.Info.{HasFault, IsInfoDamage, IsListOf, IsSound, entry_path}
 use Rattle.file_lists.specs.Lists.{HasLists}
 use Rattle.file_lists.specs.declared.paths.PackageList.{PackageList}
 use Rattle.status_db.specs.Held.{CanOpenRecords, HasRecords, Holds}
@@ -26,7 +33,12 @@ use Rattle.status_records.specs.Status.{IsStatusAt}
 use Rattle.status_records.specs.Status as status
 use Rattle.status_records.specs.declared.record.Record.{Record}
 use Rattle.status_db.proofs.NotedWorlds.{records_same}
-use Rattle.opening.specs.Leaving.{IsOpening, IsOpeningOrMerging, is_way, lib_path, root_path, var_path}
+use Rattle.info_format.specs.Converting.{IsLeft, IsNamed, IsNamesDamage, IsUntold}
+use Rattle.info_format.specs.Format.{format_path, is_one, says_one}
+use Rattle.info_format.specs.Names.{Architectures, AreTwo, architectures, are_ending_signs}
+use Rattle.info_format.specs.Stage.{AreDamaged, AreShort, IsNaming}
+use Rattle.info_format.proofs.Two.{has_dot, short_none}
+use Rattle.opening.specs.Leaving.{IsOpening, IsOpeningOrMerging, IsReading, is_way, lib_path, root_path, var_path}
 use Rattle.opening.specs.Parts.{Part, Root, Way, Records, Spare, Info, Diversions, Leftovers, IsFirstFault, names_of, parts}
 use Rattle.opening.specs.Undamaged.{HasNoFault, IsUndamaged}
 use Rattle.opening.proofs.KeptLists.{has_lists_kept}
@@ -51,22 +63,37 @@ faulty_number_at n file line u v note spare (inr aside) =
 bad_name_at : (directory : Path) (u v : World) → ((name : Path) → IsSome (u (directory ++ 47 ∷ name)) → v (directory ++ 47 ∷ name) ≡ u (directory ++ 47 ∷ name)) → HasBadName u directory → HasBadName v directory
 bad_name_at directory u v same bad = (bad.0, bad.1, bad.2, subst IsSome (sym (same bad.0 bad.3)) bad.3)
 
-notes_damaged_at : (file : Path) (line : ℕ) (u v : World) → IsOpening v u → AreNotesDamaged u file line → AreNotesDamaged v file line
-notes_damaged_at file line u v opening (inl bad) = inl (bad_name_at updates_path u v (λ name is. sym (plain_kept (updates_path ++ 47 ∷ name) v u refl (opening.rest (updates_path ++ 47 ∷ name) refl))) bad.0, bad.1, bad.2)
-notes_damaged_at file line u v opening (inr first) = inr (
-  (λ bad. first.0 (bad_name_at updates_path v u (λ name is. plain_kept (updates_path ++ 47 ∷ name) v u refl (opening.rest (updates_path ++ 47 ∷ name) refl)) bad)),
+-- the records and all that is looked at with them stand as in another world
+record AreAlike (u v : World) : Type 0 where
+  status : v status_path ≡ u status_path
+  note : (n : ℕ) → v (note_path n) ≡ u (note_path n)
+  spare : (n : ℕ) → v (temporary (note_path n)) ≡ u (temporary (note_path n))
+  names : (name : Path) → v (updates_path ++ 47 ∷ name) ≡ u (updates_path ++ 47 ∷ name)
+
+notes_damaged_by : (file : Path) (line : ℕ) (u v : World) → AreAlike u v → AreNotesDamaged u file line → AreNotesDamaged v file line
+notes_damaged_by file line u v alike (inl bad) = inl (bad_name_at updates_path u v (λ name is. alike.names name) bad.0, bad.1, bad.2)
+notes_damaged_by file line u v alike (inr first) = inr (
+  (λ bad. first.0 (bad_name_at updates_path v u (λ name is. sym (alike.names name)) bad)),
   record {
     number = first.1.number;
     within = first.1.within;
-    before = λ n lt. fine_number_at n u v (sym (note_kept n v u opening)) (sym (note_spare_kept n v u opening)) (first.1.before n lt);
-    here = faulty_number_at first.1.number file line u v (sym (note_kept first.1.number v u opening)) (sym (note_spare_kept first.1.number v u opening)) first.1.here;
+    before = λ n lt. fine_number_at n u v (alike.note n) (alike.spare n) (first.1.before n lt);
+    here = faulty_number_at first.1.number file line u v (alike.note first.1.number) (alike.spare first.1.number) first.1.here;
   },
 )
 
+records_damaged_by : (file : Path) (line : ℕ) (u v : World) → AreAlike u v → AreRecordsDamaged u file line → AreRecordsDamaged v file line
+records_damaged_by file line u v alike (inl damaged) = inl (damaged.0, subst (λ (found : Option Node). status.IsDamageAt found line) (sym alike.status) damaged.1)
+records_damaged_by file line u v alike (inr noted) =
+    inr (subst (λ (found : Option Node). ∥ ((base : List Record) × IsStatusAt found base) ∥₁) (sym alike.status) noted.0, notes_damaged_by file line u v alike noted.1)
+
 records_damaged_at : (file : Path) (line : ℕ) (u v : World) → IsOpening v u → AreRecordsDamaged u file line → AreRecordsDamaged v file line
-records_damaged_at file line u v opening (inl damaged) = inl (damaged.0, subst (λ (found : Option Node). status.IsDamageAt found line) (status_kept v u opening) damaged.1)
-records_damaged_at file line u v opening (inr noted) =
-    inr (subst (λ (found : Option Node). ∥ ((base : List Record) × IsStatusAt found base) ∥₁) (status_kept v u opening) noted.0, notes_damaged_at file line u v opening noted.1)
+records_damaged_at file line u v opening damaged = records_damaged_by file line u v (record {
+  status = sym (status_kept v u opening);
+  note = λ n. sym (note_kept n v u opening);
+  spare = λ n. sym (note_spare_kept n v u opening);
+  names = λ name. sym (plain_kept (updates_path ++ 47 ∷ name) v u refl (opening.rest (updates_path ++ 47 ∷ name) refl));
+}) damaged
 
 -- likewise what was wrong in `info`
 info_damaged_at : (names : List (List ℕ)) (file : Path) (line : ℕ) (u v : World) → ((entry : Path) → v (entry_path entry) ≡ u (entry_path entry)) → IsInfoDamage u names (Damaged file line) → IsInfoDamage v names (Damaged file line)
@@ -176,6 +203,7 @@ module _ (u v : World) (opening : IsOpening u v) where
         ),
       ),
     );
+    short = λ entry plain some. whole.short entry plain (subst IsSome (same_outside (entry_path entry) refl refl) some);
     leftovers = λ name plain. no_directory_left (tmp_path ++ 47 ∷ name) refl (whole.leftovers name plain);
   }
 
@@ -255,28 +283,244 @@ module _ (table : List Record) (u v : World) (has : HasRecords u table) (merging
         ),
       ),
     );
+    short = λ entry plain some. whole.short entry plain (subst IsSome (merging.rest (entry_path entry) refl) some);
     leftovers = λ name plain. no_directory_at (v (tmp_path ++ 47 ∷ name)) (u (tmp_path ++ 47 ∷ name)) (merging.rest (tmp_path ++ 47 ∷ name) refl) (whole.leftovers name plain);
   }
 
+-- while names in `info` are brought to format 0
+
+-- the file that tells the format is no list
+no_list : (names : List (List ℕ)) → IsListOf names (codes "format") → ⊥
+no_list names of = true≢false (ap are_ending_signs of.2 ∙ has_dot of.0 (codes "list"))
+
+no_link : (node : Option Node) (target : List ℕ) → says_one node ≡ true → node ≡ Some (Link target) → ⊥
+no_link node target one is = false≢true (ap says_one (sym is) ∙ one)
+
+no_dir : (node : Option Node) → says_one node ≡ true → NoDirectory node
+no_dir node one is = false≢true (ap says_one (sym is.1) ∙ one)
+
+format_sound : (names : List (List ℕ)) (node : Option Node) → says_one node ≡ true → IsSound names (codes "format") node
+format_sound names node one = record {
+  colon = λ some. refl;
+  loose = no_dir node one;
+  list = λ of. absurd (no_list names of);
+  script = λ of link. no_link node link.0 one link.1;
+}
+
+format_text : IsOdd info_path (codes "format") → ⊥
+format_text (inl no_text) = no_text (IsUtf8-from_ascii (codes "format") (signs_ascii (codes "format") refl))
+format_text (inr no_path) = true≢false no_path
+
+nothing_sound : (names : List (List ℕ)) (entry : Path) → IsSound names entry None
+nothing_sound names entry = record {
+  colon = λ some. absurd (false≢true some);
+  loose = no_directory_none;
+  list = λ of. tt;
+  script = λ of link. absurd (let e : None ≡ Some (Link link.0) = link.1 in cc e);
+}
+
+no_fault_of_none : (names : List (List ℕ)) (entry : Path) (line : ℕ) → HasFault names entry None line → ⊥
+no_fault_of_none names entry line (inl (inl colon, zero)) = false≢true colon.0
+no_fault_of_none names entry line (inl (inr (inl directory), zero)) = no_directory_none directory
+no_fault_of_none names entry line (inl (inr (inr link), zero)) = absurd (let e : None ≡ Some (Link link.1.0) = link.1.1 in cc e)
+no_fault_of_none names entry line (inr (whole, of, bad)) = bad
+
+module _ (old begun : World) (naming : IsNaming old begun) where
+  -- what is no entry of the directory stands as before
+  pub named_same : (q : Path) → ((entry : Path) → q ≡ entry_path entry → ⊥) → begun q ≡ old q
+  named_same q other = elim naming [
+    | inl same ↦ ap (λ (w : World). w q) same
+    | inr is ↦ elim (is.2.each q) [
+      | inl same ↦ same
+      | inr (inl untold) ↦ absurd (other (codes "format") untold.0)
+      | inr (inr (inl left)) ↦ absurd (other _ left.1.long_is)
+      | inr (inr (inr given)) ↦ absurd (other _ given.1.1.short_is)
+    ]
+  ]
+
+  -- and an entry too, but what tells of format 1, where no name has an architecture
+  pub named_short : AreShort old → (q : Path) → (begun q ≡ old q) ⊎ IsUntold q old begun
+  named_short short q = elim naming [
+    | inl same ↦ inl (ap (λ (w : World). w q) same)
+    | inr is ↦ elim (is.2.each q) [
+      | inl same ↦ inl same
+      | inr (inl untold) ↦ inr untold
+      | inr (inr (inl left)) ↦ absurd (short_none (architectures is.0) old short q left.0 left.1 left.2.0)
+      | inr (inr (inr given)) ↦ absurd (short_none (architectures is.0) old short given.1.0 q given.1.1 given.1.2.0)
+    ]
+  ]
+
+  pub named_outside : (q : Path) → is_within info_path q ≡ false → begun q ≡ old q
+  named_outside q out = named_same q (λ entry e. true≢false (sym (below_within info_path entry) ∙ ap (is_within info_path) (sym e) ∙ out))
+
+  alike : AreAlike old begun
+  alike = record {
+    status = named_outside status_path refl;
+    note = λ n. named_outside (note_path n) refl;
+    spare = λ n. named_outside (temporary (note_path n)) refl;
+    names = λ name. named_outside (updates_path ++ 47 ∷ name) refl;
+  }
+
+  pub records_named : (table : List Record) → HasRecords old table → HasRecords begun table
+  records_named table has = records_same old begun table alike.status (λ n lt. alike.note n) has
+
+  diverted_named : (entries : List Diversion) → HasDiversions old entries → HasDiversions begun entries
+  diverted_named entries has = subst (λ (found : Option Node). HasEntries found entries) (sym (named_outside diversions_path refl)) has
+
+  module _ (short : AreShort old) where
+    -- what stands stood before
+    pub stood_before : (q : Path) → IsSome (begun q) → begun q ≡ old q
+    stood_before q some = elim (named_short short q) [ inl same ↦ same | inr untold ↦ absurd (none_stands (begun q) untold.2 some) ]
+
+    pub sound_named : (names : List (List ℕ)) (entry : Path) → IsSound names entry (old (entry_path entry)) → IsSound names entry (begun (entry_path entry))
+    sound_named names entry sound = elim (named_short short (entry_path entry)) [
+      | inl same ↦ subst (IsSound names entry) (sym same) sound
+      | inr untold ↦ subst (IsSound names entry) (sym untold.2) (nothing_sound names entry)
+    ]
+
+    sound_before : (names : List (List ℕ)) (entry : Path) → IsSound names entry (begun (entry_path entry)) → IsSound names entry (old (entry_path entry))
+    sound_before names entry sound = elim (named_short short (entry_path entry)) [
+      | inl same ↦ subst (IsSound names entry) same sound
+      | inr untold ↦ subst (λ (e : Path). IsSound names e (old (entry_path e))) (sym (ap (λ (l : Path). drop 19 l) untold.0)) (format_sound names (old format_path) untold.1)
+    ]
+
+    bad_before : HasBadName old info_path → HasBadName begun info_path
+    bad_before (name, plain, odd, some) = elim (named_short short (info_path ++ 47 ∷ name)) [
+      | inl same ↦ (name, plain, odd, subst IsSome (sym same) some)
+      | inr untold ↦ absurd (format_text (subst (IsOdd info_path) (ap (λ (l : Path). drop 19 l) untold.0) odd))
+    ]
+
+    info_before : (names : List (List ℕ)) (file : Path) (line : ℕ) → IsInfoDamage begun names (Damaged file line) → IsInfoDamage old names (Damaged file line)
+    info_before names file line (inl bad) = inl (bad_name_at info_path begun old (λ name some. sym (stood_before (info_path ++ 47 ∷ name) some)) bad.0, bad.1, bad.2)
+    info_before names file line (inr (text, first)) = inr (
+      (λ bad. text (bad_before bad)),
+      record {
+        entry = first.entry;
+        plain = first.plain;
+        is = first.is;
+        fault = elim (named_short short (entry_path first.entry)) [
+          | inl same ↦ subst (λ (found : Option Node). HasFault names first.entry found line) same first.fault
+          | inr untold ↦ absurd (no_fault_of_none names first.entry line (subst (λ (found : Option Node). HasFault names first.entry found line) untold.2 first.fault))
+        ];
+        first = λ lesser plain before. sound_before names lesser (first.first lesser plain before);
+      },
+    )
+
+    lists_named : (names : List (List ℕ)) (lists : List PackageList) → HasLists old names lists → HasLists begun names lists
+    lists_named names lists has = has_lists_kept old begun names lists (λ name known. at name (named_short short (list_path name))) has
+      where
+        at : (name : List ℕ) → (begun (list_path name) ≡ old (list_path name)) ⊎ IsUntold (list_path name) old begun → begun (list_path name) ≡ old (list_path name)
+        at name (inl same) = same
+        at name (inr untold) = absurd (true≢false (ap are_ending_signs (sym (ap (λ (l : Path). drop 19 l) untold.0)) ∙ has_dot name (codes "list")))
+
+  way_named : (path : Path) → begun path ≡ old path → HasNoFault old (Way path) → HasNoFault begun (Way path)
+  way_named path same none file line faulty = none file line (faulty.0, faulty.1, subst IsLoose same faulty.2)
+
+  spare_named : (path : Path) → begun path ≡ old path → HasNoFault old (Spare path) → HasNoFault begun (Spare path)
+  spare_named path same none file line faulty = none file line (faulty.0, faulty.1, subst IsDirectory same faulty.2)
+
+  root_named : HasNoFault old Root → HasNoFault begun Root
+  root_named none file line faulty = none file line (faulty.0, faulty.1, no_directory_at (old root_path) (begun root_path) (sym (named_outside root_path refl)) faulty.2)
+
+  alike_back : AreAlike begun old
+  alike_back = record { status = sym alike.status; note = λ n. sym (alike.note n); spare = λ n. sym (alike.spare n); names = λ name. sym (alike.names name) }
+
+  info_named : AreShort old → HasNoFault old Info → HasNoFault begun Info
+  info_named short none file line faulty = none file line (
+    faulty.0,
+    record { records = records_same begun old faulty.0 alike_back.status (λ n lt. alike_back.note n) faulty.1.records; standing = faulty.1.standing },
+    info_before short (names_of faulty.0) file line faulty.2,
+  )
+
+  diversions_named : HasNoFault old Diversions → HasNoFault begun Diversions
+  diversions_named none file line faulty = none file line (faulty.0, subst (λ (found : Option Node). IsDamageAt found line) (named_outside diversions_path refl) faulty.1)
+
+  left_named : (name : Path) → begun (tmp_path ++ 47 ∷ name) ≡ old (tmp_path ++ 47 ∷ name)
+  left_named name = named_outside (tmp_path ++ 47 ∷ name) refl
+
+  leftovers_named : HasNoFault old Leftovers → IsUndamaged old → HasNoFault begun Leftovers
+  leftovers_named none whole file line (line_zero, inl (is, inl loose)) = none file line (line_zero, inl (is, inl (subst IsLoose (named_outside tmp_path refl) loose)))
+  leftovers_named none whole file line (line_zero, inl (is, inr bad)) = none file line (line_zero, inl (is, inr (bad_name_at tmp_path begun old (λ name some. sym (left_named name)) bad)))
+  leftovers_named none whole file line (line_zero, inr held) = whole.leftovers held.1.0 held.1.2.plain (subst IsDirectory (left_named held.1.0) held.1.2.holds)
+
+  undamaged_named : IsUndamaged old → IsUndamaged begun
+  undamaged_named whole =
+      let all = whole.sound in
+      let behind = all.1.1.1.1.1.1.1 in
+      record {
+        sound = (
+          root_named all.0,
+          (
+            way_named var_path (named_outside var_path refl) all.1.0,
+            (
+              way_named lib_path (named_outside lib_path refl) all.1.1.0,
+              (
+                way_named home_path (named_outside home_path refl) all.1.1.1.0,
+                (
+                  (λ file line faulty. all.1.1.1.1.0 file line (records_damaged_by file line begun old alike_back faulty)),
+                  (
+                    spare_named (temporary status_path) (named_outside (temporary status_path) refl) all.1.1.1.1.1.0,
+                    (
+                      way_named updates_path (named_outside updates_path refl) all.1.1.1.1.1.1.0,
+                      (
+                        way_named info_path (named_same info_path (λ entry e. directory_differs info_path entry e)) behind.0,
+                        (
+                          info_named whole.short behind.1.0,
+                          (
+                            diversions_named behind.1.1.0,
+                            (spare_named (temporary diversions_path) (named_outside (temporary diversions_path) refl) behind.1.1.1.0, (leftovers_named behind.1.1.1.1.0 whole, tt)),
+                          ),
+                        ),
+                      ),
+                    ),
+                  ),
+                ),
+              ),
+            ),
+          ),
+        );
+        short = λ entry plain some. whole.short entry plain (subst IsSome (stood_before whole.short (entry_path entry) some) some);
+        leftovers = λ name plain. no_directory_at (begun (tmp_path ++ 47 ∷ name)) (old (tmp_path ++ 47 ∷ name)) (left_named name) (whole.leftovers name plain);
+      }
+
+-- what has no name with an architecture has no such damage
+pub names_found : (w : World) (file : Path) (line : ℕ) → IsUndamaged w → AreDamaged w (Damaged file line) → ⊥
+names_found w file line whole (table, has, (zero, inl odd)) = short_none (architectures table) w whole.short odd.3.0 odd.3.1 odd.3.2 odd.3.3
+names_found w file line whole (table, has, (zero, inr clash)) = short_none (architectures table) w whole.short file clash.1.0 clash.1.1 clash.1.2
+
 -- an opening, and the merging after it
 
-pub undamaged_stopped : (old now : World) → IsOpeningOrMerging old now → IsUndamaged old → IsUndamaged now
-undamaged_stopped old now (IsOpeningOrMerging.opening is) whole = undamaged_opening old now is whole
-undamaged_stopped old now (IsOpeningOrMerging.merging read table is has merging) whole = undamaged_merging table read now has merging (undamaged_opening old read is whole)
+undamaged_read : (old now : World) → IsReading old now → IsUndamaged old → IsUndamaged now
+undamaged_read old now (IsReading.opening is) whole = undamaged_opening old now is whole
+undamaged_read old now (IsReading.merging read table is has merging) whole = undamaged_merging table read now has merging (undamaged_opening old read is whole)
 
-pub records_stopped : (old now : World) (table : List Record) → IsOpeningOrMerging old now → HasRecords old table → HasRecords now table
-records_stopped old now table (IsOpeningOrMerging.opening is) has = same_records old now is table has
-records_stopped old now table (IsOpeningOrMerging.merging read held is holds merging) has = same_merging held read now holds merging table (same_records old read is table has)
+records_read : (old now : World) (table : List Record) → IsReading old now → HasRecords old table → HasRecords now table
+records_read old now table (IsReading.opening is) has = same_records old now is table has
+records_read old now table (IsReading.merging read held is holds merging) has = same_merging held read now holds merging table (same_records old read is table has)
 
-pub lists_stopped : (old now : World) (names : List (List ℕ)) (lists : List PackageList) → IsOpeningOrMerging old now → HasLists old names lists → HasLists now names lists
-lists_stopped old now names lists (IsOpeningOrMerging.opening is) has = lists_opening old now is names lists has
-lists_stopped old now names lists (IsOpeningOrMerging.merging read held is holds merging) has =
+lists_read : (old now : World) (names : List (List ℕ)) (lists : List PackageList) → IsReading old now → HasLists old names lists → HasLists now names lists
+lists_read old now names lists (IsReading.opening is) has = lists_opening old now is names lists has
+lists_read old now names lists (IsReading.merging read held is holds merging) has =
     has_lists_kept read now names lists (λ name known. merging.rest (list_path name) refl) (lists_opening old read is names lists has)
 
-pub diversions_stopped : (old now : World) (entries : List Diversion) → IsOpeningOrMerging old now → HasDiversions old entries → HasDiversions now entries
-diversions_stopped old now entries (IsOpeningOrMerging.opening is) has = diverted_opening old now is entries has
-diversions_stopped old now entries (IsOpeningOrMerging.merging read held is holds merging) has =
+diversions_read : (old now : World) (entries : List Diversion) → IsReading old now → HasDiversions old entries → HasDiversions now entries
+diversions_read old now entries (IsReading.opening is) has = diverted_opening old now is entries has
+diversions_read old now entries (IsReading.merging read held is holds merging) has =
     subst (λ (found : Option Node). HasEntries found entries) (sym (merging.rest diversions_path refl)) (diverted_opening old read is entries has)
+
+-- with the names before
+
+pub undamaged_stopped : (old now : World) → IsOpeningOrMerging old now → IsUndamaged old → IsUndamaged now
+undamaged_stopped old now is whole = undamaged_read is.begun now is.reading (undamaged_named old is.begun is.names whole)
+
+pub records_stopped : (old now : World) (table : List Record) → IsOpeningOrMerging old now → HasRecords old table → HasRecords now table
+records_stopped old now table is has = records_read is.begun now table is.reading (records_named old is.begun is.names table has)
+
+pub lists_stopped : (old now : World) (names : List (List ℕ)) (lists : List PackageList) → AreShort old → IsOpeningOrMerging old now → HasLists old names lists → HasLists now names lists
+lists_stopped old now names lists short is has = lists_read is.begun now names lists is.reading (lists_named old is.begun is.names short names lists has)
+
+pub diversions_stopped : (old now : World) (entries : List Diversion) → IsOpeningOrMerging old now → HasDiversions old entries → HasDiversions now entries
+diversions_stopped old now entries is has = diversions_read is.begun now entries is.reading (diverted_named old is.begun is.names entries has)
 
 none_first : (among : List Part) (w : World) (file : Path) (line : ℕ) → AllByRecursion (HasNoFault w) among → IsFirstFault among w file line → ⊥
 none_first [] w file line none fault = fault

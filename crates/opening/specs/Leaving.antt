@@ -4,6 +4,7 @@ use Rattle.std.specs.List.{list_any}
 use Rattle.std.specs.Str.{bytes_eq}
 use Rattle.host_core.specs.Paths.{Path}
 use Rattle.host_core.specs.World.{World, IsDirectory}
+use Rattle.info_format.specs.Stage.{IsNaming}
 use Rattle.status_db.specs.Noting.{IsMerging}
 use Rattle.status_db.specs.Held.{HasRecords}
 use Rattle.status_records.specs.declared.record.Record.{Record}
@@ -43,6 +44,12 @@ pub record IsOpening (old now : World) : Type 0 where
   pub left : (q : Path) → is_within tmp_path q ≡ true → (now q ≡ old q) ⊎ (now q ≡ None)
 
 -- the same, or all that was opened, and the notes are being merged into the status file, which changes no record
-pub data IsOpeningOrMerging (old now : World) : Type 0 where
-  opening : IsOpening old now → IsOpeningOrMerging old now
-  merging : (read : World) (table : List Record) → IsOpening old read → HasRecords read table → IsMerging table read now → IsOpeningOrMerging old now
+pub data IsReading (old now : World) : Type 0 where
+  opening : IsOpening old now → IsReading old now
+  merging : (read : World) (table : List Record) → IsOpening old read → HasRecords read table → IsMerging table read now → IsReading old now
+
+-- before that names in `info` were brought to format 0, or are being brought
+pub record IsOpeningOrMerging (old now : World) : Type 0 where
+  pub begun : World
+  pub names : IsNaming old begun
+  pub reading : IsReading begun now

@@ -12,6 +12,7 @@ use Rattle.administration.specs.declared.fault.AdministrationFault.TheVariants.{
 use Rattle.diversions.specs.declared.entry.Diversion.{Diversion}
 use Rattle.diversions.specs.Lines.{HasDiversions, IsDiversionsDamage}
 use Rattle.file_lists.specs.Info.{IsInfoDamage, AreSound}
+use Rattle.info_format.specs.Stage.{AreDamaged, AreDone, IsNaming}
 use Rattle.status_records.specs.declared.record.Record.{Record}
 use Rattle.status_records.specs.Records.{standing}
 use Rattle.status_db.specs.NoteDamage.{AreNotesFine, AreRecordsDamaged}
@@ -140,11 +141,28 @@ Merges (Some found) fault read new = (fault ≡ Some found) × (new ≡ read)
 Merges None fault read new = HasMerged fault read new
 
 -- all parts were opened, and after them the notes were merged
-pub record OpensAndMerges (fault : Option AdministrationFault) (old new : World) : Type 0 where
+pub record ReadsAndMerges (fault : Option AdministrationFault) (old new : World) : Type 0 where
   pub read : World
   pub found : Option AdministrationFault
   pub opens : Opens parts found old read
   pub merges : Merges found fault read new
+
+-- what bringing names in `info` to format 0 came to
+abbrev pub HasNames : Option AdministrationFault → World → World → Type 0
+HasNames None old new = AreDone old new
+HasNames (Some fault) old new = IsNaming old new × AreDamaged old fault
+
+-- what was told of it is told, and nothing else was done; else all parts were opened
+abbrev pub GoesOn : Option AdministrationFault → Option AdministrationFault → World → World → Type 0
+GoesOn (Some first) fault begun new = (fault ≡ Some first) × (new ≡ begun)
+GoesOn None fault begun new = ReadsAndMerges fault begun new
+
+-- names in `info` were brought to format 0, then all parts were opened, and after them the notes were merged
+pub record OpensAndMerges (fault : Option AdministrationFault) (old new : World) : Type 0 where
+  pub begun : World
+  pub first : Option AdministrationFault
+  pub names : HasNames first old begun
+  pub goes : GoesOn first fault begun new
 
 -- a fault of the records, as one of the administration; closed ones are never merged
 abbrev pub told : RecordFault → AdministrationFault

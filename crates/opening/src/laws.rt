@@ -8,6 +8,8 @@ ghost use Rattle.diversions.specs.Lines.{HasDiversions};
 ghost use Rattle.diversions.specs.declared.entry.Diversion.{Diversion};
 ghost use Rattle.file_lists.specs.Lists.{HasLists};
 ghost use Rattle.file_lists.specs.declared.paths.PackageList.{PackageList};
+ghost use Rattle.administration.specs.declared.fault.AdministrationFault.TheVariants.{Damaged};
+ghost use Rattle.info_format.specs.Stage.{AreDamaged, AreShort};
 ghost use Rattle.opening.specs.Leaving.{IsOpeningOrMerging};
 ghost use Rattle.opening.specs.Parts.{parts, IsFine, IsFirstFault};
 ghost use Rattle.opening.specs.Undamaged.{IsUndamaged};
@@ -24,7 +26,8 @@ pub fn what_is_fine_has_no_fault()
 {}
 
 /// An opening of an administration that isn't damaged changes none of its records, lists and
-/// diversions, wherever it is broken off, and the next opening finds no damage.
+/// diversions, wherever it is broken off, and the next opening finds no damage. Of lists this is said
+/// where no name in `info/` has an architecture: those that have one get their lists at other names.
 pub fn a_stopped_opening_can_be_opened()
     ensures undamaged { (old now : World)
         → IsOpeningOrMerging old now
@@ -34,11 +37,16 @@ pub fn a_stopped_opening_can_be_opened()
         → IsUndamaged w
         → IsFirstFault parts w file line
         → ⊥ }
+    ensures no_names_fault { (w : World) (file : Path) (line : ℕ)
+        → IsUndamaged w
+        → AreDamaged w (Damaged file line)
+        → ⊥ }
     ensures records { (old now : World) (table : List Record)
         → IsOpeningOrMerging old now
         → HasRecords old table
         → HasRecords now table }
     ensures lists { (old now : World) (names : List (List ℕ)) (lists : List PackageList)
+        → AreShort old
         → IsOpeningOrMerging old now
         → HasLists old names lists
         → HasLists now names lists }

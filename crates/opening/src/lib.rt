@@ -3,11 +3,12 @@
 //!
 //! # What is proved
 //!
-//! `open_administration` reads the administration part by part: the records, lists and diversions
+//! `open_administration` brings names in `info/` with an architecture to those without
+//! (info_format), and then reads the administration part by part: the records, lists and diversions
 //! of an administration all of whose parts can be read (`opened`), or the fault of the first part
 //! that can't (`opens`), and there is none where all can (`what_is_fine_has_no_fault`); at each
-//! moment of it, whatever the answer, nothing has changed but that missing directories of the
-//! administration were made and that some of what was left in `tmp.ci` is gone (`any_moment`),
+//! moment of it, whatever the answer, nothing has changed but such names, that missing directories
+//! of the administration were made and that some of what was left in `tmp.ci` is gone (`any_moment`),
 //! which stays where damage is told; the directories that were made have mode 755 in the end unless
 //! the device failed (`opens`). Where notes stand or `tmp.ci`, so that a command was stopped, the
 //! whole root is brought to the disk before any other step (`brought`).
@@ -15,6 +16,9 @@
 //! `open_followed` reads the aliases of the root behind that: each listed path, each path of a
 //! diversion and those in the usual directories are followed to where they lead in the world
 //! (`followed`, specs/Followed). It only looks.
+//!
+//! Where no name has an architecture no record, list or diversion is another behind an opening,
+//! wherever it is broken off, and the next one finds no damage (`a_stopped_opening_can_be_opened`).
 #![tactic(auto)]
 
 mod following;

@@ -9,8 +9,8 @@ ghost use Rattle.administration.specs.Files.{NoDirectory};
 ghost use Rattle.administration.specs.Places.{diversions_path, home_path, status_path, temporary, updates_path, info_path, tmp_path};
 ghost use Rattle.administration.specs.declared.fault.AdministrationFault.TheVariants.{Damaged};
 ghost use Rattle.diversions.specs.Lines.{HasDiversions};
-ghost use Rattle.opening.specs.Leaving.{is_way, IsOpening, IsOpeningOrMerging, var_path, lib_path};
-ghost use Rattle.opening.specs.Parts.{Root, Way, IsDamaged, IsTable, Opens, OpensAndMerges, fault_in, told, Spare, Info, names_of, Diversions as ItsDiversions, Leftovers, parts};
+ghost use Rattle.opening.specs.Leaving.{is_way, IsOpening, IsOpeningOrMerging, IsReading, var_path, lib_path};
+ghost use Rattle.opening.specs.Parts.{Root, Way, IsDamaged, IsTable, Opens, OpensAndMerges, ReadsAndMerges, fault_in, told, Spare, Info, names_of, Diversions as ItsDiversions, Leftovers, parts};
 ghost use Rattle.status_db.specs.Noting.{AreNoted, IsMerging};
 ghost use Rattle.status_db.specs.Held.{IsKept};
 ghost use Rattle.opening.specs.Opened.{IsFound, IsListed, IsOpened};
@@ -24,6 +24,7 @@ use administration::{
 use diversions::Diversions;
 use file_lists::FileLists;
 use host_core::{Host, HostFault, RootPath};
+use info_format::bring_names;
 use status_db::{NotedDatabase, RecordFault};
 use status_records::Record;
 use std::alloc::{AllocError, Global};
@@ -469,6 +470,29 @@ fn settle_notes<H: Host>(
 // Opens the administration, and merges the notes into the status file after all else was found fine.
 fn open_brought<H: Host>(alloc: Global, host: &mut H) -> Result<Opened, AdministrationFault>
     ensures opens { IsTrue (H.state host.new).honest
+        → ReadsAndMerges (fault_in result) (H.state host.old).world (H.state host.new).world }
+    ensures opened { Gives result
+        (λ opened old new. IsOpened opened.database.records opened.lists.lists
+        opened.diversions.ways.entries new)
+        (H.state host.old) (H.state host.new) }
+    ensures number { IfOk result (λ opened. opened.database.notes ≡ 0) }
+    ensures open { IfOk result (λ opened. opened.database.closed ≡ false) }
+    ensures listing { IfOk result (λ opened. opened.lists.closed ≡ false) }
+    ensures writable { IfOk result (λ opened. opened.diversions.closed ≡ false) }
+    ensures bare { IfOk result (λ opened. opened.diversions.ways.aliases ≡ []) }
+    ensures any_moment { AtEachMoment IsReading (H.state host.old) (H.state host.new) }
+    ensures silent { Silent (H.state host.old) (H.state host.new) }
+    ensures counts { CountsAdministration (H.state host.old) (H.state host.new) result }
+{
+    match read_administration(alloc, host) {
+        Ok(opened) => settle_notes(alloc, host, opened),
+        Err(fault) => Err(fault),
+    }
+}
+
+// The same, behind the names in `info/`, which are brought to format 0.
+fn open_named<H: Host>(alloc: Global, host: &mut H) -> Result<Opened, AdministrationFault>
+    ensures opens { IsTrue (H.state host.new).honest
         → OpensAndMerges (fault_in result) (H.state host.old).world (H.state host.new).world }
     ensures opened { Gives result
         (λ opened old new. IsOpened opened.database.records opened.lists.lists
@@ -483,15 +507,15 @@ fn open_brought<H: Host>(alloc: Global, host: &mut H) -> Result<Opened, Administ
     ensures silent { Silent (H.state host.old) (H.state host.new) }
     ensures counts { CountsAdministration (H.state host.old) (H.state host.new) result }
 {
-    match read_administration(alloc, host) {
-        Ok(opened) => settle_notes(alloc, host, opened),
+    match bring_names(alloc, host) {
+        Ok(()) => open_brought(alloc, host),
         Err(fault) => Err(fault),
     }
 }
 
 /// Opens the administration below `/var/lib/dpkg`, and merges the notes into the status file after all
-/// else was found fine. What a command that was stopped has left is brought to the disk before. A fault is that of the first
-/// part that can't be read; what opening changes is told by `opens`, whatever the answer.
+/// else was found fine. What a command that was stopped has left is brought to the disk before, and then names in `info/` to
+/// format 0. A fault is that of the first part that can't be read; what opening changes is told by `opens`, whatever the answer.
 pub fn open_administration<H: Host>(
     alloc: Global,
     host: &mut H,
@@ -513,7 +537,7 @@ pub fn open_administration<H: Host>(
     ensures brought { AfterAStop (IsBrought result) (H.state host.old) (H.state host.new) }
 {
     match bring_to_disk(alloc, host) {
-        Ok(()) => open_brought(alloc, host),
+        Ok(()) => open_named(alloc, host),
         Err(fault) => Err(fault),
     }
 }

@@ -1,11 +1,11 @@
 -- The notes are merged at the end of a command, and the status file alone stands for the records.
-use Rattle.std.proofs.Common.{◌≡◌, ◌<◌, ◌∙◌, ℕ, zero, suc, List, Option, None, arith, subst, sym, refl}
+use Rattle.std.proofs.Common.{◌≡◌, ◌<◌, ◌∙◌, inl, ℕ, zero, suc, List, Option, None, arith, subst, sym, refl}
 use Rattle.std.proofs.Math.Logic.{∥∥₁_map}
 use Rattle.host_core.proofs.Moments.{since_weaker_if}
 use Rattle.host_core.specs.Host.{AtEachMoment, State}
 use Rattle.host_core.specs.World.{World}
 use Rattle.administration.specs.Places.{status_path}
-use Rattle.opening.specs.Leaving.{IsOpeningOrMerging}
+use Rattle.opening.specs.Leaving.{IsReading}
 use Rattle.status_db.specs.Held.{AreKept, Holds, IsTableOf}
 use Rattle.status_db.specs.Notes.{IsNoteAt, Lookup, Note, entered, limit, note_path, with_notes}
 use Rattle.status_db.specs.Noting.{IsMerging}
@@ -20,7 +20,7 @@ use Rattle.reopening.specs.Opens.{CanBeOpenedAmid, FindsStanding}
 pub merging_ends : KeepsRecords → (h : Held) (s t : State) → FindsStanding h s → AtEachMoment (IsMerging h.records.records) s t → CanBeOpenedAmid s t
 merging_ends keeps h s t finds since = since_weaker_if _ _ s t (λ honest so_far now merging.
     let sound = finds_sound h s finds (since.honest honest) in
-    reopened keeps s.world now (sound_opens h s.world sound) (IsOpeningOrMerging.merging s.world h.records.records (opening_start s.world) sound.order.kept.holds merging)) since
+    reopened keeps s.world now (sound_opens h s.world sound) (record { begun = s.world; names = inl refl; reading = IsReading.merging s.world h.records.records (opening_start s.world) sound.order.kept.holds merging })) since
 
 -- where there are no notes, nothing is said over the status file
 

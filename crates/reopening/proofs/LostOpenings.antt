@@ -208,6 +208,7 @@ module _ (w left : World) (like : IsLike every w left) where
             ),
           ),
         );
+        short = λ entry plain some. whole.short entry plain (some_there (entry_path entry) some);
         leftovers = λ name plain is. whole.leftovers name plain (directory_there (tmp_path ++ 47 ∷ name) is);
       }
 

@@ -8,12 +8,15 @@ use Rattle.host_core.proofs.Moments.{since_weaker_if}
 use Rattle.host_core.specs.Paths.{Path}
 use Rattle.host_core.specs.World.{World, IsDirectory, IsLoose}
 use Rattle.host_core.specs.declared.node.Node.{Node}
+use Rattle.administration.proofs.Within.{directory_differs}
 use Rattle.administration.proofs.WholeFiles.{no_directory_at, no_directory_none}
 use Rattle.administration.specs.Places.{diversions_path, home_path, info_path, status_path, temporary, tmp_path, updates_path, is_within}
 use Rattle.control_members.specs.LaidOut.{IsIncoming, laid_path}
 use Rattle.diversions.specs.Lines.{HasEntries}
 use Rattle.file_lists.specs.Info.{IsSound, entry_path}
-use Rattle.opening.specs.Leaving.{IsOpening, IsOpeningOrMerging, is_way}
+use Rattle.info_format.specs.Stage.{AreShort, IsNaming}
+use Rattle.opening.proofs.Reopened.{named_outside, named_same, records_named, sound_named, stood_before}
+use Rattle.opening.specs.Leaving.{IsOpening, IsOpeningOrMerging, IsReading, is_way}
 use Rattle.opening.specs.Parts.{names_of}
 use Rattle.status_db.proofs.NotedWorlds.{records_same}
 use Rattle.status_db.specs.Held.{CanOpenRecords, HasRecords}
@@ -99,13 +102,54 @@ merging_opens table old now merging keeps opens = record {
   };
 }
 
+-- names in `info` are brought to format 0
+
+module _ (old begun : World) (naming : IsNaming old begun) (opens : CanBeOpened old) where
+  beside : (q : Path) → is_within info_path q ≡ false → begun q ≡ old q
+  beside q out = named_outside old begun naming q out
+
+  short : AreShort old
+  short entry plain some = (opens.readable.sound entry plain).colon some
+
+  naming_opens : CanBeOpened begun
+  naming_opens = record {
+    records = record {
+      unblocked = record {
+        home = subst IsDirectory (sym (beside home_path refl)) opens.records.unblocked.home;
+        updates = subst IsDirectory (sym (beside updates_path refl)) opens.records.unblocked.updates;
+        text = λ bad. opens.records.unblocked.text (bad.0, bad.1, bad.2, subst IsSome (beside (updates_path ++ 47 ∷ bad.0) refl) bad.3);
+        status_spare = no_directory_at (begun (temporary status_path)) (old (temporary status_path)) (beside (temporary status_path) refl) opens.records.unblocked.status_spare;
+        spares = λ n lt. no_directory_at (begun (temporary (note_path n))) (old (temporary (note_path n))) (beside (temporary (note_path n)) refl) (opens.records.unblocked.spares n lt);
+      };
+      table = opens.records.table;
+      records = records_named old begun naming opens.records.table opens.records.records;
+    };
+    info = subst IsDirectory (sym (named_same old begun naming info_path (λ entry e. directory_differs info_path entry e))) opens.info;
+    readable = record {
+      table = opens.readable.table;
+      is_table = record { records = records_named old begun naming opens.readable.table opens.readable.is_table.records; standing = opens.readable.is_table.standing };
+      text = λ bad. opens.readable.text (bad.0, bad.1, bad.2, subst IsSome (stood_before old begun naming short (info_path ++ 47 ∷ bad.0) bad.3) bad.3);
+      sound = λ entry plain. sound_named old begun naming short (names_of opens.readable.table) entry (opens.readable.sound entry plain);
+    };
+    diversions = (opens.diversions.0, subst (λ (n : Option Node). HasEntries n opens.diversions.0) (sym (beside diversions_path refl)) opens.diversions.1);
+    spare = no_directory_at (begun (temporary diversions_path)) (old (temporary diversions_path)) (beside (temporary diversions_path) refl) opens.spare;
+    incoming = record {
+      place = λ loose. opens.incoming.place (subst IsLoose (beside tmp_path refl) loose);
+      named = λ name plain some. opens.incoming.named name plain (subst IsSome (beside (laid_path name) refl) some);
+      loose = λ name plain. no_directory_at (begun (laid_path name)) (old (laid_path name)) (beside (laid_path name) refl) (opens.incoming.loose name plain);
+    };
+  }
+
 pub opening_start : (w : World) → IsOpening w w
 opening_start w = record { rest = λ q out. inl refl; left = λ q within. inl refl }
 
+reading_opens : KeepsRecords → (old now : World) → CanBeOpened old → IsReading old now → CanBeOpened now
+reading_opens keeps old now opens (IsReading.opening is) = opening_opens old now is opens
+reading_opens keeps old now opens (IsReading.merging read table is has merging) =
+    merging_opens table read now merging (λ other found. keeps read now other (record { begun = read; names = inl refl; reading = IsReading.merging read table (opening_start read) has merging }) found) (opening_opens old read is opens)
+
 pub reopened : KeepsRecords → (old now : World) → CanBeOpened old → IsOpeningOrMerging old now → CanBeOpened now
-reopened keeps old now opens (IsOpeningOrMerging.opening is) = opening_opens old now is opens
-reopened keeps old now opens (IsOpeningOrMerging.merging read table is has merging) =
-    merging_opens table read now merging (λ other found. keeps read now other (IsOpeningOrMerging.merging read table (opening_start read) has merging) found) (opening_opens old read is opens)
+reopened keeps old now opens is = reading_opens keeps is.begun now (naming_opens old is.begun is.names opens) is.reading
 
 pub opening_ends : KeepsRecords → (s t : State) → Needs s CanBeOpened → AtEachMoment IsOpeningOrMerging s t → CanBeOpenedAmid s t
 opening_ends keeps s t opens since = since_weaker_if _ _ s t (λ h so_far now is. reopened keeps s.world now (opens (since.honest h)) is) since

@@ -27,3 +27,4 @@ pub mod Planning
 pub mod EndRecords
 pub mod InfoSound
 pub mod RecordsApart
+pub mod Alone

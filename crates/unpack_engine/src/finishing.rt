@@ -1,5 +1,5 @@
 // What follows the rows of a unit, however they ended.
-ghost use Rattle.std.specs.Prelude.{◌≡◌, ◌++◌, true, false, ℕ, List, IfOk, OnOk, Contains, length};
+ghost use Rattle.std.specs.Prelude.{◌≡◌, ◌↔◌, ◌++◌, true, false, ℕ, List, IfOk, OnOk, Contains, length, nat_eq};
 ghost use Rattle.texts.specs.PackageNames.{is_package_name};
 ghost use Rattle.host_core.specs.World.{IsDirectory};
 ghost use Rattle.scattered_losses.specs.Apart.{WorksApart};
@@ -8,6 +8,7 @@ ghost use Rattle.administration.specs.Places.{info_path};
 ghost use Rattle.undo_rows.specs.Transcripts.{Committed};
 ghost use Rattle.control_members.specs.LaidOut.{AreLaidOut};
 ghost use Rattle.control_members.specs.Stored.{IsMembersReady};
+ghost use Rattle.file_lists.specs.Beside.{AreSameBeside};
 ghost use Rattle.file_lists.specs.Info.{AreLoose};
 ghost use Rattle.file_lists.specs.Owners.{AreListPaths};
 ghost use Rattle.file_lists.specs.Writing.{IsListReady};
@@ -39,12 +40,21 @@ use undo_rows::Unwinding;
 use unpack_plan::PlannedCommit;
 use unpack_steps::Rows;
 
-/// How a unit ended: how its rows were unwound, or none where it was committed; and its packages, in
-/// the order of names: the one that was named, and each whose record differs since.
+/// How a unit ended: how its rows were unwound, or none where it was committed; its packages, in
+/// the order of names: the one that was named, and each whose record differs since; and whether the
+/// lists of all packages but the named one are those of before.
 #[derive(Drop)]
 pub struct Unpacked {
     pub unwinding: Option<Unwinding>,
     pub touched: Texts,
+    pub alone: bool,
+}
+
+// The same of a commit.
+#[derive(Drop)]
+struct Finished {
+    touched: Texts,
+    alone: bool,
 }
 
 // Ends a unit whose rows were unwound, and had gone on to the new preinst's or hadn't.
@@ -87,7 +97,7 @@ fn finish_ready<H: Host>(
     diversions: &Diversions,
     committing: Committing,
     others: &[Record],
-) -> Result<Texts, HostFault>
+) -> Result<Finished, HostFault>
     requires noting { database.old.closed ≡ false }
     requires opened { lists.old.closed ≡ false }
     requires named { is_package_name committing.change.name ≡ true }
@@ -103,8 +113,9 @@ fn finish_ready<H: Host>(
     requires members { Needs (H.state host.old) (IsMembersReady committing.change.name) }
     requires kept { Needs (H.state host.old) (IsKept database.old) }
     requires laid { Needs (H.state host.old) (AreLaidOut committing.change.members) }
-    ensures told { IfOk result (AreTold committing.change.name (committing.records.items
-        ++ deconfigured database.new.records others.now)) }
+    ensures told { IfOk result (λ f. AreTold committing.change.name (committing.records.items
+        ++ deconfigured database.new.records others.now) f.touched) }
+    ensures alone { IfOk result (λ f. f.alone ≡ nat_eq (length committing.change.losers) 0) }
     ensures lists { OnOk result (lists.new
         ≡ record lists.old {
           lists = committed_lists
@@ -146,10 +157,14 @@ fn finish_ready<H: Host>(
         records,
     } = committing;
     let noted = records.as_slice();
+    let alone = change.losers.as_slice().is_empty();
     match end_committed(
         alloc, host, database, lists, diversions, &change, new_list, noted,
     ) {
-        Ok(()) => Ok(touched_of(alloc, database, &change.name, noted, others)?),
+        Ok(()) => Ok(Finished {
+            touched: touched_of(alloc, database, &change.name, noted, others)?,
+            alone,
+        }),
         Err(fault) => Err(fault),
     }
 }
@@ -166,7 +181,7 @@ fn finish_committed<H: Host>(
     works: &[Work],
     commit: PlannedCommit,
     others: &[Record],
-) -> Result<Texts, HostFault>
+) -> Result<Finished, HostFault>
     requires noting { database.old.closed ≡ false }
     requires opened { lists.old.closed ≡ false }
     requires named { is_package_name name.now ≡ true }
@@ -179,9 +194,11 @@ fn finish_committed<H: Host>(
     requires loose { Needs (H.state host.old) AreLoose }
     requires kept { Needs (H.state host.old) (IsKept database.old) }
     requires laid { Needs (H.state host.old) (AreLaidOut commit.members) }
-    ensures told { IfOk result (AreTold name.now (records_from name.now yields.now
+    ensures told { IfOk result (λ f. AreTold name.now (records_from name.now yields.now
         diversions.now.ways lists.old.lists works.now commit database.old.records
-        ++ deconfigured database.new.records others.now)) }
+        ++ deconfigured database.new.records others.now) f.touched) }
+    ensures alone { IfOk result (λ f. (f.alone ≡ true)
+        ↔ AreSameBeside name.now lists.old.lists lists.new.lists) }
     ensures lists { OnOk result (lists.new ≡ record lists.old {
       lists = committed_lists (changes_from name.now yields.now diversions.now.ways
           lists.old.lists works.now commit) diversions.now.ways lists.old.lists;
@@ -267,6 +284,8 @@ pub(crate) fn finish<H: Host>(
         lists.old.lists works.now commit database.old.records)
         ++ deconfigured database.new.records rows.now.others.items)
         u.touched) }
+    ensures alone { IfOk result (λ u. (u.alone ≡ true) ↔ AreSameBeside
+        (own_name rows.now.found rows.now.incoming) lists.old.lists lists.new.lists) }
     ensures lists { OnOk result (lists.new
         ≡ record lists.old {
           lists = ended_lists
@@ -332,9 +351,10 @@ pub(crate) fn finish<H: Host>(
             match finish_committed(
                 alloc, host, database, lists, diversions, name, yields, works, commit, others,
             ) {
-                Ok(touched) => Ok(Unpacked {
+                Ok(finished) => Ok(Unpacked {
                     unwinding: None,
-                    touched,
+                    touched: finished.touched,
+                    alone: finished.alone,
                 }),
                 Err(fault) => Err(fault),
             }
@@ -346,6 +366,7 @@ pub(crate) fn finish<H: Host>(
                 Ok(touched) => Ok(Unpacked {
                     unwinding: Some(unwinding),
                     touched,
+                    alone: true,
                 }),
                 Err(fault) => Err(fault),
             }

@@ -10,8 +10,10 @@
 //! the rows run, and the commit follows, or nothing but the end of a list whose package has no
 //! record any more, where its new preinst's row was reached (`unit`: `HasUnpacked`); the failure
 //! that is told is that of the failed row (`cause`); the packages that are told are the one that
-//! was named and each other whose record differs (`touched`); in the end the administration is in
-//! order, and lists are read back as they are held (`order`).
+//! was named and each other whose record differs (`touched`), and it is told whether the lists of all
+//! other packages are those of before (`alone`); in the end the administration is in order, and lists
+//! are read back as they are held (`order`). The places that scripts leave alone begin with those of
+//! before (`places`).
 //!
 //! Where it is broken off, its calls are the first of some that are legal for the plan's rows
 //! (`told`). What is done before a record is noted is on the disk before the places of records

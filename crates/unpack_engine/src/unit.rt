@@ -1,7 +1,8 @@
 // The unit of an unpack.
-ghost use Rattle.std.specs.Prelude.{◌≡◌, ◌++◌, IfOk, IfSome, OnOk};
+ghost use Rattle.std.specs.Prelude.{◌≡◌, ◌↔◌, ◌++◌, IfOk, IfSome, OnOk, length, take, true};
 ghost use Rattle.host_core.specs.Host.{AtEachMomentOf, Counts, Leaves, Needs, Reads, Silent};
 ghost use Rattle.scattered_losses.specs.Apart.{WorksApart};
+ghost use Rattle.file_lists.specs.Beside.{AreSameBeside};
 ghost use Rattle.held_administration.specs.Open.{CanWrite};
 ghost use Rattle.undo_rows.specs.Ended.{IsCauseOf, ended_as};
 ghost use Rattle.undo_rows.specs.Faults.{OnlyIfDeclined};
@@ -49,6 +50,11 @@ fn carry_out<H: Host>(
     ensures touched { IfOk result (λ u. IsTouched
         (own_name plan.rows.found plan.rows.incoming)
         administration.old.database.records administration.new.database.records u.touched) }
+    ensures alone { IfOk result (λ u. (u.alone ≡ true) ↔ AreSameBeside
+        (own_name plan.rows.found plan.rows.incoming)
+        administration.old.lists.lists administration.new.lists.lists) }
+    ensures places { OnOk result (take (length administration.old.places)
+        administration.new.places ≡ administration.old.places) }
     ensures told { HasCalledRows plan.calls.items
         (H.state host.old) (H.state host.new) told.old.items told.new.items }
     ensures kept { Leaves result
@@ -157,6 +163,10 @@ fn plan_and_carry_out<H: Host>(
         (λ one. OnlyIfDeclined one.fall.fault (H.state host.old) (H.state host.new))) }
     ensures touched { IfOk result (λ u. IsTouched incoming.name
         administration.old.database.records administration.new.database.records u.touched) }
+    ensures alone { IfOk result (λ u. (u.alone ≡ true) ↔ AreSameBeside incoming.name
+        administration.old.lists.lists administration.new.lists.lists) }
+    ensures places { OnOk result (take (length administration.old.places)
+        administration.new.places ≡ administration.old.places) }
     ensures told { HasCalled
         (given_from incoming administration.old diversions.now.ways
         others.packages.items others.yields)
@@ -203,7 +213,7 @@ fn index_where_many(
 }
 
 /// Unpacks a package that was checked, with the rows of other packages. The places that scripts
-/// leave alone are left in no particular order: the caller computes them anew.
+/// leave alone are those of before, and then some that were shipped: the caller renews them.
 pub fn unpack<H: Host>(
     host: &mut H,
     administration: &mut Administration,
@@ -231,6 +241,10 @@ pub fn unpack<H: Host>(
         (λ one. OnlyIfDeclined one.fall.fault (H.state host.old) (H.state host.new))) }
     ensures touched { IfOk result (λ u. IsTouched incoming.name
         administration.old.database.records administration.new.database.records u.touched) }
+    ensures alone { IfOk result (λ u. (u.alone ≡ true) ↔ AreSameBeside incoming.name
+        administration.old.lists.lists administration.new.lists.lists) }
+    ensures places { OnOk result (take (length administration.old.places)
+        administration.new.places ≡ administration.old.places) }
     ensures told { HasCalled
         (given_from incoming administration.old diversions.now.ways
         others.packages.items others.yields)

@@ -10,6 +10,7 @@ mod displacing_rows;
 mod diversion_rows;
 mod install_rows;
 mod memory_rows;
+mod name_rows;
 mod query_rows;
 mod rehearsal_rows;
 mod removal_rows;

@@ -15,8 +15,8 @@ use Rattle.std.specs.Prelude.{IfSome}
 use Rattle.dpkg_session.proofs.Denied.{none_denied}
 use Rattle.unit_reports.specs.Units.{CountsCause}
 
-pub unpack_refreshed-requires-clause-open : goal.unpack_refreshed-requires-clause-open
-unpack_refreshed-requires-clause-open g c = record { noting = c.requires.open.noting; listing = c.requires.open.listing }
+pub unpack_refreshed-requires-clause-named : goal.unpack_refreshed-requires-clause-named
+unpack_refreshed-requires-clause-named g c = c.requires.behind.name
 
 pub displace-requires-clause-order : goal.displace-requires-clause-order
 displace-requires-clause-order g c = c.in-Ok.ensures.order

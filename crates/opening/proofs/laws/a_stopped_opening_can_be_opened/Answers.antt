@@ -1,4 +1,4 @@
-use Rattle.opening.proofs.Reopened.{diversions_stopped, lists_stopped, records_stopped, undamaged_found, undamaged_stopped}
+use Rattle.opening.proofs.Reopened.{diversions_stopped, lists_stopped, names_found, records_stopped, undamaged_found, undamaged_stopped}
 use Rattle.opening.proofs.laws.a_stopped_opening_can_be_opened.Goals as goal
 
 pub returns-clause-undamaged : goal.returns-clause-undamaged
@@ -6,6 +6,9 @@ returns-clause-undamaged c = undamaged_stopped
 
 pub returns-clause-no_fault : goal.returns-clause-no_fault
 returns-clause-no_fault c = undamaged_found
+
+pub returns-clause-no_names_fault : goal.returns-clause-no_names_fault
+returns-clause-no_names_fault c = names_found
 
 pub returns-clause-records : goal.returns-clause-records
 returns-clause-records c = records_stopped

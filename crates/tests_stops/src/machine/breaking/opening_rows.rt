@@ -1,5 +1,5 @@
-// The opening of a root whose directories are missing, or that has notes to merge, broken off: the records stay, and the next
-// opening makes what is missing and merges what is noted.
+// The opening of a root whose directories are missing, that has notes to merge, or names with an architecture, broken off: the
+// records stay, and the next opening makes what is missing, merges what is noted and brings the names to those without.
 use super::{
     ALONE, Found, Moment, OPENED, OPENING, Row, SCRIPT, STATUS, decline_each_step,
     fail_at_each_read, fail_at_each_step, lose_at_each_step, stop_at_each_step,
@@ -71,7 +71,60 @@ const NOTED: Row = Row {
     again: ALONE,
 };
 
-const ROWS: &[Row] = &[RECORDS_ALONE, EMPTY, NOTED];
+const SAME: &str =
+    "Package: alpha\nStatus: install ok installed\nVersion: 1.0\nArchitecture: amd64\nMulti-Arch: same\n";
+
+const LIST: &str = "/.\n/opt\n/opt/a\n";
+
+const BROUGHT: &[Found] = &[
+    (
+        "/var/lib/dpkg/info",
+        &["directory: alpha.list alpha.postrm"],
+    ),
+    ("/var/lib/dpkg/info/alpha.list", &[LIST]),
+    ("/var/lib/dpkg/info/alpha.postrm", &[SCRIPT]),
+];
+
+const NAMED: Row = Row {
+    files: &[
+        (STATUS, SAME),
+        ("/var/lib/dpkg/info/alpha:amd64.list", LIST),
+        ("/var/lib/dpkg/info/alpha:amd64.postrm", SCRIPT),
+        ("/var/lib/dpkg/info/format", "1\n"),
+    ],
+    trees: &[],
+    endings: &[],
+    line: OPENING,
+    found: BROUGHT,
+    moments: &[Moment {
+        stands: &[(STATUS, SAME)],
+        again: OPENED,
+    }],
+    left: BROUGHT,
+    again: ALONE,
+};
+
+// What was stopped behind the going of `format`: one of two names went.
+const CLEARED: Row = Row {
+    files: &[
+        (STATUS, SAME),
+        ("/var/lib/dpkg/info/alpha.list", LIST),
+        ("/var/lib/dpkg/info/alpha:amd64.postrm", SCRIPT),
+        ("/var/lib/dpkg/info/alpha.postrm", SCRIPT),
+    ],
+    trees: &[],
+    endings: &[],
+    line: OPENING,
+    found: BROUGHT,
+    moments: &[Moment {
+        stands: &[(STATUS, SAME)],
+        again: OPENED,
+    }],
+    left: BROUGHT,
+    again: ALONE,
+};
+
+const ROWS: &[Row] = &[RECORDS_ALONE, EMPTY, NOTED, NAMED, CLEARED];
 
 #[test]
 fn stops(rt: HostRuntime) -> Result<(), Fail> {

@@ -1,7 +1,8 @@
-use Rattle.std.proofs.Common.{◌≡◌, ◌++◌, List, Option, None, length, nat_le, sym, subst}
+use Rattle.std.proofs.Common.{◌≡◌, ◌↔◌, ◌++◌, true, List, Option, None, length, nat_le, refl, sym, subst}
 use Rattle.undo_rows.specs.Transcripts.{Committed}
 use Rattle.host_core.specs.Paths.{Path}
 use Rattle.host_core.specs.Host.{AtEachMoment, WasDenied}
+use Rattle.file_lists.specs.Beside.{AreSameBeside}
 use Rattle.file_lists.specs.Writing.{IsListReady}
 use Rattle.undo_rows.specs.Ended.{ended_as}
 use Rattle.undo_rows.specs.declared.unwinding.Unwinding.{Unwinding}
@@ -10,6 +11,7 @@ use Rattle.unpack_rows.specs.EndStates.{own_name}
 use Rattle.unpack_engine.specs.Endings.{changes_from, ended_lists, ended_records, ended_table, records_from}
 use Rattle.unpack_engine.specs.Touched.{AreTold, deconfigured}
 use Rattle.unpack_engine.specs.Units.{HasDropped, HasLeft, HasLeftBy, HasLeftUnless, MayDrop, MayLeave, MayLeaveBy}
+use Rattle.unpack_engine.proofs.Alone.{same_here}
 use Rattle.unpack_engine.proofs.Dropping.{dropped_kept, laying_kept}
 use Rattle.unpack_engine.proofs.Ready.{list_ready}
 use Rattle.unpack_engine.proofs.finishing.finish.Goals as goal
@@ -20,10 +22,18 @@ moved P n own y ys u same_name same_yields none has = subst (P own ys) (sym none
 
 pub returns-in-Ok-clause-told : goal.returns-in-Ok-clause-told
 returns-in-Ok-clause-told g c =
-    moved (λ n y u. AreTold n (ended_records (ended_as u) (records_from n y c.args.diversions.now.ways c.args.lists.now.lists c.args.works.now c.args.commit c.args.database.now.records) ++ deconfigured c.finish_committed.new.database.records c.args.rows.now.others.items) c.in-Ok.touched)
+    moved (λ n y u. AreTold n (ended_records (ended_as u) (records_from n y c.args.diversions.now.ways c.args.lists.now.lists c.args.works.now c.args.commit c.args.database.now.records) ++ deconfigured c.finish_committed.new.database.records c.args.rows.now.others.items) c.in-Ok.finished.touched)
     c.name-name.result.now _ c.as_slice-yields.result.now _ c.args.unwinding c.name-name.ensures c.as_slice-yields.ensures c.in-None.is
-    (subst (λ os. AreTold c.name-name.result.now (records_from c.name-name.result.now c.as_slice-yields.result.now c.args.diversions.now.ways c.args.lists.now.lists c.args.works.now c.args.commit c.args.database.now.records ++ deconfigured c.finish_committed.new.database.records os) c.in-Ok.touched)
+    (subst (λ os. AreTold c.name-name.result.now (records_from c.name-name.result.now c.as_slice-yields.result.now c.args.diversions.now.ways c.args.lists.now.lists c.args.works.now c.args.commit c.args.database.now.records ++ deconfigured c.finish_committed.new.database.records os) c.in-Ok.finished.touched)
     c.as_slice-others.ensures.value c.in-Ok.ensures.told)
+
+pub returns-in-Ok-clause-alone : goal.returns-in-Ok-clause-alone
+returns-in-Ok-clause-alone g c =
+    moved (λ n y u. (c.in-Ok.finished.alone ≡ true) ↔ AreSameBeside n c.args.lists.now.lists c.finish_committed.new.lists.lists)
+    c.name-name.result.now _ c.as_slice-yields.result.now _ c.args.unwinding c.name-name.ensures c.as_slice-yields.ensures c.in-None.is c.in-Ok.ensures.alone
+
+pub returns-in-Ok-finish_unwound-clause-alone : goal.returns-in-Ok-finish_unwound-clause-alone
+returns-in-Ok-finish_unwound-clause-alone g c = (λ yes. same_here (own_name c.args.rows.now.found c.args.rows.now.incoming) c.args.lists.now.lists, λ same. refl)
 
 pub returns-in-Ok-clause-lists : goal.returns-in-Ok-clause-lists
 returns-in-Ok-clause-lists g c =

@@ -11,6 +11,7 @@ use Rattle.listed_files.specs.Closing.{SparesAdministration}
 use Rattle.listed_files.specs.Concluding.{AreElsewhere}
 use Rattle.unpack_engine.specs.Endings.{records_from}
 use Rattle.unpack_engine.specs.Units.{HasLeft, HasLeftUnless, MayLeave}
+use Rattle.unpack_engine.proofs.Alone.{alone_committed}
 use Rattle.unpack_engine.proofs.Losing.{loser_named}
 use Rattle.unpack_engine.proofs.Ready.{list_ready, members_ready}
 use Rattle.unpack_engine.proofs.Starts.{leave_start}
@@ -68,6 +69,11 @@ returns-in-Ok-clause-left g c = λ h.
     on_ok c.finish_ready.result (HasLeft made noted ways lists before (length c.args.others.now) Committed old new) _
     (λ left. subst (λ x. HasLeft x (records_from c.args.name.now c.args.yields.now ways lists c.args.works.now c.args.commit before) ways lists before (length c.args.others.now) Committed old new) c.in-Ok.ensures.change
     (subst (λ r. HasLeft made r ways lists before (length c.args.others.now) Committed old new) c.in-Ok.ensures.records left)) (c.finish_ready.ensures.left h)
+
+pub returns-in-Ok-clause-alone : goal.returns-in-Ok-clause-alone
+returns-in-Ok-clause-alone g c =
+    alone_committed c.finish_ready.result (λ f. f.alone) c.args.name.now c.args.yields.now c.args.diversions.now.ways c.args.lists.now c.finish_ready.new.lists c.args.works.now c.args.commit
+    (changes_of c.in-Ok.committing.change c.in-Ok.committing.new_list) c.in-Ok.ensures.change c.finish_ready.ensures.alone c.finish_ready.ensures.lists
 
 pub returns-in-Ok-clause-stays : goal.returns-in-Ok-clause-stays
 returns-in-Ok-clause-stays g c = λ h.

@@ -1,18 +1,22 @@
-use Rattle.std.proofs.Common.{◌≡◌, ◌++◌, List, length, sym, ap, subst, ◌∙◌}
+use Rattle.std.proofs.Common.{◌≡◌, ◌↔◌, ◌++◌, true, List, length, sym, ap, subst, ◌∙◌}
 use Rattle.std.specs.Prelude.{IfSome}
 use Rattle.host_core.specs.Host.{AtEachMoment, WasDenied}
 use Rattle.undo_rows.specs.Ended.{IsCauseOf, ended_as}
 use Rattle.undo_rows.specs.Faults.{OnlyIfDeclined}
+use Rattle.file_lists.specs.Beside.{AreSameBeside}
 use Rattle.status_records.specs.Records.{AreStanding}
 use Rattle.status_db.proofs.Ordered.{order_apart, same_standing}
 use Rattle.package_files.specs.declared.work.Work.{Work}
 use Rattle.held_administration.specs.declared.held.Administration.{Administration}
-use Rattle.unpack_rows.specs.EndStates.{own_name}
+use Rattle.unpack_rows.specs.EndStates.{end_of, own_name}
+use Rattle.unpack_rows.specs.Stages.{stage_of}
 use Rattle.unpack_steps.specs.At.{holding_by}
+use Rattle.unpack_steps.specs.Task.{kinds, task_by}
 use Rattle.unpack_plan.specs.Planned.{planned}
 use Rattle.unpack_engine.specs.Endings.{changes_from, ended_lists, ended_records, ended_table, records_from}
 use Rattle.unpack_engine.specs.Touched.{AreTold, deconfigured}
 use Rattle.unpack_engine.specs.Units.{HasCarriedOut, HasLeft, HasLeftUnless, IsTouched, MayLeave, ground_by}
+use Rattle.unpack_engine.proofs.Alone.{alone_then, places_begin, rows_beside}
 use Rattle.unpack_engine.proofs.Carrying.{carried_out}
 use Rattle.unpack_engine.proofs.Sequel.{called_then, denied_then, if_ok_counted, if_ok_one}
 use Rattle.unpack_engine.proofs.UnitMoments.{plan_begins, plan_moments}
@@ -99,6 +103,22 @@ returns-in-Ok-clause-touched g c =
     (table ∙ ap (λ (x : List Work). ended_table (ended_as c.in-Ok.unwinding) (records_from (own_name c.args.plan.rows.found c.args.plan.rows.incoming) c.args.plan.rows.yields c.args.diversions.now.ways c.begin_and_run.new.administration.lists.lists x c.args.plan.commit c.begin_and_run.new.administration.database.records) c.begin_and_run.new.administration.database.records) c.as_slice-shipped.ensures.value)
     (subst (λ (x : List Work). AreTold (own_name c.args.plan.rows.found c.args.plan.rows.incoming) (ended_records (ended_as c.in-Ok.unwinding) (records_from (own_name c.args.plan.rows.found c.args.plan.rows.incoming) c.args.plan.rows.yields c.args.diversions.now.ways c.begin_and_run.new.administration.lists.lists x c.args.plan.commit c.begin_and_run.new.administration.database.records) ++ deconfigured c.finish.new.database.records c.args.plan.rows.others.items) u.touched) c.as_slice-shipped.ensures.value told))
     c.finish.ensures.told c.finish.ensures.records
+
+pub returns-in-Ok-clause-alone : goal.returns-in-Ok-clause-alone
+returns-in-Ok-clause-alone g c =
+    let own = own_name c.args.plan.rows.found c.args.plan.rows.incoming in
+    let old = c.args.administration.now.lists.lists in
+    let mid = c.begin_and_run.new.administration.lists.lists in
+    let new = c.finish.new.lists.lists in
+    let t = task_by c.in-Ok.ensures.ran.begun c.args.administration.now c.args.diversions.now.ways c.args.plan.works.items c.args.plan.rows in
+    let stage = stage_of (kinds t) (end_of (length c.args.plan.calls.items) (ended_as c.in-Ok.unwinding)) in
+    let first = subst (AreSameBeside own old) (sym c.in-Ok.ensures.ran.rows_end.lists) (rows_beside t stage) in
+    if_ok_one c.finish.result (λ u. (u.alone ≡ true) ↔ AreSameBeside own mid new) (λ u. (u.alone ≡ true) ↔ AreSameBeside own old new) (λ u is. alone_then own old mid new u.alone first is) c.finish.ensures.alone
+
+pub returns-in-Ok-clause-places : goal.returns-in-Ok-clause-places
+returns-in-Ok-clause-places g c =
+    let t = task_by c.in-Ok.ensures.ran.begun c.args.administration.now c.args.diversions.now.ways c.args.plan.works.items c.args.plan.rows in
+    places_begin c.finish.result t (stage_of (kinds t) (end_of (length c.args.plan.calls.items) (ended_as c.in-Ok.unwinding))) c.begin_and_run.new.administration.places c.in-Ok.ensures.ran.rows_end.places
 
 pub returns-in-Ok-clause-open : goal.returns-in-Ok-clause-open
 returns-in-Ok-clause-open g c =

@@ -1,9 +1,10 @@
-use Rattle.std.proofs.Common.{List, refl, subst}
+use Rattle.std.proofs.Common.{◌≡◌, ◌↔◌, true, List, refl, subst}
 use Rattle.std.specs.List.{AllByRecursion}
 use Rattle.std.specs.Str.{IsUtf8}
 use Rattle.std.specs.Prelude.{IfOk, IfSome}
 use Rattle.host_core.specs.Host.{AtEachMomentOf}
 use Rattle.host_core.specs.Paths.{Path}
+use Rattle.file_lists.specs.Beside.{AreSameBeside}
 use Rattle.undo_rows.specs.Ended.{IsCauseOf, ended_as}
 use Rattle.undo_rows.specs.Faults.{OnlyIfDeclined}
 use Rattle.unpack_plan.specs.Planned.{planned}
@@ -67,6 +68,14 @@ returns-in-Ok-clause-touched g c =
     let own = c.in-Ok.ensures.planned.planned.records_are.own in
     if_ok_one c.carry_out.result (λ u. IsTouched (own_name c.in-Ok.plan.rows.found c.in-Ok.plan.rows.incoming) before after u.touched) (λ u. IsTouched c.args.incoming.name before after u.touched)
     (λ u is. subst (λ name. IsTouched name before after u.touched) own is) c.carry_out.ensures.touched
+
+pub returns-in-Ok-clause-alone : goal.returns-in-Ok-clause-alone
+returns-in-Ok-clause-alone g c =
+    let before = c.args.administration.now.lists.lists in
+    let after = c.carry_out.new.administration.lists.lists in
+    let own = c.in-Ok.ensures.planned.planned.records_are.own in
+    if_ok_one c.carry_out.result (λ u. (u.alone ≡ true) ↔ AreSameBeside (own_name c.in-Ok.plan.rows.found c.in-Ok.plan.rows.incoming) before after) (λ u. (u.alone ≡ true) ↔ AreSameBeside c.args.incoming.name before after)
+    (λ u is. subst (λ name. (u.alone ≡ true) ↔ AreSameBeside name before after) own is) c.carry_out.ensures.alone
 
 pub returns-in-Ok-clause-told : goal.returns-in-Ok-clause-told
 returns-in-Ok-clause-told g c =

@@ -1,6 +1,7 @@
-use Rattle.std.proofs.Common.{sym, ap, subst, ◌∙◌}
+use Rattle.std.proofs.Common.{◌≡◌, ◌↔◌, true, sym, ap, subst, ◌∙◌}
 use Rattle.std.specs.Prelude.{IfOk}
 use Rattle.host_core.specs.Host.{AtEachMomentOf, Needs}
+use Rattle.file_lists.specs.Beside.{AreSameBeside}
 use Rattle.file_lists.specs.Filed.{Filed}
 use Rattle.undo_rows.specs.Ended.{ended_as}
 use Rattle.held_administration.specs.Order.{IsInOrder}
@@ -30,6 +31,10 @@ returns-clause-cause g c =
     let new = g.H.Host.state c.plan_and_carry_out.new.host in
     let at = λ (f : Filed). given_beside c.args.incoming c.args.administration.now.database.records f.lists c.args.diversions.now.ways c.args.others.packages.items c.args.others.yields in
     subst (λ (f : Filed). IfOk c.plan_and_carry_out.result (λ u. HasFailedFor (at f) old new u.unwinding)) c.index_where_many.ensures c.plan_and_carry_out.ensures.cause
+
+pub returns-clause-alone : goal.returns-clause-alone
+returns-clause-alone g c =
+    subst (λ (f : Filed). IfOk c.plan_and_carry_out.result (λ u. (u.alone ≡ true) ↔ AreSameBeside c.args.incoming.name f.lists c.plan_and_carry_out.new.administration.lists.lists)) c.index_where_many.ensures c.plan_and_carry_out.ensures.alone
 
 pub returns-clause-told : goal.returns-clause-told
 returns-clause-told g c =

@@ -1,0 +1,41 @@
+-- How `info` is brought from format 1 to format 0.
+use Rattle.std.specs.Prelude.{◌≡◌, ◌⊎◌, true, false, None, IsSome}
+use Rattle.host_core.specs.Paths.{Path}
+use Rattle.host_core.specs.World.{World, IsLoose}
+use Rattle.administration.specs.declared.fault.AdministrationFault.{AdministrationFault}
+use Rattle.administration.specs.declared.fault.AdministrationFault.TheVariants.{Damaged, Device, NoMemory, Declined}
+use Rattle.info_format.specs.Names.{Architectures, AreTwo}
+use Rattle.info_format.specs.Format.{HasLong, IsConvertible, IsNamesFault, format_path, is_one, reads}
+
+-- what told of format 1 went
+abbrev pub IsUntold : Path → World → World → Type 0
+IsUntold q old now = (q ≡ format_path) × (is_one old ≡ true) × (now q ≡ None)
+
+-- a name with the architecture went, where that without it stands
+abbrev pub IsLeft : Architectures → Path → World → World → Type 0
+IsLeft arches q old now = (short : Path) × AreTwo arches q short × IsLoose (old q) × IsLoose (now short) × (now q ≡ None)
+
+-- of format 1: where nothing stood the name without the architecture has what that with it has
+abbrev pub IsNamed : Architectures → Path → World → World → Type 0
+IsNamed arches q old now = (is_one old ≡ true) × ((long : Path) × AreTwo arches long q × IsLoose (old long) × (old q ≡ None) × (now q ≡ old long))
+
+-- At each moment dpkg reads each control file that it read before; nothing else changes than names, and what was convertible is so.
+pub record IsConverting (arches : Architectures) (old now : World) : Type 0 where
+  pub same : (long short : Path) → AreTwo arches long short → IsSome (reads old long short) → reads now long short ≡ reads old long short
+  pub each : (q : Path) → (now q ≡ old q) ⊎ (IsUntold q old now ⊎ (IsLeft arches q old now ⊎ IsNamed arches q old now))
+  pub ready : IsConvertible arches old → IsConvertible arches now
+
+-- In the end it isn't in format 1, in one that isn't known no name has an architecture, and of a control file the name with the
+-- architecture is gone where that without it stands.
+pub record IsConverted (arches : Architectures) (old new : World) : Type 0 where
+  pub converting : IsConverting arches old new
+  pub plain : is_one new ≡ false
+  pub known : IsSome (new format_path) → HasLong arches new → ⊥
+  pub gone : (long short : Path) → AreTwo arches long short → IsLoose (new short) → IsLoose (new long) → ⊥
+
+-- that it couldn't be, told with the path
+abbrev pub IsNamesDamage : Architectures → World → AdministrationFault → Type 0
+IsNamesDamage arches w (Damaged file line) = (line ≡ 0) × IsNamesFault arches w file
+IsNamesDamage arches w Device = Unit {0}
+IsNamesDamage arches w NoMemory = Unit {0}
+IsNamesDamage arches w Declined = Unit {0}
