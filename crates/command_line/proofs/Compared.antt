@@ -23,7 +23,7 @@ compared_on outer inner within begun word owners read (Err why) is with = tt
 -- on a host behind the root's word
 pub has_compared : {Hosts Opened : Type 0} (of : Ghosts Hosts Opened) (old mid new : Hosts) → Within (around of old new) (around of mid new) → (root word : List ℕ) (begun : State) (owners : TreeOwners) (result : Result Answer Unanswered)
     → of.root old root begun → IfOk result (IsComparedOn (around of mid new) begun word owners) → IfOk result (HasComparedUnder (around of old new) root word owners)
-has_compared of old mid new within root word begun owners (Ok answer) behind on = (begun, behind, on.0, read_within (around of old new) (around of mid new) within owners word on.0 on.1, on.2)
+has_compared of old mid new within root word begun owners (Ok answer) behind on = (begun, behind, (on.0, read_within (around of old new) (around of mid new) within owners word on.0 on.1, on.2))
 has_compared of old mid new within root word begun owners (Err why) behind on = tt
 
 -- a tree that couldn't be read
