@@ -8,6 +8,7 @@ mod Helped
 mod Inquired
 mod Turns
 mod Rehearsed
+mod Compared
 mod Verified
 mod ChangedPaths
 pub mod Told

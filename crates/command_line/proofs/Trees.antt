@@ -31,7 +31,7 @@ pub record Within (outer inner : Around) : Type 0 where
   pub seen : (s : State) → inner.seen s → outer.seen s
   pub failed : inner.failed → outer.failed
 
-read_within : (outer inner : Around) → Within outer inner → (owners : TreeOwners) (word : List ℕ) (read : Result Package TreeFault) → IsReadFor inner owners word read → IsReadFor outer owners word read
+pub read_within : (outer inner : Around) → Within outer inner → (owners : TreeOwners) (word : List ℕ) (read : Result Package TreeFault) → IsReadFor inner owners word read → IsReadFor outer owners word read
 read_within outer inner within owners word read (inl r) = inl (record {
   state = r.state;
   behind = within.tree word r.state r.behind;

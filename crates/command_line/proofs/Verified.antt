@@ -24,6 +24,7 @@ use Rattle.command_line.specs.Verifying.{HasVerified, HasVerifiedUnder, IsBegun,
 use Rattle.command_line.specs.declared.answer.Answer.{Answer}
 use Rattle.command_line.specs.declared.shown.Shown.{Ghosts}
 use Rattle.command_line.specs.declared.steady.Unanswered.{Unanswered}
+use Rattle.command_line.specs.declared.verifying.Checking.{Checking}
 use Rattle.command_line.specs.declared.steady.Unanswered.TheVariants.{Unsteady, Fault}
 
 reads_same : (s : State) → Reads s s
@@ -62,7 +63,7 @@ same_fault NoMemory a b counts = counts
 same_fault Declined a b counts = counts
 
 -- A verification on a host of which is known what it showed and answered.
-module _ {W : Type 0} (of : Ghosts W (List (List ℕ))) (state : W → State) (names : List (List ℕ))
+module _ {W : Type 0} (of : Ghosts W Checking) (state : W → State) (names : Checking)
     (shows : (s t : W) (glance : Glance) → of.glanced names s t glance → HasShown true (state s) (state t) glance)
     (misses : (s t : W) (fault : HostFault) → of.missed names s t fault → HasMissed (state s) (state t) fault)
     (answers : (s t : W) (result : Result Answer AdministrationFault) → of.answered names s t result → HasVerified names (state s) (state t) result) where
@@ -215,7 +216,7 @@ module _ {W : Type 0} (of : Ghosts W (List (List ℕ))) (state : W → State) (n
         }
 
 -- that host was the one behind the root's word
-pub has_verified : (a : Around) (word : List ℕ) (begun : State) (names : List (List ℕ)) (result : Result Answer Unanswered) → a.root word begun → IfOk result (IsVerifiedOn a.left begun names) → IfOk result (HasVerifiedUnder a word names)
+pub has_verified : (a : Around) (word : List ℕ) (begun : State) (names : Checking) (result : Result Answer Unanswered) → a.root word begun → IfOk result (IsVerifiedOn a.left begun names) → IfOk result (HasVerifiedUnder a word names)
 has_verified a word begun names (Ok answer) behind on = (begun, behind, on)
 has_verified a word begun names (Err why) behind on = tt
 

@@ -1,17 +1,27 @@
 -- What a verification of packages is answered with.
-use Rattle.std.specs.Prelude.{◌≡◌, ◌≤◌, ◌⊎◌, ℕ, IsTrue, IfErr, IfOk, List, [], ◌∷◌, Result, Err}
+use Rattle.std.specs.Prelude.{◌≡◌, ◌≤◌, ◌⊎◌, ℕ, IsTrue, IfErr, IfOk, List, [], ◌∷◌, Option, Some, None, Result, Ok, Err}
 use Rattle.host_core.specs.Host.{NoFault, Reads, Silent, State}
 use Rattle.administration.specs.declared.fault.AdministrationFault.{AdministrationFault}
 use Rattle.administration.specs.declared.fault.AdministrationFault.TheVariants as opening_faults
 use Rattle.opening.specs.Parts.{IsDamage}
 use Rattle.inquiries.specs.Read.{all_parts}
+use Rattle.package_tree.specs.declared.fault.TreeFault.{TreeFault}
+use Rattle.package_tree.specs.declared.package.Package.{Package}
+use Rattle.unit_reports.specs.declared.refusal.Rule.TheVariants.{Tree}
+use Rattle.unit_reports.specs.declared.report.Reply.TheVariants.{Refused}
+use Rattle.report_lines.specs.Replies.{reply_line}
+use Rattle.verification.specs.Compared.{IsCompared}
 use Rattle.verification.specs.Counting.{CountsVerified}
 use Rattle.verification.specs.Verified.{IsVerified}
+use Rattle.command_words.specs.declared.owners.TreeOwners.{TreeOwners}
 use Rattle.command_words.specs.declared.verifying.Verifying.{Verifying}
 use Rattle.command_line.specs.Queries.{IsLookedAt, unanswered_answer}
+use Rattle.command_line.specs.Reading.{IsReadFor}
 use Rattle.command_line.specs.Roots.{Around, Given}
 use Rattle.command_line.specs.declared.answer.Answer.{Answer}
 use Rattle.command_line.specs.declared.steady.Unanswered.{Unanswered}
+use Rattle.command_line.specs.declared.verifying.Checking.{Checking}
+use Rattle.command_line.specs.declared.verifying.Checking.TheVariants.{Listed, Shipped}
 use Rattle.command_line.specs.declared.steady.Unanswered.TheVariants.{Unsteady, Fault}
 
 -- what is told is printed; where anything is, the status is 1
@@ -19,13 +29,18 @@ abbrev pub verified_answer : List ℕ → Answer
 verified_answer [] = record { output = []; error = []; status = 0 }
 verified_answer (b ∷ rest) = record { output = b ∷ rest; error = []; status = 1 }
 
+-- the text that is told: of packages by what was known of them, or of a tree's package against the tree
+abbrev pub IsChecked : Checking → State → State → List ℕ → Type 0
+IsChecked (Listed names) old new text = IsVerified names old new text
+IsChecked (Shipped p) old new text = IsCompared p old new text
+
 -- the answer from what stood on a host between two moments
-abbrev pub IsVerifiedBetween : List (List ℕ) → State → State → Answer → Type 0
-IsVerifiedBetween names old new answer = (text : List ℕ) × IsVerified names old new text × (answer ≡ verified_answer text)
+abbrev pub IsVerifiedBetween : Checking → State → State → Answer → Type 0
+IsVerifiedBetween asked old new answer = (text : List ℕ) × IsChecked asked old new text × (answer ≡ verified_answer text)
 
 -- a host was only looked at, to verify packages
-pub record HasVerified (names : List (List ℕ)) (old new : State) (result : Result Answer AdministrationFault) : Type 0 where
-  pub answer : IfOk result (IsVerifiedBetween names old new)
+pub record HasVerified (asked : Checking) (old new : State) (result : Result Answer AdministrationFault) : Type 0 where
+  pub answer : IfOk result (IsVerifiedBetween asked old new)
   pub bound : IfOk result (λ answer. answer.status ≤ 2)
   pub damage : IsTrue new.honest → IfErr result (IsDamage all_parts old.world)
   pub reads : Reads old new
@@ -39,7 +54,7 @@ pub record IsBegun (begun from : State) : Type 0 where
 
 -- the answer from a host that was only looked at: what is told of a failed look is told of those between two moments, before which
 -- and behind which the device didn't fail
-pub record IsVerifiedOn (left : Given) (begun : State) (names : List (List ℕ)) (answer : Answer) : Type 0 where
+pub record IsVerifiedOn (left : Given) (begun : State) (asked : Checking) (answer : Answer) : Type 0 where
   pub from : State
   pub to : State
   pub end : State
@@ -48,7 +63,7 @@ pub record IsVerifiedOn (left : Given) (begun : State) (names : List (List ℕ))
   pub between : Reads from to
   pub behind : Reads to end
   pub sound : NoFault to end
-  pub answered : IsVerifiedBetween names from to answer
+  pub answered : IsVerifiedBetween asked from to answer
 
 -- why there is no answer from one
 pub record IsUnverifiedOn (left : Given) (begun : State) (fault : AdministrationFault) : Type 0 where
@@ -70,8 +85,29 @@ IsLeftUnverifiedOn left begun Unsteady = IsNeverVerifiedOn left begun
 IsLeftUnverifiedOn left begun (Fault fault) = IsUnverifiedOn left begun fault
 
 -- the same, on a host behind the root's word
-abbrev pub HasVerifiedUnder : Around → List ℕ → List (List ℕ) → Answer → Type 0
-HasVerifiedUnder a word names answer = (begun : State) × a.root word begun × IsVerifiedOn a.left begun names answer
+abbrev pub HasVerifiedUnder : Around → List ℕ → Checking → Answer → Type 0
+HasVerifiedUnder a word asked answer = (begun : State) × a.root word begun × IsVerifiedOn a.left begun asked answer
+
+-- a tree that can't be read is refused, as where it is to be unpacked
+abbrev pub tree_answer : List ℕ → TreeFault → Answer
+tree_answer word fault = record { output = reply_line (Refused (record { rule = Tree fault; «package» = word })); error = []; status = 1 }
+
+-- the answer by what a tree's word was read as: of a tree that can't be read the host was given back as it was opened
+abbrev pub IsComparedWith : Given → State → List ℕ → Result Package TreeFault → Answer → Type 0
+IsComparedWith left begun word (Ok p) answer = IsVerifiedOn left begun (Shipped p) answer
+IsComparedWith left begun word (Err fault) answer = left begun × (answer ≡ tree_answer word fault)
+
+abbrev pub IsComparedOn : Around → State → List ℕ → TreeOwners → Answer → Type 0
+IsComparedOn a begun word owners answer = (read : Result Package TreeFault) × IsReadFor a owners word read × IsComparedWith a.left begun word read answer
+
+-- the same, on a host behind the root's word
+abbrev pub HasComparedUnder : Around → List ℕ → List ℕ → TreeOwners → Answer → Type 0
+HasComparedUnder a root word owners answer = (begun : State) × a.root root begun × IsComparedOn a begun word owners answer
+
+-- by the names of packages, or where a tree is given by that
+abbrev pub HasCheckedUnder : Around → List ℕ → List (List ℕ) → Option (List ℕ) → TreeOwners → Answer → Type 0
+HasCheckedUnder a root names None owners answer = HasVerifiedUnder a root (Listed names) answer
+HasCheckedUnder a root names (Some word) owners answer = HasComparedUnder a root word owners answer
 
 -- or there is none from it, or none was opened: the device failed, or memory was wanting
 abbrev pub IsUnverified : Around → List ℕ → Unanswered → Type 0
@@ -82,5 +118,5 @@ IsUnverified a word (Fault fault) =
 
 -- the answer under a root, or why there is none
 abbrev pub IsVerifyAnswer : Around → Verifying → Answer → Type 0
-IsVerifyAnswer a v answer = HasVerifiedUnder a v.root v.names answer
+IsVerifyAnswer a v answer = HasCheckedUnder a v.root v.names v.tree v.owners answer
     ⊎ ((why : Unanswered) × IsUnverified a v.root why × (answer ≡ unanswered_answer why))

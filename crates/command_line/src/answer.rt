@@ -30,7 +30,7 @@ use crate::printing::{Flow, Printer};
 use crate::questions::{Inquiry, bad_path, inquire_under, inquiry_of};
 use crate::steady::Unanswered;
 use crate::unpacking::{Done, unpack};
-use crate::verifying::verify_under;
+use crate::verifying::check_under;
 use command_words::{
     Asked, Comparison, Configuring, Diverting, Query, Removing, ScriptStreams, Topic, Undiverting,
     Unpacking, Verdict, Verifying, WordsFault, bad_version_line, command_of, help_text,
@@ -532,14 +532,20 @@ fn queried<S: Hosts>(alloc: Global, hosts: &mut S, query: Query) -> Result<Answe
     }
 }
 
-fn verified<S: Hosts>(alloc: Global, hosts: &mut S, asked: &Verifying) -> Result<Answer, AllocError>
+fn verified<S: Hosts>(alloc: Global, hosts: &mut S, asked: Verifying) -> Result<Answer, AllocError>
     ensures answered { (answer : AnAnswer)
-        × IsVerifyAnswer (around S.Hosts hosts.old hosts.new) asked.now answer
+        × IsVerifyAnswer (around S.Hosts hosts.old hosts.new) asked answer
         × IfOk result (λ told. told ≡ answer) }
     ensures bound { IfOk result (λ answer. answer.status ≤ 2) }
     ensures below { S.below hosts.new ≡ S.below hosts.old }
 {
-    match verify_under(alloc, hosts, &asked.root, &asked.names) {
+    let Verifying {
+        root,
+        names,
+        tree,
+        owners,
+    } = asked;
+    match check_under(alloc, hosts, &root, names, tree, owners) {
         Ok(answer) => Ok(answer),
         Err(why) => unanswered(alloc, why),
     }
@@ -575,7 +581,7 @@ pub(crate) fn answer_to<S: Hosts, O: Write>(
         Ok(Asked::Divert(asked)) => whole(diverted(alloc, hosts, &asked)),
         Ok(Asked::Undivert(asked)) => whole(undiverted(alloc, hosts, &asked)),
         Ok(Asked::Query(query)) => whole(queried(alloc, hosts, query)),
-        Ok(Asked::Verify(asked)) => whole(verified(alloc, hosts, &asked)),
+        Ok(Asked::Verify(asked)) => whole(verified(alloc, hosts, asked)),
         Ok(Asked::Unpack(unpacking)) => unpacked(alloc, hosts, &unpacking, None, out),
         Ok(Asked::Install(unpacking)) => {
             let policy = policy_of(unpacking.forced);

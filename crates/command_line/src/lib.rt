@@ -29,7 +29,9 @@
 //! a lock that is held, and never where nobody else writes (`IsUnsteadyOn`). Where another program holds the root, that is
 //! told of a command with the root's word, and no root was opened. For `verify` it is the text of a
 //! verification, from a host that was only looked at (`IsVerifiedOn`): looks that fail are told in it,
-//! and the others taken; status 1 where it tells anything (`verified_answer`). For help it is a screen on the topic, on standard output;
+//! and the others taken; status 1 where it tells anything (`verified_answer`). With a tree it is that
+//! of the tree's package against what the tree was read as (`HasComparedUnder`), or its first fault
+//! as for `unpack` (`tree_answer`). For help it is a screen on the topic, on standard output;
 //! where the words ask for nothing a text on standard error ends with the screen of the subcommand
 //! that they name. A fault of the device is told only where one was counted.
 //!

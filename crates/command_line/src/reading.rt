@@ -105,8 +105,8 @@ fn read_once<S: Hosts>(
     read_package(alloc, hosts, owners, tree)
 }
 
-// What a tree gives; one that can't be opened has the host's fault.
-fn read_package<S: Hosts>(
+/// What a tree gives; one that can't be opened has the host's fault.
+pub(crate) fn read_package<S: Hosts>(
     alloc: Global,
     hosts: &mut S,
     owners: TreeOwners,

@@ -101,9 +101,9 @@ configure_app = with_rule (with_forced (calling_app (codes "configure"))) (words
 abbrev pub removing_app : Text → App
 removing_app name = with_rule (calling_app name) (words_rule (codes "PKG") true)
 
--- `verify [--root DIR] [PKG..]`
+-- `verify [--root DIR] [--tree TREE] [--owner-root] [PKG..]`
 abbrev pub verify_app : App
-verify_app = with_rule (rooted_app (codes "verify")) (words_rule (codes "PKG") false)
+verify_app = with_rule (with_rule (with_rule (rooted_app (codes "verify")) (option_rule (codes "tree"))) (flag_rule (codes "owner-root"))) (words_rule (codes "PKG") false)
 
 -- clap's own flag and subcommand for help are none of ours
 abbrev pub without_help : App → App

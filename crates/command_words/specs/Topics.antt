@@ -79,7 +79,7 @@ usage_words topic.Status = codes "status [--root DIR] PKG"
 usage_words topic.Truename = codes "truename [--root DIR] [--package P] PATH"
 usage_words topic.Undivert = codes "undivert [--root DIR] [--wait SECONDS] [--dry-run [--changes] [--assume-failure PKG:SCRIPT:WORD]..] (--package P | --local) [--rename] PATH"
 usage_words topic.Unpack = codes "unpack [--root DIR] [--wait SECONDS] [--dry-run [--changes] [--assume-failure PKG:SCRIPT:WORD]..] [--scripts-stderr] [--owner-root] [--auto-deconfigure] [--force-confold | --force-confnew] [--force-confmiss] TREE.."
-usage_words topic.Verify = codes "verify [--root DIR] [PKG..]"
+usage_words topic.Verify = codes "verify [--root DIR] [PKG.. | --tree TREE [--owner-root]]"
 
 -- a screen: how the words of the topic are put, and what is told of it
 abbrev pub IsScreen : Topic → List ℕ → Type 0

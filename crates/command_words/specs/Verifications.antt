@@ -1,7 +1,10 @@
 -- What words ask of packages that are verified.
-use Rattle.std.specs.Prelude.{List, [], Option, Some, None, codes, if◌then◌else◌}
+use Rattle.std.specs.Prelude.{◌&&◌, ◌==◌, Bool, true, false, List, [], length, Option, Some, None, codes, if◌then◌else◌}
 use Rattle.clap.specs.Words.{Row, Text, all_of, first_of}
 use Rattle.command_words.specs.Given.{is_absolute}
+use Rattle.command_words.specs.Owners.{owners_of}
+use Rattle.command_words.specs.declared.owners.TreeOwners.{TreeOwners}
+use Rattle.command_words.specs.declared.owners.TreeOwners.TheVariants.{Kept, Root}
 use Rattle.command_words.specs.declared.verifying.Verifying.{Verifying}
 
 -- the texts that are given at a place, which may be none
@@ -9,10 +12,17 @@ abbrev pub all_given : Option (List Text) → List Text
 all_given None = []
 all_given (Some texts) = texts
 
--- packages to be verified under an absolute root; no names stand for all
-abbrev pub verifying_from : Option Text → List Text → Option Verifying
-verifying_from None names = None
-verifying_from (Some root) names = if is_absolute root then Some (record { root = root; names = names }) else None
+-- beside a tree no package is named, and to its paths alone owners are given
+abbrev pub is_fitting : List Text → Option Text → TreeOwners → Bool
+is_fitting names (Some tree) owners = length names == 0
+is_fitting names None Kept = true
+is_fitting names None Root = false
+
+-- packages to be verified under an absolute root, of which no names stand for all, or that of a tree
+abbrev pub verifying_from : Option Text → List Text → Option Text → TreeOwners → Option Verifying
+verifying_from None names tree owners = None
+verifying_from (Some root) names tree owners =
+    if is_absolute root && is_fitting names tree owners then Some (record { root = root; names = names; tree = tree; owners = owners }) else None
 
 abbrev pub verifying_of : List Row → Option Verifying
-verifying_of rows = verifying_from (first_of (codes "root") rows) (all_given (all_of (codes "PKG") rows))
+verifying_of rows = verifying_from (first_of (codes "root") rows) (all_given (all_of (codes "PKG") rows)) (first_of (codes "tree") rows) (owners_of rows)

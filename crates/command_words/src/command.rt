@@ -234,7 +234,9 @@ fn verify_command<'a>(alloc: Global) -> Result<Command<'a>, AllocError>
     ensures app { IfOk result (λ c. app_of c ≡ verify_app) }
     ensures local { IfOk result (λ c. (fields_of c).has_globals ≡ false) }
 {
-    with_arg(rooted(alloc, "verify")?, words(alloc, "PKG", false))
+    let command = with_arg(rooted(alloc, "verify")?, option(alloc, "tree"))?;
+    let with_owners = with_arg(command, flag(alloc, "owner-root"))?;
+    with_arg(with_owners, words(alloc, "PKG", false))
 }
 
 // Clap makes no flag and no subcommand for help: the subcommand is ours, and a flag for it is a usage fault.

@@ -37,7 +37,8 @@ const PROGRAM: &str =
   configure [PKG..]              settle conffiles and call postinst
   remove PKG.., purge PKG..      take packages away; with purge their conffiles too
   list, audit                    all packages; those with which something has to be done
-  verify [PKG..]                 what of packages isn't as it was installed
+  verify [PKG..], verify --tree TREE
+                                 what of packages isn't as it was installed, or as a tree has it
   status PKG, listfiles PKG      the record of a package; the paths that it lists
   search PATH, truename PATH     who has a path; where a path is
   divert PATH, undivert PATH     files of packages go to another place; or no longer
@@ -229,9 +230,12 @@ Example: dpkg-deb -R hello.deb hello && coizkerra unpack --root /srv/root hello
 
 const VERIFY: &str =
     "Tells which listed paths aren't as they were installed, a line each, behind the packages with which
-work was cut off; of all packages where none is named. Status 1 where something is told.
+work was cut off; of all packages where none is named. With --tree all that a package's tree ships
+is compared with what stands there, access and link targets too. Status 1 where something is told.
 
-  --root DIR  the root, an absolute directory; / if it isn't given
+  --root DIR    the root, an absolute directory; / if it isn't given
+  --tree TREE   the package of this tree (or archive) is verified, against the tree
+  --owner-root  files of the tree have user and group 0, whoever made it
 
 Example: coizkerra verify --root /srv/root hello
 ";
@@ -292,7 +296,7 @@ impl Topic {
                 "undivert [--root DIR] [--wait SECONDS] [--dry-run [--changes] [--assume-failure PKG:SCRIPT:WORD]..] (--package P | --local) [--rename] PATH",
             Topic::Unpack =>
                 "unpack [--root DIR] [--wait SECONDS] [--dry-run [--changes] [--assume-failure PKG:SCRIPT:WORD]..] [--scripts-stderr] [--owner-root] [--auto-deconfigure] [--force-confold | --force-confnew] [--force-confmiss] TREE..",
-            Topic::Verify => "verify [--root DIR] [PKG..]",
+            Topic::Verify => "verify [--root DIR] [PKG.. | --tree TREE [--owner-root]]",
         }
     }
 

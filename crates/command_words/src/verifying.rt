@@ -1,18 +1,23 @@
 // What is asked of packages that are verified.
 ghost use Rattle.std.specs.Prelude.{◌≡◌, IfOk, map, option_map};
 ghost use Rattle.clap.specs.Words.{all_of, found_of, rows_of};
-ghost use Rattle.command_words.specs.Verifications.{all_given, verifying_from, verifying_of};
+ghost use Rattle.command_words.specs.Verifications.{all_given, is_fitting, verifying_from, verifying_of};
 
-use crate::found::{all_texts_of, copies, is_absolute, text_of};
+use crate::found::{all_texts_of, copies, given, is_absolute, text_of};
+use crate::owners::{TreeOwners, owners_of};
 use clap::ArgMatches;
 use std::alloc::{AllocError, Global};
 use texts::{Text, Texts};
 
-/// Packages that are verified under a root: all where none is named.
+/// Packages that are verified under a root: all where none is named, or the package of a tree.
 #[derive(Drop)]
 pub struct Verifying {
     pub root: Text,
     pub names: Texts,
+    /// The tree with which its package is compared.
+    pub tree: Option<Text>,
+    /// To whom its paths are given.
+    pub owners: TreeOwners,
 }
 
 fn all_given(alloc: Global, names: Option<&[&str]>) -> Result<Texts, AllocError>
@@ -25,22 +30,40 @@ fn all_given(alloc: Global, names: Option<&[&str]>) -> Result<Texts, AllocError>
     }
 }
 
+// Whether this goes together.
+fn is_fitting(names: &[Text], tree: &Option<Text>, owners: TreeOwners) -> bool
+    ensures { result ≡ is_fitting names.now tree.now owners }
+{
+    match (tree, owners) {
+        (Some(_), _) => names.is_empty(),
+        (None, TreeOwners::Kept) => true,
+        (None, TreeOwners::Root) => false,
+    }
+}
+
 fn verifying_from(
     alloc: Global,
     root: Option<&str>,
     names: Texts,
+    tree: Option<Text>,
+    owners: TreeOwners,
 ) -> Result<Option<Verifying>, AllocError>
     ensures { IfOk result (λ asked. asked ≡ verifying_from (option_map (λ s. s.now) root.entry)
-        names) }
+        names tree owners) }
 {
     let Some(root) = root else {
         return Ok(None);
     };
-    if !is_absolute(root) {
+    if !is_absolute(root) || !is_fitting(names.as_slice(), &tree, owners) {
         return Ok(None);
     }
     let root = Text::from_str(alloc, root)?;
-    Ok(Some(Verifying { root, names }))
+    Ok(Some(Verifying {
+        root,
+        names,
+        tree,
+        owners,
+    }))
 }
 
 /// The packages that are verified, unless the words have a fault.
@@ -51,5 +74,6 @@ pub(crate) fn verifying_of(
     ensures { IfOk result (λ asked. asked ≡ verifying_of (rows_of (found_of found.now))) }
 {
     let names = all_given(alloc, all_texts_of(found, "PKG"))?;
-    verifying_from(alloc, text_of(found, "root"), names)
+    let tree = given(alloc, found, "tree")?;
+    verifying_from(alloc, text_of(found, "root"), names, tree, owners_of(found))
 }

@@ -14,41 +14,43 @@ use Rattle.verification.specs.Differences.{conffile_of, difference_lines, known_
 use Rattle.verification.specs.Sums.{sum_in, sums_at, sums_path}
 use Rattle.verification.specs.Tables.{AreSums, given}
 use Rattle.verification.specs.Told.{IsTold}
-use Rattle.verification.specs.Verified.{AddsLooks, Listing, Look, look_lines, told_by}
+use Rattle.verification.specs.Looks.{AddsEach, Look}
+use Rattle.verification.specs.Verified.{AddsLooks, Listing, look_lines, told_by}
 use Rattle.verification.specs.declared.difference.Difference.{Difference}
 use Rattle.verification.specs.declared.sums.Sum.{Sum}
 
--- none
-pub adds_none : (ways : Ways) (s : State) (text : List ℕ) → AddsLooks ways [] s s text text
-adds_none ways s text = record { looks = []; each = refl; failed = omega arith; told = λ h. sym (append-nil text) }
+module _ {T : Type 0} (lines : World → Look T → List ℕ) where
+  -- none
+  pub adds_none : (s : State) (text : List ℕ) → AddsEach lines [] s s text text
+  adds_none s text = record { looks = []; each = refl; failed = omega arith; told = λ h. sym (append-nil text) }
 
--- of other paths, where these are the same
-pub adds_of : (ways : Ways) (a b : List Listing) (s t : State) (x y : List ℕ) → a ≡ b → AddsLooks ways a s t x y → AddsLooks ways b s t x y
-adds_of ways a b s t x y same adds = subst (λ (l : List Listing). AddsLooks ways l s t x y) same adds
+  -- of others, where these are the same
+  pub adds_of : (a b : List T) (s t : State) (x y : List ℕ) → a ≡ b → AddsEach lines a s t x y → AddsEach lines b s t x y
+  adds_of a b s t x y same adds = subst (λ (l : List T). AddsEach lines l s t x y) same adds
 
--- first some, then others
-pub adds_then : (ways : Ways) (a b : List Listing) (s t u : State) (x y z : List ℕ) → AddsLooks ways a s t x y → Reads t u → AddsLooks ways b t u y z → AddsLooks ways (a ++ b) s u x z
-adds_then ways a b s t u x y z first reads second =
-    let lines : World → List Look → List ℕ = λ w l. flat_map (look_lines ways w) l in
-    let count : List Look → ℕ = λ l. count_by (λ (k : Look). k.failed) l in
-    let sums : count (first.looks ++ second.looks) ≡ count first.looks + count second.looks = sum_by-append (λ (k : Look). cond k.failed 1 0) first.looks second.looks in
-    record {
-      looks = first.looks ++ second.looks;
-      each = map-append (λ (l : Look). l.at) first.looks second.looks ∙ ap (λ (l : List Listing). l ++ map (λ (k : Look). k.at) second.looks) first.each ∙ ap (λ (l : List Listing). a ++ l) second.each;
-      failed = omega (arith, first.failed, second.failed, sums);
-      told = λ h.
-          second.told h ∙ ap (λ (l : List ℕ). l ++ lines u.world second.looks) (first.told (reads.honest h) ∙ ap (λ (w : World). x ++ lines w first.looks) (sym reads.world))
-          ∙ append_assoc x (lines u.world first.looks) (lines u.world second.looks) ∙ ap (λ (l : List ℕ). x ++ l) (sym (flat_map-append (look_lines ways u.world) first.looks second.looks));
-    }
+  -- first some, then others
+  pub adds_then : (a b : List T) (s t u : State) (x y z : List ℕ) → AddsEach lines a s t x y → Reads t u → AddsEach lines b t u y z → AddsEach lines (a ++ b) s u x z
+  adds_then a b s t u x y z first reads second =
+      let of : World → List (Look T) → List ℕ = λ w l. flat_map (lines w) l in
+      let count : List (Look T) → ℕ = λ l. count_by (λ (k : Look T). k.failed) l in
+      let sums : count (first.looks ++ second.looks) ≡ count first.looks + count second.looks = sum_by-append (λ (k : Look T). cond k.failed 1 0) first.looks second.looks in
+      record {
+        looks = first.looks ++ second.looks;
+        each = map-append (λ (l : Look T). l.at) first.looks second.looks ∙ ap (λ (l : List T). l ++ map (λ (k : Look T). k.at) second.looks) first.each ∙ ap (λ (l : List T). a ++ l) second.each;
+        failed = omega (arith, first.failed, second.failed, sums);
+        told = λ h.
+            second.told h ∙ ap (λ (l : List ℕ). l ++ of u.world second.looks) (first.told (reads.honest h) ∙ ap (λ (w : World). x ++ of w first.looks) (sym reads.world))
+            ∙ append_assoc x (of u.world first.looks) (of u.world second.looks) ∙ ap (λ (l : List ℕ). x ++ l) (sym (flat_map-append (lines u.world) first.looks second.looks));
+      }
 
--- behind looks at other places, none of which failed
-pub adds_behind : (ways : Ways) (a : List Listing) (s t u : State) (x y : List ℕ) → NoFault s t → AddsLooks ways a t u x y → AddsLooks ways a s u x y
-adds_behind ways a s t u x y none adds = record {
-  looks = adds.looks;
-  each = adds.each;
-  failed = adds.failed ∙ ap (λ (n : ℕ). n + count_by (λ (k : Look). k.failed) adds.looks) none.faults;
-  told = adds.told;
-}
+  -- behind looks at other places, none of which failed
+  pub adds_behind : (a : List T) (s t u : State) (x y : List ℕ) → NoFault s t → AddsEach lines a t u x y → AddsEach lines a s u x y
+  adds_behind a s t u x y none adds = record {
+    looks = adds.looks;
+    each = adds.each;
+    failed = adds.failed ∙ ap (λ (n : ℕ). n + count_by (λ (k : Look T). k.failed) adds.looks) none.faults;
+    told = adds.told;
+  }
 
 one_failed : (b : Bool) (n m : ℕ) → n ≡ m + cond b 1 0 → n ≡ m + (0 + cond b 1 0)
 one_failed b n m e = omega (arith, e)

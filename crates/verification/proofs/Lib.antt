@@ -1,6 +1,8 @@
 pub mod Adding
+pub mod Beside
 pub mod Counted
 pub mod DigestTexts
+pub mod Followed
 pub mod LooksBehind
 pub mod SumLines
 pub mod SumTables

@@ -11,7 +11,7 @@ use Rattle.shown_lines.specs.Lines.{line}
 use Rattle.queries.specs.Paths.{path_text}
 use Rattle.verification.specs.Sums.{sum_in}
 use Rattle.verification.specs.declared.difference.Difference.{Difference}
-use Rattle.verification.specs.declared.difference.Difference.TheVariants.{Missing, Kind, Bytes, Unread}
+use Rattle.verification.specs.declared.difference.Difference.TheVariants.{Missing, Kind, Target, Bytes, Access, Unread}
 
 -- a conffile that the package's current version ships
 abbrev pub is_current : ConffileEntry → Bool
@@ -40,7 +40,9 @@ difference_at (Some (Link target)) (Some digest) = Some Kind
 abbrev pub difference_word : Difference → List ℕ
 difference_word Missing = codes "missing"
 difference_word Kind = codes "kind"
+difference_word Target = codes "target"
 difference_word Bytes = codes "bytes"
+difference_word Access = codes "access"
 difference_word Unread = codes "unread"
 
 -- `WORD PATH PKG`

@@ -1,6 +1,9 @@
 pub mod Sums
 pub mod Tables
 pub mod Differences
+pub mod Looks
+pub mod Shipped
+pub mod Compared
 pub mod Verified
 pub mod Told
 pub mod Counting

@@ -17,6 +17,7 @@ use Rattle.status_records.specs.declared.words.State.{State as APackageState}
 use Rattle.shown_lines.specs.Lines.{line}
 use Rattle.queries.specs.Records.{is_settled}
 use Rattle.inquiries.specs.Read.{HasFollowed}
+use Rattle.verification.specs.Looks.{AddsEach, Look}
 use Rattle.verification.specs.Sums.{sums_at, sums_path}
 use Rattle.verification.specs.Differences.{difference_at, difference_lines, known_digest}
 use Rattle.verification.specs.declared.difference.Difference.{Difference}
@@ -55,35 +56,26 @@ Listing = Record × Path
 abbrev pub listings_of : List PackageList → Record → List Listing
 listings_of lists r = if has_files r.state then map (λ path. (r, path)) (paths_of lists r.name) else []
 
--- a look at what stands at the place of a listed path, and whether the device failed at it
-pub record Look : Type 0 where
-  pub at : Listing
-  pub failed : Bool
-
 -- what it told: the difference, or that there is no knowing
 abbrev pub told_by : Bool → Option Node → Option (List ℕ) → Option Difference
 told_by true _ known = Some Unread
 told_by false node known = difference_at node known
 
 -- its line, if it has one: what stands at the path's place is compared with what is known of the path
-abbrev pub look_lines : Ways → World → Look → List ℕ
+abbrev pub look_lines : Ways → World → Look Listing → List ℕ
 look_lines ways w l =
     let r = l.at.0 in
     let path = l.at.1 in
     difference_lines path r.name (told_by l.failed (w (place ways r.name path)) (known_digest r.conffiles (sums_at (w (sums_path r.name))) path))
 
 -- names without a record, packages with which work was cut off, and then each path that differs
-abbrev pub verified_text : List (List ℕ) → List Record → Ways → World → List Look → List ℕ
+abbrev pub verified_text : List (List ℕ) → List Record → Ways → World → List (Look Listing) → List ℕ
 verified_text names table ways w looks =
     flat_map (unknown_lines table) names ++ (flat_map cut_lines (wanted names table) ++ flat_map (look_lines ways w) looks)
 
--- At each of these listed paths one look was taken, in their order; the device failed as often as a look did, and text was
--- added by what the looks told.
-pub record AddsLooks (ways : Ways) (listings : List Listing) (old new : State) (before after : List ℕ) : Type 0 where
-  pub looks : List Look
-  pub each : map (λ l. l.at) looks ≡ listings
-  pub failed : faults new ≡ faults old + count_by (λ l. l.failed) looks
-  pub told : Needs new (λ w. after ≡ before ++ flat_map (look_lines ways w) looks)
+-- at each of these listed paths one look was taken, and text was added by what the looks told
+abbrev pub AddsLooks : Ways → List Listing → State → State → List ℕ → List ℕ → Type 0
+AddsLooks ways = AddsEach (look_lines ways)
 
 -- The text that is told: of the records, lists and diversions that stand there, and the aliases of the root, with one look at each listed
 -- path of the packages that are verified. The device failed as often as a look did.
@@ -93,7 +85,7 @@ pub record IsVerified (names : List (List ℕ)) (old new : State) (text : List �
   pub ways : Ways
   pub read : Needs new (HasFollowed table lists ways)
   pub order : AreLists lists
-  pub looks : List Look
+  pub looks : List (Look Listing)
   pub each : map (λ l. l.at) looks ≡ flat_map (listings_of lists) (wanted names table)
   pub failed : faults new ≡ faults old + count_by (λ l. l.failed) looks
   pub told : Needs new (λ w. text ≡ verified_text names table ways w looks)

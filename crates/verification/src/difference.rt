@@ -13,10 +13,14 @@ use texts::Text;
 pub(crate) enum Difference {
     /// Nothing is there.
     Missing,
-    /// Its bytes are known, and no file is there.
+    /// Something of another kind is there.
     Kind,
+    /// A link is there, with another text.
+    Target,
     /// A file is there, with other bytes.
     Bytes,
+    /// The mode or the owner is another.
+    Access,
     /// The device failed at the look.
     Unread,
 }
@@ -27,7 +31,9 @@ fn difference_word(difference: Difference) -> &'static str
     match difference {
         Difference::Missing => "missing",
         Difference::Kind => "kind",
+        Difference::Target => "target",
         Difference::Bytes => "bytes",
+        Difference::Access => "access",
         Difference::Unread => "unread",
     }
 }

@@ -1,4 +1,5 @@
-//! Which listed paths differ from what was installed, and which packages were left half-way.
+//! Which listed paths differ from what was installed, which packages were left half-way, and how a
+//! package differs from its tree.
 //!
 //! # What is proved
 //!
@@ -10,12 +11,21 @@
 //! conffile the recorded one, of another path that of the package's `md5sums`. A look at which the
 //! device failed is told and counted, and the next path is looked at (`told`); damage is told as for
 //! the audit (`finds`).
+//!
+//! `verify_tree` reads the same, and the links above what a package's tree ships; then it looks once
+//! at the place of each path that the tree ships. Its text is the definition's too (`told`,
+//! specs/Compared): a line for each path at which something else stands than the tree has there,
+//! with the text of links, modes and owners, and none for another; or why nothing is compared.
 #![tactic(auto)]
 
+mod comparing;
 mod difference;
+mod following;
 mod looking;
 mod packages;
+mod shipped;
 mod sums;
 mod verifying;
 
+pub use comparing::verify_tree;
 pub use verifying::{Verified, verify};

@@ -91,7 +91,7 @@ fn add_paths<H: Host>(
     Ok(())
 }
 
-fn has_files(state: State) -> bool
+pub(crate) fn has_files(state: State) -> bool
     ensures { result ≡ has_files state }
 {
     match state {

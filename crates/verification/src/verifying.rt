@@ -26,7 +26,11 @@ pub struct Verified {
     pub differs: bool,
 }
 
-fn unknown_lines(alloc: Global, database: &NotedDatabase, name: &Text) -> Result<String, AllocError>
+pub(crate) fn unknown_lines(
+    alloc: Global,
+    database: &NotedDatabase,
+    name: &Text,
+) -> Result<String, AllocError>
     ensures { IfOk result
         (λ printed. string_bytes printed ≡ unknown_lines database.now.records name.now) }
 {
@@ -54,7 +58,7 @@ fn add_unknown(
     Ok(())
 }
 
-fn cut_lines(alloc: Global, entry: &Record) -> Result<String, AllocError>
+pub(crate) fn cut_lines(alloc: Global, entry: &Record) -> Result<String, AllocError>
     ensures { IfOk result (λ printed. string_bytes printed ≡ cut_lines entry.now) }
 {
     if is_settled(entry.flag, entry.state) {
@@ -101,7 +105,7 @@ fn record_lines(
     Ok(lines)
 }
 
-fn told(lines: String) -> Verified
+pub(crate) fn told(lines: String) -> Verified
     ensures text { result.text ≡ string_bytes lines }
     ensures differs { IsTrue result.differs ↔ (result.text ≢ []) }
 {

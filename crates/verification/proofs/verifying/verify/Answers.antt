@@ -4,7 +4,8 @@ use Rattle.std.specs.List.{flat_map}
 use Rattle.host_core.proofs.Moments.{reads_then}
 use Rattle.inquiries.specs.Read.{HasFollowed, all_parts}
 use Rattle.opening.proofs.Finding.{host_damage}
-use Rattle.verification.specs.Verified.{Look, cut_lines, look_lines, unknown_lines, wanted}
+use Rattle.verification.specs.Looks.{Look}
+use Rattle.verification.specs.Verified.{Listing, cut_lines, look_lines, unknown_lines, wanted}
 use Rattle.verification.specs.contracts.verifying.Verified.{the_row}
 use Rattle.verification.proofs.Counted.{verified_passed}
 use Rattle.verification.proofs.verifying.verify.Goals as goal
@@ -24,7 +25,7 @@ returns-in-Ok-clause-told g c =
       order = c.law.ensures;
       looks = added.looks;
       each = added.each;
-      failed = added.failed ∙ ap (λ (n : ℕ). n + count_by (λ (k : Look). k.failed) added.looks) c.in_ok-all.ensures.counts.faults;
+      failed = added.failed ∙ ap (λ (n : ℕ). n + count_by (λ (k : Look Listing). k.failed) added.looks) c.in_ok-all.ensures.counts.faults;
       told = λ h. added.told h ∙ append_assoc (flat_map (unknown_lines table) names) (flat_map cut_lines (wanted names table)) (flat_map (look_lines all.diversions.ways now) added.looks);
     }
 
