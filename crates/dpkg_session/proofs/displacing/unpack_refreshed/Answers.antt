@@ -8,16 +8,16 @@ unpack_beside-requires-clause-open g c = record { noting = c.requires.open.notin
 
 pub bring_up_to_date-requires : goal.bring_up_to_date-requires
 bring_up_to_date-requires g c = record {
-    had = λ alone.
-        let before = c.args.administration.now.lists.lists in
-        let after = c.unpack_beside.new.administration in
-        record {
-          before = before;
-          sound = c.law-2.ensures;
-          same = subst (λ (n : List ℕ). AreSameBeside n before after.lists.lists) (sym c.requires.named) (c.in-Ok.ensures.alone.0 alone);
-          is = ap (λ (n : ℕ). take n after.places) c.place_count-kept.ensures ∙ c.in-Ok.ensures.places ∙ c.requires.open.kept;
-        };
-  }
+  had = λ alone.
+      let before = c.args.administration.now.lists.lists in
+      let after = c.unpack_beside.new.administration in
+      record {
+        before = before;
+        sound = c.law-2.ensures;
+        same = subst (λ (n : List ℕ). AreSameBeside n before after.lists.lists) (sym c.requires.named) (c.in-Ok.ensures.alone.0 alone);
+        is = ap (λ (n : ℕ). take n after.places) c.place_count-kept.ensures ∙ c.in-Ok.ensures.places ∙ c.requires.open.kept;
+      };
+}
 
 pub returns-in-Ok-bring_up_to_date-clause-open : goal.returns-in-Ok-bring_up_to_date-clause-open
 returns-in-Ok-bring_up_to_date-clause-open g c =
