@@ -2,6 +2,8 @@
 use Rattle.std.proofs.Common.{◌≡◌, ℕ, Bool, true, false, List, inl, inr, refl, sym, subst}
 use Rattle.host_files.specs.Replay.{Model}
 use Rattle.command_line.specs.Reports.{memory_answer}
+use Rattle.command_line.proofs.Told.{none_told}
+use Rattle.command_words.specs.Commands.{asked_of, rehearsal_of}
 use Rattle.dpkg_words.specs.Translated.{translated}
 use Rattle.dpkg_words.specs.declared.translation.Translated.{Translated}
 use Rattle.dpkg_words.specs.declared.translation.Translated.TheVariants.{Ours, Prints, Selects, Refused}
@@ -15,7 +17,7 @@ named_dpkg model words status e is = subst (λ (b : Bool). IsNamedAnswerBy b mod
 
 -- want of memory is an answer to all words
 pub want_answer : (model : Model) (come : Translated) → IsDpkgAnswer model come 2
-want_answer model (Ours words) = (0, 0, (memory_answer, inr (inl refl), inl refl))
+want_answer model (Ours words) = (0, 0, (memory_answer, _, none_told (rehearsal_of words) (asked_of words), inr (inl refl), inl refl))
 want_answer model (Prints printed) = inr refl
 want_answer model Selects = inr refl
 want_answer model (Refused line) = refl
