@@ -1,5 +1,5 @@
 -- The answer to a verification against a tree, between an earlier moment and a later one.
-use Rattle.std.proofs.Common.{◌≡◌, List, [], ℕ, Result, Ok, Err, IfOk, append-nil, refl, sym}
+use Rattle.std.proofs.Common.{◌≡◌, List, [], ℕ, Result, Ok, Err, IfOk, append-nil, refl, sym, inl}
 use Rattle.host_core.specs.Host.{Reads, State}
 use Rattle.host_core.proofs.Counted.{no_fault_same}
 use Rattle.administration.specs.declared.fault.AdministrationFault.TheVariants.{NoMemory}
@@ -41,5 +41,5 @@ never_looked left begun given =
       looked = record { given = given; reads = same; silent = record { honest = λ h. h; scripts = refl } };
       before = record { reads = same; alone = λ h. no_fault_same begun begun refl };
       counts = tt;
-      damage = λ h. tt;
+      damage = λ h. inl tt;
     }

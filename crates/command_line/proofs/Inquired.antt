@@ -34,20 +34,20 @@ kept : (s t : State) (P : World → Type 0) → Reads s t → Needs s P → Need
 kept s t P reads needs = λ h. subst P (sym reads.world) (needs (reads.honest h))
 
 answered_behind : (asked : Inquiry) (answer : Answer) (s t : State) → Reads s t → IsAnsweredFrom s asked answer → IsAnsweredFrom t asked answer
-answered_behind inquiry.Audit answer s t reads from = (from.0, (from.1.0, from.1.1, from.1.2, kept s t (HasAll from.1.0 from.1.1 from.1.2) reads from.1.3, from.1.4), from.2)
+answered_behind inquiry.Audit answer s t reads from = (from.0, (from.1.0, from.1.1, from.1.2, from.1.3, kept s t (HasAll from.1.0 from.1.1 from.1.2 from.1.3) reads from.1.4, from.1.5), from.2)
 answered_behind inquiry.Diversions answer s t reads from = (from.0, (from.1.0, kept s t (λ w. HasDiversions w from.1.0) reads from.1.1, from.1.2), from.2)
 answered_behind inquiry.List answer s t reads from = (from.0, (from.1.0, kept s t (λ w. HasRecords w from.1.0) reads from.1.1, from.1.2), from.2)
-answered_behind (inquiry.ListFiles name) answer s t reads from = (from.0, (from.1.0, from.1.1, kept s t (λ w. HasOneList w from.1.0 name from.1.1) reads from.1.2, from.1.3), from.2)
+answered_behind (inquiry.ListFiles name) answer s t reads from = (from.0, (from.1.0, from.1.1, from.1.2, kept s t (λ w. HasOneList w from.1.0 name from.1.2 from.1.1) reads from.1.3, from.1.4), from.2)
 answered_behind (inquiry.Search path) answer s t reads from =
-    (from.0, (from.1.0, from.1.1, from.1.2, kept s t (λ w. HasFollowed from.1.0 from.1.1 from.1.2 w × IsWhole w path from.1.2.aliases) reads from.1.3, from.1.4), from.2)
+    (from.0, (from.1.0, from.1.1, from.1.2, from.1.3, kept s t (λ w. HasFollowed from.1.0 from.1.1 from.1.2 from.1.3 w × IsWhole w path from.1.2.aliases) reads from.1.4, from.1.5), from.2)
 answered_behind (inquiry.Status name) answer s t reads from = (from.0, (from.1.0, kept s t (λ w. HasRecords w from.1.0) reads from.1.1, from.1.2), from.2)
 answered_behind (inquiry.Truename user path) answer s t reads from = (from.0, (from.1.0, kept s t (HasWays path from.1.0) reads from.1.1, from.1.2), from.2)
 
 -- a fault of the host says nothing of what can't be read
 unread_fault : (asked : Inquiry) (w : World) (fault : HostFault) → IsUnread asked w (fault_of fault)
-unread_fault inquiry.Audit w host.Device = tt
-unread_fault inquiry.Audit w host.NoMemory = tt
-unread_fault inquiry.Audit w host.Declined = tt
+unread_fault inquiry.Audit w host.Device = inl tt
+unread_fault inquiry.Audit w host.NoMemory = inl tt
+unread_fault inquiry.Audit w host.Declined = inl tt
 unread_fault inquiry.Diversions w host.Device = tt
 unread_fault inquiry.Diversions w host.NoMemory = tt
 unread_fault inquiry.Diversions w host.Declined = tt
@@ -57,9 +57,9 @@ unread_fault inquiry.List w host.Declined = tt
 unread_fault (inquiry.ListFiles name) w host.Device = inl tt
 unread_fault (inquiry.ListFiles name) w host.NoMemory = inl tt
 unread_fault (inquiry.ListFiles name) w host.Declined = inl tt
-unread_fault (inquiry.Search place) w host.Device = tt
-unread_fault (inquiry.Search place) w host.NoMemory = tt
-unread_fault (inquiry.Search place) w host.Declined = tt
+unread_fault (inquiry.Search place) w host.Device = inl tt
+unread_fault (inquiry.Search place) w host.NoMemory = inl tt
+unread_fault (inquiry.Search place) w host.Declined = inl tt
 unread_fault (inquiry.Status name) w host.Device = tt
 unread_fault (inquiry.Status name) w host.NoMemory = tt
 unread_fault (inquiry.Status name) w host.Declined = tt

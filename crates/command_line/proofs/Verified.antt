@@ -11,9 +11,8 @@ use Rattle.host_core.proofs.Moments.{reads_then, silent_then}
 use Rattle.administration.specs.Fault.{fault_of}
 use Rattle.administration.specs.declared.fault.AdministrationFault.{AdministrationFault}
 use Rattle.administration.specs.declared.fault.AdministrationFault.TheVariants.{Damaged, Device, NoMemory, Declined}
-use Rattle.opening.specs.Parts.{IsDamage}
 use Rattle.inquiries.specs.Glances.{IsGlance, IsSame}
-use Rattle.inquiries.specs.Read.{all_parts}
+use Rattle.inquiries.specs.Read.{IsAllDamage}
 use Rattle.inquiries.specs.declared.glance.Glance.{Glance}
 use Rattle.inquiries.proofs.Glances.{one_world}
 use Rattle.verification.specs.Counting.{CountsVerified}
@@ -38,10 +37,10 @@ more_denials : (s t : State) → Reads s t → denials s ≤ denials t
 more_denials s t reads = omega (arith, ap denials_of reads.events, denials_of-append s.events reads.added)
 
 -- a fault of the host says nothing of what can't be read
-no_damage : (w : World) (fault : HostFault) → IsDamage all_parts w (fault_of fault)
-no_damage w host.Device = tt
-no_damage w host.NoMemory = tt
-no_damage w host.Declined = tt
+no_damage : (w : World) (fault : HostFault) → IsAllDamage w (fault_of fault)
+no_damage w host.Device = inl tt
+no_damage w host.NoMemory = inl tt
+no_damage w host.Declined = inl tt
 
 -- it is counted behind other looks
 host_counts : (fault : HostFault) (a b c : State) → Reads a b → Counts {T = Unit {0}} b c (Err fault) → CountsVerified {T = Unit {0}} a c (Err (fault_of fault))
@@ -121,7 +120,7 @@ module _ {W : Type 0} (of : Ghosts W Checking) (state : W → State) (names : Ch
       pub refused : IfErr result (IsLeftUnverifiedOn left (state begun))
 
     none_from : (m : W) (fault : AdministrationFault) → IsBegun (state begun) (state m) → Reads (state begun) (state end) → Silent (state begun) (state end)
-        → CountsVerified {T = Unit {0}} (state m) (state end) (Err fault) → (IsTrue (state end).honest → IsDamage all_parts (state begun).world fault) → HasCome (Err (Fault fault))
+        → CountsVerified {T = Unit {0}} (state m) (state end) (Err fault) → (IsTrue (state end).honest → IsAllDamage (state begun).world fault) → HasCome (Err (Fault fault))
     none_from m fault before reads silent counts damage = record {
       answer = tt;
       bound = tt;
@@ -160,7 +159,7 @@ module _ {W : Type 0} (of : Ghosts W Checking) (state : W → State) (names : Ch
     told m to (Err fault) before silent has reads sound =
         none_from m fault before (reads_then (state begun) (state to) (state end) (reads_then (state begun) (state m) (state to) before.reads has.reads) reads) silent
         (fault_then fault (state m) (state to) (state end) sound has.counts)
-        (λ h. subst (λ w. IsDamage all_parts w fault) before.reads.world (has.damage (reads.honest h)))
+        (λ h. subst (λ w. IsAllDamage w fault) before.reads.world (has.damage (reads.honest h)))
 
     -- an answer that is told at once is a fault
     told_at_once : (m : W) (answer : Result Answer AdministrationFault) → is_final answer ≡ true → IsBegun (state begun) (state m) → Silent (state begun) (state end)
@@ -169,7 +168,7 @@ module _ {W : Type 0} (of : Ghosts W Checking) (state : W → State) (names : Ch
     told_at_once m (Err fault) final before silent has =
         none_from m fault before (reads_then (state begun) (state m) (state end) before.reads has.reads) silent
         (same_fault fault (state m) (state end) has.counts)
-        (λ h. subst (λ w. IsDamage all_parts w fault) before.reads.world (has.damage h))
+        (λ h. subst (λ w. IsAllDamage w fault) before.reads.world (has.damage h))
 
     has_ended : (m : W) (before : Glance) (result : Result Answer Unanswered) → IsSoFar begun m before → (IsTrue (state m).honest → NoFault (state begun) (state m))
         → IsEnded of names m before end result → HasCome result
@@ -192,7 +191,7 @@ module _ {W : Type 0} (of : Ghosts W Checking) (state : W → State) (names : Ch
         subst HasCome (sym is) (told m one.behind answer (record { reads = so_far.reads; alone = sound }) all.silent has then.reads then.sound)
     has_ended m before result so_far sound (wanting answer after one is) =
         let all = tried begun m end before after answer so_far one in
-        subst HasCome (sym is) (none_from m NoMemory (record { reads = so_far.reads; alone = sound }) all.reads all.silent tt (λ h. tt))
+        subst HasCome (sym is) (none_from m NoMemory (record { reads = so_far.reads; alone = sound }) all.reads all.silent tt (λ h. inl tt))
 
     pub has_come : (result : Result Answer Unanswered) → IsSettled of names begun end result → HasCome result
     has_come result (blind fault miss is) =

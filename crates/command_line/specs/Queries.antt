@@ -10,7 +10,7 @@ use Rattle.administration.specs.declared.fault.AdministrationFault.TheVariants a
 use Rattle.opening.specs.Parts.{IsDamage}
 use Rattle.inquiries.specs.Glances.{IsGlance}
 use Rattle.inquiries.specs.declared.glance.Glance.{Glance}
-use Rattle.inquiries.specs.Read.{AreDiversions, AreFiles, IsAudit, IsFilesDamage, IsList, IsSearch, IsStatus, IsTruename, all_parts, diversions_parts, records_parts}
+use Rattle.inquiries.specs.Read.{AreDiversions, AreFiles, IsAllDamage, IsAudit, IsFilesDamage, IsList, IsSearch, IsStatus, IsTruename, diversions_parts, records_parts}
 use Rattle.dpkg_session.specs.Standing.{CountsRefusal}
 use Rattle.shown_lines.specs.Lines.{line}
 use Rattle.command_words.specs.declared.query.Query.{Query}
@@ -69,21 +69,21 @@ IsAnsweredFrom s (inquiry.Truename user path) answer = (text : List ℕ) × IsTr
 
 -- why a question can't be answered: by the first that can't be read of what it reads
 abbrev pub IsUnread : Inquiry → World → AdministrationFault → Type 0
-IsUnread inquiry.Audit w fault = IsDamage all_parts w fault
+IsUnread inquiry.Audit w fault = IsAllDamage w fault
 IsUnread inquiry.Diversions w fault = IsDamage diversions_parts w fault
 IsUnread inquiry.List w fault = IsDamage records_parts w fault
 IsUnread (inquiry.ListFiles name) w fault = IsFilesDamage name w fault
-IsUnread (inquiry.Search path) w fault = IsDamage all_parts w fault
+IsUnread (inquiry.Search path) w fault = IsAllDamage w fault
 IsUnread (inquiry.Status name) w fault = IsDamage records_parts w fault
 IsUnread (inquiry.Truename user path) w fault = IsDamage diversions_parts w fault
 
--- of this the names in `info` are looked at too, since it reads what is damaged there
+-- of this the names in `info` are looked at too, since it reads what stands there
 abbrev pub reads_info : Inquiry → Bool
 reads_info inquiry.Audit = true
 reads_info inquiry.Diversions = false
 reads_info inquiry.List = false
-reads_info (inquiry.ListFiles name) = false
-reads_info (inquiry.Search path) = false
+reads_info (inquiry.ListFiles name) = true
+reads_info (inquiry.Search path) = true
 reads_info (inquiry.Status name) = false
 reads_info (inquiry.Truename user path) = false
 

@@ -10,12 +10,11 @@ use Rattle.command_line.specs.declared.fault.NotOpened.TheVariants.{Locked, Open
 use Rattle.administration.specs.declared.fault.AdministrationFault.TheVariants as opening_faults
 use Rattle.diversions.specs.Ways.{Ways}
 use Rattle.file_lists.specs.declared.paths.PackageList.{PackageList}
-use Rattle.opening.specs.Followed.{IsFollowed}
 use Rattle.opening.specs.Opened.{IsOpened}
-use Rattle.opening.specs.Leaving.{IsOpeningOrMerging}
+use Rattle.opening.specs.TakenUp.{IsOpeningOrAdopting}
 use Rattle.status_records.specs.declared.record.Record.{Record}
 use Rattle.unit_reports.specs.Held.{Held}
-use Rattle.dpkg_session.specs.Standing.{CountsRefusal, OpensAll}
+use Rattle.dpkg_session.specs.Standing.{CountsRefusal, OpensAll, TakesUpAll}
 use Rattle.shown_lines.specs.Lines.{line}
 use Rattle.report_lines.specs.Openings.{opening_line}
 use Rattle.command_line.specs.declared.answer.Answer.{Answer}
@@ -53,13 +52,14 @@ around of old new = record {
 }
 
 -- The administration on a host was opened: no script was called, and nothing but what opening changes has changed. These are
--- its records, the lists of their packages, its diversions, and the aliases of the root.
+-- its records, the lists of their packages, its diversions, and the aliases of the root; conffiles that another program left unsettled
+-- are taken up.
 pub record IsOpenedOn (begun state : State) (table : List Record) (lists : List PackageList) (ways : Ways) : Type 0 where
   pub silent : Silent begun state
   pub opens : OpensAll None begun state
-  pub opening : AtEachMoment IsOpeningOrMerging begun state
+  pub opening : AtEachMoment IsOpeningOrAdopting begun state
   pub opened : Needs state (IsOpened table lists ways.entries)
-  pub followed : Needs state (IsFollowed lists ways)
+  pub taken_up : TakesUpAll table lists ways begun state
 
 -- the administration of a host couldn't be opened, for this fault; no script was called, and the host was given back
 pub record IsRefusedOn (left : Given) (begun : State) (fault : AdministrationFault) : Type 0 where
@@ -67,7 +67,7 @@ pub record IsRefusedOn (left : Given) (begun : State) (fault : AdministrationFau
   pub given : left end
   pub silent : Silent begun end
   pub opens : OpensAll (Some fault) begun end
-  pub opening : AtEachMoment IsOpeningOrMerging begun end
+  pub opening : AtEachMoment IsOpeningOrAdopting begun end
   pub counts : CountsRefusal fault begun end
 
 -- the administration of a host was opened, and the host given back for want of memory
@@ -76,7 +76,7 @@ pub record IsStoppedOn (left : Given) (begun : State) : Type 0 where
   pub given : left end
   pub silent : Silent begun end
   pub opens : OpensAll None begun end
-  pub opening : AtEachMoment IsOpeningOrMerging begun end
+  pub opening : AtEachMoment IsOpeningOrAdopting begun end
 
 -- a host was given back with this fault before anything was done for the command: its administration couldn't be opened, or memory
 -- was wanting behind that

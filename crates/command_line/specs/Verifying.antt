@@ -3,8 +3,7 @@ use Rattle.std.specs.Prelude.{◌≡◌, ◌≤◌, ◌⊎◌, ℕ, IsTrue, IfEr
 use Rattle.host_core.specs.Host.{NoFault, Reads, Silent, State}
 use Rattle.administration.specs.declared.fault.AdministrationFault.{AdministrationFault}
 use Rattle.administration.specs.declared.fault.AdministrationFault.TheVariants as opening_faults
-use Rattle.opening.specs.Parts.{IsDamage}
-use Rattle.inquiries.specs.Read.{all_parts}
+use Rattle.inquiries.specs.Read.{IsAllDamage}
 use Rattle.package_tree.specs.declared.fault.TreeFault.{TreeFault}
 use Rattle.package_tree.specs.declared.package.Package.{Package}
 use Rattle.unit_reports.specs.declared.refusal.Rule.TheVariants.{Tree}
@@ -42,7 +41,7 @@ IsVerifiedBetween asked old new answer = (text : List ℕ) × IsChecked asked ol
 pub record HasVerified (asked : Checking) (old new : State) (result : Result Answer AdministrationFault) : Type 0 where
   pub answer : IfOk result (IsVerifiedBetween asked old new)
   pub bound : IfOk result (λ answer. answer.status ≤ 2)
-  pub damage : IsTrue new.honest → IfErr result (IsDamage all_parts old.world)
+  pub damage : IsTrue new.honest → IfErr result (IsAllDamage old.world)
   pub reads : Reads old new
   pub silent : Silent old new
   pub counts : CountsVerified old new result
@@ -72,7 +71,7 @@ pub record IsUnverifiedOn (left : Given) (begun : State) (fault : Administration
   pub looked : IsLookedAt left begun end
   pub before : IsBegun begun from
   pub counts : CountsVerified {T = Unit {0}} from end (Err fault)
-  pub damage : IsTrue end.honest → IsDamage all_parts begun.world fault
+  pub damage : IsTrue end.honest → IsAllDamage begun.world fault
 
 -- a host changed under the question again and again: it didn't tell of one world, as it does where nobody else writes
 pub record IsNeverVerifiedOn (left : Given) (begun : State) : Type 0 where

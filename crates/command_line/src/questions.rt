@@ -145,7 +145,7 @@ fn inquire<H: Host>(
     }
 }
 
-// Whether the names in `info/` are looked at too, where what is damaged there is read.
+// Whether the names in `info/` are looked at too, where what stands there is read.
 fn reads_info(asked: &Inquiry) -> bool
     ensures { result ≡ reads_info asked.now }
 {
@@ -153,8 +153,8 @@ fn reads_info(asked: &Inquiry) -> bool
         Inquiry::Audit => true,
         Inquiry::Diversions => false,
         Inquiry::List => false,
-        Inquiry::ListFiles(_) => false,
-        Inquiry::Search(_) => false,
+        Inquiry::ListFiles(_) => true,
+        Inquiry::Search(_) => true,
         Inquiry::Status(_) => false,
         Inquiry::Truename { .. } => false,
     }

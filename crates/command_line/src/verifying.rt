@@ -1,8 +1,8 @@
 // Packages that are verified: the root is looked at, as for a question, and a tree is read.
 ghost use Rattle.std.specs.Prelude.{◌≡◌, ◌≢◌, ◌≤◌, ◌↔◌, [], IfErr, IfOk, IsTrue, Result};
 ghost use Rattle.host_core.specs.Host.{Reads, Silent, State};
-ghost use Rattle.inquiries.specs.Read.{all_parts};
-ghost use Rattle.opening.specs.Parts.{Finds, IsDamage, fault_in};
+ghost use Rattle.inquiries.specs.Read.{FindsAll, IsAllDamage};
+ghost use Rattle.opening.specs.Parts.{fault_in};
 ghost use Rattle.verification.specs.Counting.{CountsVerified};
 ghost use Rattle.command_line.specs.Roots.{around};
 ghost use Rattle.command_line.specs.Verifying.{HasCheckedUnder, HasComparedUnder, HasVerifiedUnder, IsChecked, IsComparedOn, IsLeftUnverifiedOn, IsUnverified, IsVerifiedBetween, IsVerifiedOn, tree_answer, verified_answer};
@@ -49,7 +49,7 @@ fn check<H: Host>(
         (λ v. IsChecked asked.now (H.state host.old) (H.state host.new) v.text) }
     ensures differs { IfOk result (λ v. IsTrue v.differs ↔ (v.text ≢ [])) }
     ensures finds { IsTrue (H.state host.new).honest
-        → Finds all_parts (H.state host.old).world (fault_in result) }
+        → FindsAll (H.state host.old).world (fault_in result) }
     ensures reads { Reads (H.state host.old) (H.state host.new) }
     ensures silent { Silent (H.state host.old) (H.state host.new) }
     ensures counts { CountsVerified (H.state host.old) (H.state host.new) result }
@@ -70,7 +70,7 @@ fn look_over<H: Host>(
         (H.state host.new)) }
     ensures bound { IfOk result (λ answer. answer.status ≤ 2) }
     ensures damage { IsTrue (H.state host.new).honest
-        → IfErr result (IsDamage all_parts (H.state host.old).world) }
+        → IfErr result (IsAllDamage (H.state host.old).world) }
     ensures reads { Reads (H.state host.old) (H.state host.new) }
     ensures silent { Silent (H.state host.old) (H.state host.new) }
     ensures counts { CountsVerified (H.state host.old) (H.state host.new) result }

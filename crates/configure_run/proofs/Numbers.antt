@@ -1,6 +1,6 @@
 -- Packages by the numbers of their records.
 use Rattle.std.proofs.Common.{◌≡◌, ℕ, zero, suc, ◌<◌, ◌⊎◌, inl, inr, Bool, true, false, List, [], ◌∷◌, length, get_or, map, Some, refl, sym, ap, subst, ◌∙◌, arith}
-use Rattle.std.specs.Prelude.{IsTrue, ◌&&◌}
+use Rattle.std.specs.Prelude.{IsTrue, not, ◌&&◌}
 use Rattle.std.proofs.lemmas.Bool.{true≢false}
 use Rattle.std.proofs.lemmas.List.{get_or-map, length-map}
 use Rattle.dependency_check.specs.Waiting.{Waiting}
@@ -11,7 +11,7 @@ use Rattle.recorded_packages.proofs.Named.{as_many, names_are}
 use Rattle.relation_index.specs.declared.package.Package.{Package}
 use Rattle.host_core.specs.World.{World}
 use Rattle.status_db.specs.Order.{AreInOrder, IsBefore, IsBeforeAll, names_of}
-use Rattle.status_records.specs.Words.{is_installed}
+use Rattle.status_records.specs.Triggers.{has_triggers}
 use Rattle.status_records.specs.declared.record.Record.{Record}
 use Rattle.status_records.specs.declared.words.Flag.{Flag}
 use Rattle.status_records.specs.declared.words.Flag.TheVariants as flag
@@ -20,11 +20,11 @@ use Rattle.status_records.specs.declared.words.State.TheVariants as state
 use Rattle.status_db.proofs.Ordered.{before_differs, order_apart}
 use Rattle.status_records.proofs.Tables.{record_at}
 use Rattle.configure_run.specs.Asked.{can_wait, is_sound, is_unconfigured}
-use Rattle.configure_run.specs.Starting.{AreNamedApart, AreSilent, AreSilentOf, AreWaiting, IsAt, IsBegun, IsEven, is_named, is_silent, name_at, waits}
+use Rattle.configure_run.specs.Starting.{AreNamedApart, AreSilent, AreSilentOf, AreWaiting, IsAt, IsBegun, IsEven, is_named, is_silent, name_at, satisfies, waits}
 
 pub begun_even : (names : List (List ℕ)) (records : List Record) (q : Waiting) → IsBegun names records q → IsEven q
 begun_even names records q begun = record {
-  installed = ap length begun.installed ∙ length-map records (λ r. is_installed r.state) ∙ sym (as_many records q.packages begun.packages);
+  installed = ap length begun.installed ∙ length-map records satisfies ∙ sym (as_many records q.packages begun.packages);
   waiting = ap length begun.waiting ∙ length-map records (waits names) ∙ sym (as_many records q.packages begun.packages);
 }
 
@@ -94,7 +94,7 @@ module _ (names : List (List ℕ)) (records : List Record) (q : Waiting) (begun 
       let found = at_number records x (number_within x wait) in
       let r = found.0 in
       let named : r.name ≡ name_at q.packages x = sym (number_named x r found.1) in
-      let can = both_hold (is_unconfigured r.state) (is_sound r.flag) (both_hold (can_wait r) (is_named names r) (number_waits x r found.1 wait)).0 in
+      let can = both_hold (is_unconfigured r.state) (is_sound r.flag) (both_hold (not (has_triggers r.triggers)) (is_unconfigured r.state && is_sound r.flag) (both_hold (can_wait r) (is_named names r) (number_waits x r found.1 wait)).0).1 in
       record {
         entry = r;
         found = record_at records x r (name_at q.packages x) (order_apart records order) found.1.within (ap (λ (s : Record). s.name) found.1.here ∙ named) ∙ ap Some found.1.here;

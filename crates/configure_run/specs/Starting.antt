@@ -11,7 +11,7 @@ use Rattle.host_core.specs.declared.call.Script.TheVariants.{Postinst}
 use Rattle.recorded_packages.specs.Packages.{ArePackagesOf}
 use Rattle.relation_index.specs.declared.package.Package.{Package}
 use Rattle.status_records.specs.Records.{record_in}
-use Rattle.status_records.specs.Words.{is_installed}
+use Rattle.status_records.specs.Triggers.{is_configured}
 use Rattle.status_records.specs.declared.record.Record.{Record}
 use Rattle.configure_run.specs.Asked.{can_wait}
 
@@ -22,10 +22,16 @@ is_named names r = list_any (bytes_eq r.name) names
 abbrev pub waits : List (List ℕ) → Record → Bool
 waits names r = can_wait r && is_named names r
 
--- Each package has the number of its record. Installed and waiting are those whose records say so.
+-- An installed package meets what others need, also one that has triggers to process; one that awaits some doesn't yet
+-- (deb-triggers).
+abbrev pub satisfies : Record → Bool
+satisfies r = is_configured r.state r.triggers
+
+-- Each package has the number of its record. Installed are those that meet what others need, and waiting those whose records
+-- say so.
 pub record IsBegun (names : List (List ℕ)) (records : List Record) (q : Waiting) : Type 0 where
   pub packages : ArePackagesOf records q.packages
-  pub installed : q.installed ≡ map (λ r. is_installed r.state) records
+  pub installed : q.installed ≡ map satisfies records
   pub waiting : q.waiting ≡ map (waits names) records
 
 -- the name of the package of a number

@@ -2,9 +2,8 @@
 ghost use Rattle.std.specs.Prelude.{◌≡◌, IfOk, map, true};
 ghost use Rattle.administration.specs.Places.{script_path as stored_path};
 ghost use Rattle.host_core.specs.Looks.{Looks};
-ghost use Rattle.status_records.specs.Words.{is_installed};
 ghost use Rattle.texts.specs.PackageNames.{is_package_name};
-ghost use Rattle.configure_run.specs.Starting.{AreSilentOf, is_silent, waits};
+ghost use Rattle.configure_run.specs.Starting.{AreSilentOf, is_silent, satisfies, waits};
 
 use crate::asked::{can_wait, has_name};
 use administration::script_path;
@@ -21,11 +20,11 @@ fn waits(names: &[Text], entry: &Record) -> bool
 }
 
 pub(crate) fn installed_of(alloc: Global, records: &[Record]) -> Result<Vec<bool>, AllocError>
-    ensures { IfOk result (λ set. set.items ≡ map (λ r. is_installed r.state) records.now) }
+    ensures { IfOk result (λ set. set.items ≡ map satisfies records.now) }
 {
     let mut set = Vec::new(alloc);
     for entry in records {
-        set.push(entry.state.is_installed())?;
+        set.push(entry.is_configured())?;
     }
     Ok(set)
 }

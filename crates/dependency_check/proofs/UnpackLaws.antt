@@ -19,7 +19,7 @@ beforehand_is packages list clause numbers slice met are el es e = (
   λ t. let w = one_of (those (meets_beforehand clause) list) slice (sym e ∙ t) in (w.0, subst (λ (l : List Package). IsTrue (those (meets_beforehand clause) l w.0)) el w.2),
   λ w.
       let v = those_is (meets_beforehand clause) packages w.0 w.1 in
-      let both = and_parts (meets clause v.0) (is_installed v.0 || (is_unpacked v.0 && (not v.0.removed_since && met_when_configured clause v.0 v.0.configured))) v.3 in
+      let both = and_parts (meets clause v.0) ((is_installed v.0 && not v.0.awaits) || (is_unpacked v.0 && (not v.0.removed_since && met_when_configured clause v.0 v.0.configured))) v.3 in
       e ∙ any_of (those (meets_beforehand clause) list) slice w.0 (subst (λ (l : List ℕ). Contains l w.0) (sym es) ((are w.0).1 (v.0, v.1, v.2, both.0))) (subst (λ (l : List Package). IsTrue (those (meets_beforehand clause) l w.0)) (sym el) w.1),
 )
 

@@ -19,10 +19,10 @@ abbrev pub met_when_configured : List Alternative → Package → Option (List �
 met_when_configured clause p None = false
 met_when_configured clause p (Some version) = clause_admits clause p.name p.architecture version p.provides
 
--- Policy 7.2: what meets a clause of Pre-Depends is installed, or it is unpacked or half-configured, was configured
+-- Policy 7.2: what meets a clause of Pre-Depends is installed and awaits no triggers, or it is unpacked or half-configured, was configured
 -- earlier and not removed since, and the version of then meets the clause too
 abbrev pub meets_beforehand : List Alternative → Package → Bool
-meets_beforehand clause p = meets clause p && (is_installed p || (is_unpacked p && (not p.removed_since && met_when_configured clause p p.configured)))
+meets_beforehand clause p = meets clause p && ((is_installed p && not p.awaits) || (is_unpacked p && (not p.removed_since && met_when_configured clause p p.configured)))
 
 abbrev pub IsMetBeforehand : List Package → List Alternative → Type 0
 IsMetBeforehand packages clause = (x : ℕ) × IsTrue (those (meets_beforehand clause) packages x)

@@ -27,7 +27,7 @@ fn meets_beforehand(clause: &Clause, other: &Package) -> bool
     ensures { result ≡ meets_beforehand clause.now other.now }
 {
     other.meets(clause)
-        && (other.is_installed()
+        && ((other.is_installed() && !other.awaits)
             || (other.is_unpacked()
                 && (!other.removed_since && met_when_configured(clause, other))))
 }

@@ -12,11 +12,13 @@ use Rattle.host_core.proofs.Moments.{since_barrier, since_then, silent_then}
 use Rattle.host_core.specs.declared.fault.HostFault.{HostFault}
 use Rattle.host_core.specs.declared.fault.HostFault.TheVariants.{Device, NoMemory, Declined}
 use Rattle.undo_rows.specs.Transcripts.{Ended, MayRun}
+use Rattle.diversions.specs.Ways.{Ways}
+use Rattle.status_records.specs.declared.record.Record.{Record}
 use Rattle.file_lists.specs.declared.paths.PackageList.{PackageList}
-use Rattle.opening.specs.Leaving.{IsOpeningOrMerging}
-use Rattle.opening.specs.Parts.{GoesOn, HasMerged, IsDamaged, Merges, Opens, OpensAndMerges, ReadsAndMerges, parts}
+use Rattle.adopted_conffiles.specs.Adopting.{IsAdopting}
+use Rattle.opening.specs.Parts.{IsDamaged, OpensAndMerges}
+use Rattle.opening.specs.TakenUp.{IsOpeningOrAdopting, IsTakenUp, OpensAndAdopts, TakesUp}
 use Rattle.undo_rows.specs.declared.unwinding.Unwinding.{Unwinding}
-use Rattle.status_db.specs.Noting.{IsMerging}
 use Rattle.status_db.specs.Recorded.{Recorded}
 use Rattle.held_administration.specs.Order.{IsInOrder}
 use Rattle.host_core.proofs.Denials.{denied_first}
@@ -89,34 +91,37 @@ order_behind d lists m t goes order = λ h. subst (IsInOrder d lists) (sym goes.
 
 -- an opening
 
-pub opening_to_disk : (result : Result Unit HostFault) (a b c : State) → Since (λ so_far. IsOpeningOrMerging a.world) a b → Does Barrier b c result → Since (λ so_far. IsOpeningOrMerging a.world) a c
-opening_to_disk result a b c first does = since_to_disk (λ so_far. IsOpeningOrMerging a.world) result a b c (λ x quiet w none is. is) first does
+pub opening_to_disk : (result : Result Unit HostFault) (a b c : State) → Since (λ so_far. IsOpeningOrAdopting a.world) a b → Does Barrier b c result → Since (λ so_far. IsOpeningOrAdopting a.world) a c
+opening_to_disk result a b c first does = since_to_disk (λ so_far. IsOpeningOrAdopting a.world) result a b c (λ x quiet w none is. is) first does
 
 -- what a stopped command has left was on the disk first, and then came a barrier
 pub brought_behind : (result : Result Unit HostFault) (a b c : State) → BeginsOnDisk a b → Does Barrier b c result → BeginsOnDisk a c
 brought_behind result a b c begins does = begins_then a b c begins (since_barrier (λ w. Unit {0}) result b c does (λ h. tt))
 
 -- where the barrier failed it is refused for that, and all else stands
-pub opens_stopped : (fault : HostFault) (given : AdministrationFault) (old now later : World) → given ≡ fault_of fault → later ≡ now → OpensAndMerges None old now → OpensAndMerges (Some given) old later
-opens_stopped fault given old now later is same all = record { begun = all.begun; first = all.first; names = all.names; goes = going all.first all.goes }
+pub opens_stopped : (fault : HostFault) (given : AdministrationFault) (old now later : World) → given ≡ fault_of fault → later ≡ now → OpensAndAdopts None old now → OpensAndAdopts (Some given) old later
+opens_stopped fault given old now later is same all = by all.found all.opens all.takes
   where
     sound : (f : HostFault) → IsDamaged (Some (fault_of f)) → ⊥
     sound Device damaged = damaged
     sound NoMemory damaged = damaged
     sound Declined damaged = damaged
 
-    merged : (read : World) → HasMerged None read now → HasMerged (Some given) read later
-    merged read has = record {
-      sound = λ damaged. sound fault (subst (λ f. IsDamaged (Some f)) is damaged);
-      table = has.table;
-      records = has.records;
-      merging = subst (IsMerging has.table read) (sym same) has.merging;
+    by : (found : Option AdministrationFault) → OpensAndMerges found old all.read → TakesUp found None all.read now → OpensAndAdopts (Some given) old later
+    by None opens takes = record {
+      read = all.read;
+      found = None;
+      opens = opens;
+      takes = record {
+        sound = λ damaged. sound fault (subst (λ f. IsDamaged (Some f)) is damaged);
+        ways = takes.ways;
+        table = takes.table;
+        records = takes.records;
+        adopting = subst (IsAdopting takes.ways takes.table all.read) (sym same) takes.adopting;
+      };
     }
+    by (Some f) opens takes = absurd (let e : None ≡ Some f = takes.0 in cc)
 
-    by : (begun read : World) (found : Option AdministrationFault) → Opens parts found begun read → Merges found None read now → ReadsAndMerges (Some given) begun later
-    by begun read None goes merges = record { read = read; found = None; opens = goes; merges = merged read merges }
-    by begun read (Some f) goes merges = absurd (let e : None ≡ Some f = merges.0 in cc)
-
-    going : (first : Option AdministrationFault) → GoesOn first None all.begun now → GoesOn first (Some given) all.begun later
-    going None reads = by all.begun reads.read reads.found reads.opens reads.merges
-    going (Some f) goes = absurd (let e : None ≡ Some f = goes.0 in cc)
+-- what was taken up is so behind a barrier
+pub taken_behind : (table : List Record) (lists : List PackageList) (ways : Ways) (old now later : World) → later ≡ now → IsTakenUp table lists ways old now → IsTakenUp table lists ways old later
+taken_behind table lists ways old now later same is = subst (IsTakenUp table lists ways old) (sym same) is

@@ -37,6 +37,7 @@ use Rattle.dpkg_session.specs.Run.{IsRun}
 use Rattle.dpkg_session.specs.Units.{IsUnitBy, IsUnitOf, displacing_by, held_with}
 use Rattle.dpkg_session.proofs.Displaced.{behind_leaves}
 use Rattle.dpkg_session.proofs.Keeping.{IsUnnamed}
+use Rattle.dpkg_session.proofs.Overridden.{unit_alike}
 use Rattle.dpkg_session.proofs.Runs.{falls_run}
 
 -- the entries of a run
@@ -47,7 +48,8 @@ ways_by p (Planned beside) before after u s t is = is.ways
 
 entries_unit : (auto : Bool) (label : List ℕ) (tree : Result Package TreeFault) (before after : Held) (u : AUnit) (s t : State) → IsUnitOf auto label tree before after u s t → after.ways.entries ≡ before.ways.entries
 entries_unit auto label (Err fault) before after u s t is = ap (λ (h : Held). h.ways.entries) is.held
-entries_unit auto label (Ok p) before after u s t (added, read, is) = ap (λ (w : Ways). w.entries) (ways_by p is.0 (grown before added) after u s t is.2)
+entries_unit auto label (Ok p) before after u s t (added, read, is) =
+    let one = unit_alike auto p (grown before added) after u s t is in ap (λ (w : Ways). w.entries) (ways_by one.alike one.decision (grown before added) after u s t one.unit)
 
 pub entries_run : (auto : Bool) (cs : List Candidate) (us : List AUnit) (before after : Held) (s t : State) → IsRun auto cs us before after s t → after.ways.entries ≡ before.ways.entries
 entries_run auto [] [] before after s t run = ap (λ (h : Held). h.ways.entries) run.1
@@ -127,7 +129,8 @@ stays_by q far p (Planned beside) before after u s t is h =
 
 stays_unit : (auto : Bool) (q : Path) → IsFar q → (label : List ℕ) (tree : Result Package TreeFault) (before after : Held) (u : AUnit) (s t : State) → IsUnitOf auto label tree before after u s t → IsTrue t.honest → t.world q ≡ s.world q
 stays_unit auto q far label (Err fault) before after u s t is h = ap (λ w. w q) (is.world h)
-stays_unit auto q far label (Ok p) before after u s t (added, read, is) h = stays_by q far p is.0 (grown before added) after u s t is.2 h
+stays_unit auto q far label (Ok p) before after u s t (added, read, is) h =
+    let one = unit_alike auto p (grown before added) after u s t is in stays_by q far one.alike one.decision (grown before added) after u s t one.unit h
 
 stays_run : (auto : Bool) (q : Path) → IsFar q → (cs : List Candidate) (us : List AUnit) (before after : Held) (s t : State) → IsRun auto cs us before after s t → IsTrue t.honest → t.world q ≡ s.world q
 stays_run auto q far [] [] before after s t run h = ap (λ (x : State). x.world q) run.0

@@ -44,6 +44,7 @@ use Rattle.unit_reports.specs.declared.report.Unit.{Unit as AUnit}
 use Rattle.unit_reports.specs.Held.{Held, places_of}
 use Rattle.dpkg_session.specs.History.{Stands}
 use Rattle.dpkg_session.specs.Growth.{grown}
+use Rattle.dpkg_session.proofs.Overridden.{unit_alike}
 use Rattle.dpkg_session.specs.Run.{IsRun}
 use Rattle.dpkg_session.specs.Units.{HasUnpackedBeside, IsUnitBy, IsUnitOf, IsUnpacked, displacing_by, given_by, held_with, yielding}
 use Rattle.dpkg_session.proofs.Beside.{diverted_run, diverted_spare_run, entries_run}
@@ -152,7 +153,8 @@ info_by p (Unpacks beside) before after u s t is h info = whole_info p beside be
 info_unit : (auto : Bool) (label : List ℕ) (tree : Result Package TreeFault) (before after : Held) (u : AUnit) (s t : State) → IsUnitOf auto label tree before after u s t → IsTrue t.honest → HasInfo before s.world → HasInfo after t.world
 info_unit auto label (Err fault) before after u s t is h info = same_info before after s.world t.world is.held (is.world h) info
 info_unit auto label (Ok p) before after u s t (added, read, is) h info =
-    info_by p is.0 (grown before added) after u s t is.2 h (record { text = info.text; standing = info.standing; sound = info.sound })
+    let one = unit_alike auto p (grown before added) after u s t is in
+    info_by one.alike one.decision (grown before added) after u s t one.unit h (record { text = info.text; standing = info.standing; sound = info.sound })
 
 -- and a run of them
 

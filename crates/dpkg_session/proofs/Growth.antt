@@ -1,6 +1,6 @@
 -- Aliases that are read before a unit: path by path there are more, and what was only looked at is no part of what the unit does.
 use Rattle.std.specs.Prelude.{IsTrue}
-use Rattle.std.proofs.Common.{◌≡◌, ◌⊎◌, ◌+◌, ◌<◌, inl, inr, ℕ, Bool, true, List, [], ◌∷◌, ◌++◌, Option, get_or, length, map, take, refl, sym, ap, subst, ◌∙◌, arith}
+use Rattle.std.proofs.Common.{◌≡◌, ◌⊎◌, ◌+◌, ◌<◌, inl, inr, ℕ, Bool, true, List, [], ◌∷◌, ◌++◌, Option, Result, Ok, Err, get_or, length, map, take, refl, sym, ap, subst, ◌∙◌, arith}
 use Rattle.std.proofs.lemmas.List.{append-nil, take_more}
 use Rattle.aliases.specs.Aliases.{Alias}
 use Rattle.aliases.specs.Reading.{AreAliasesIn, Grows, IsWhole}
@@ -26,19 +26,23 @@ use Rattle.host_core.proofs.Counted.{faults_of-append}
 use Rattle.host_core.proofs.Moments.{reads_then, silent_then, since_reads, since_weaker_if}
 use Rattle.opening.specs.Followed.{AreWhole}
 use Rattle.package_tree.specs.declared.package.Package.{Package}
+use Rattle.stat_overrides.specs.Overrides.{overrides_of}
+use Rattle.stat_overrides.specs.declared.table.Overrides.{Overrides}
 use Rattle.status_db.specs.Recorded.{Recorded}
 use Rattle.undo_rows.specs.Ended.{ended_as}
 use Rattle.undo_rows.specs.declared.rows.Called.{Called}
 use Rattle.undo_rows.specs.declared.unwinding.Unwinding.{Unwinding}
 use Rattle.unit_reports.specs.Held.{Held}
 use Rattle.unit_reports.specs.Units.{HasNoCalls}
+use Rattle.unit_reports.specs.declared.refusal.Rule.{Rule}
 use Rattle.unit_reports.specs.declared.report.Unit.{Unit as AUnit}
 use Rattle.unpack_relations.specs.declared.beside.Beside.{Beside}
 use Rattle.unpack_relations.specs.declared.checking.Checked.{Checked}
 use Rattle.unpack_relations.specs.declared.checking.Checked.TheVariants.{Planned, Refused}
 use Rattle.dpkg_session.specs.Growth.{AreAdded, GrowAlong, HasRead, KeepsEntries, grown, with_more}
-use Rattle.dpkg_session.specs.Run.{IsAmidDecided, IsAmidPackage}
-use Rattle.dpkg_session.specs.Units.{HasCalledBeside, HasCalledBy, HasCalledDecided, HasCalledPackage, HasCalledWhole, HasUnpackedBeside, HasUnpackedWhole, HaveRows, IsDecidedUnit, IsPackageUnit, IsUnitBy, given_by, yielding}
+use Rattle.dpkg_session.specs.Overriding.{AreOverrides, taken_with}
+use Rattle.dpkg_session.specs.Run.{IsAmidOverridden, IsAmidPackage, IsAmidTaken}
+use Rattle.dpkg_session.specs.Units.{HasCalledBeside, HasCalledBy, HasCalledDecided, HasCalledOverridden, HasCalledPackage, HasCalledTaken, HasCalledWhole, HasUnpackedBeside, HasUnpackedWhole, HaveRows, IsOverriddenUnit, IsPackageUnit, IsTakenUnit, IsUnitBy, given_by, yielding}
 use Rattle.dpkg_session.proofs.Looking.{called_from, failed_from, none_failed, unpacked_from}
 
 -- path by path
@@ -173,21 +177,54 @@ module _ (s m : State) (reads : Reads s m) (silent : Silent s m) where
   called_decided_from auto p h u t (inl none) = inl (no_calls_from u t none)
   called_decided_from auto p h u t (inr (decision, decided, called)) = inr (decision, decided, called_by_from p decision h u t called)
 
+  -- by what the overrides make of a package
+
+  taken_unit_from : (auto : Bool) (name : List ℕ) (taken : Result Package Rule) (h after : Held) (u : AUnit) (t : State) → IsTakenUnit auto name taken h after u m t → IsTakenUnit auto name taken h after u s t
+  taken_unit_from auto name (Err rule) h after u t is = record { refused = is.refused; held = is.held; silent = silent_then s m t silent is.silent; world = λ honest. is.world honest ∙ reads.world }
+  taken_unit_from auto name (Ok q) h after u t (decision, decided, by) = (decision, decided, unit_from q decision h after u t by)
+
+  called_taken_from : (auto : Bool) (taken : Result Package Rule) (h : Held) (u : AUnit) (t : State) → HasCalledTaken auto taken h u m t → HasCalledTaken auto taken h u s t
+  called_taken_from auto (Err rule) h u t none = no_calls_from u t none
+  called_taken_from auto (Ok q) h u t called = called_decided_from auto q h u t called
+
+  overrides_from : (read : Result Overrides ℕ) (honest : Bool) → AreOverrides read m.world honest → AreOverrides read s.world honest
+  overrides_from read honest are = λ h. subst (λ (w : World). read ≡ overrides_of w) reads.world (are h)
+
+  overridden_unit_from : (auto : Bool) (p : Package) (h after : Held) (u : AUnit) (t : State) → IsOverriddenUnit auto p h after u m t → IsOverriddenUnit auto p h after u s t
+  overridden_unit_from auto p h after u t (read, are, is) = (read, overrides_from read t.honest are, taken_unit_from auto p.name (taken_with read p) h after u t is)
+
+  called_overridden_from : (auto : Bool) (p : Package) (h : Held) (u : AUnit) (t : State) → HasCalledOverridden auto p h u m t → HasCalledOverridden auto p h u s t
+  called_overridden_from auto p h u t (inl none) = inl (no_calls_from u t none)
+  called_overridden_from auto p h u t (inr (read, are, called)) = inr (read, overrides_from read t.honest are, called_taken_from auto (taken_with read p) h u t called)
+
+  -- the unit of a package, once the overrides were read
+  module _ (auto : Bool) (p : Package) (h : Held) (read : Result Overrides ℕ) (are : AreOverrides read s.world m.honest) (u : AUnit) (t : State) (falls : IsTrue t.honest → IsTrue m.honest) where
+    pub overridden_unit : (after : Held) → IsTakenUnit auto p.name (taken_with read p) h after u m t → IsOverriddenUnit auto p h after u s t
+    overridden_unit after is = (read, (λ yes. are (falls yes)), taken_unit_from auto p.name (taken_with read p) h after u t is)
+
+    pub overridden_called : HasCalledTaken auto (taken_with read p) h u m t → HasCalledOverridden auto p h u s t
+    overridden_called is = inr (read, (λ yes. are (falls yes)), called_taken_from auto (taken_with read p) h u t is)
+
+    pub overridden_moments : NoFault s m → AtEachMomentOf (IsAmidTaken auto (taken_with read p) h) m t → AtEachMomentOf (IsAmidOverridden auto p h) s t
+    overridden_moments counts since =
+        since_weaker_if (IsAmidTaken auto (taken_with read p) h s.world) (IsAmidOverridden auto p h s.world) s t
+        (λ yes so_far now amid. inr (read, (λ true_now. are (falls yes)), amid))
+        (moments_from (IsAmidTaken auto (taken_with read p) h) s m t reads counts since)
+
   -- the unit of a package, once the aliases above its paths were read
   module _ (auto : Bool) (p : Package) (before mid : Held) (added : List Alias) (same : mid ≡ grown before added) (read : HasRead p before added s.world m.honest) (u : AUnit) (t : State) (falls : IsTrue t.honest → IsTrue m.honest) where
-    pub package_unit : (after : Held) → IsDecidedUnit auto p mid after u m t → IsPackageUnit auto p before after u s t
+    pub package_unit : (after : Held) → IsOverriddenUnit auto p mid after u m t → IsPackageUnit auto p before after u s t
     package_unit after is =
-        let (decision, decided, by) = subst (λ (h : Held). IsDecidedUnit auto p h after u m t) same is in
-        (added, (λ h. read (falls h)), (decision, decided, unit_from p decision (grown before added) after u t by))
+        (added, (λ h. read (falls h)), overridden_unit_from auto p (grown before added) after u t (subst (λ (h : Held). IsOverriddenUnit auto p h after u m t) same is))
 
-    pub package_called : HasCalledDecided auto p mid u m t → HasCalledPackage auto p before u s t
-    package_called is = inr (added, (λ h. read (falls h)), called_decided_from auto p (grown before added) u t (subst (λ (h : Held). HasCalledDecided auto p h u m t) same is))
+    pub package_called : HasCalledOverridden auto p mid u m t → HasCalledPackage auto p before u s t
+    package_called is = inr (added, (λ h. read (falls h)), called_overridden_from auto p (grown before added) u t (subst (λ (h : Held). HasCalledOverridden auto p h u m t) same is))
 
-    pub package_moments : NoFault s m → AtEachMomentOf (IsAmidDecided auto p mid) m t → AtEachMomentOf (IsAmidPackage auto p before) s t
+    pub package_moments : NoFault s m → AtEachMomentOf (IsAmidOverridden auto p mid) m t → AtEachMomentOf (IsAmidPackage auto p before) s t
     package_moments counts since =
-        since_weaker_if (IsAmidDecided auto p (grown before added) s.world) (IsAmidPackage auto p before s.world) s t
+        since_weaker_if (IsAmidOverridden auto p (grown before added) s.world) (IsAmidPackage auto p before s.world) s t
         (λ h so_far now amid. inr (added, (λ yes. read (falls h)), amid))
-        (moments_from (IsAmidDecided auto p (grown before added)) s m t reads counts (subst (λ (h : Held). AtEachMomentOf (IsAmidDecided auto p h) m t) same since))
+        (moments_from (IsAmidOverridden auto p (grown before added)) s m t reads counts (subst (λ (h : Held). AtEachMomentOf (IsAmidOverridden auto p h) m t) same since))
 
 -- the moments of a change of the diversions, once the aliases above its paths were read
 pub diverting_moments : (P : World → World → Type 0) (Q : World → World → Type 0) (s m t : State) → Reads s m → NoFault s m → (IsTrue t.honest → (now : World) → P s.world now → Q s.world now) → AtEachMoment P m t → AtEachMoment Q s t
@@ -228,6 +265,9 @@ undiverted_from asked before after u s m t reads is = record {
 }
 
 -- it was broken off while it looked
+
+pub looked_overridden : (auto : Bool) (p : Package) (before : Held) (s m : State) → Reads s m → AtEachMomentOf (IsAmidOverridden auto p before) s m
+looked_overridden auto p before s m reads = since_reads (IsAmidOverridden auto p before s.world) s m reads (λ es all. inl (refl, none_failed es all))
 
 pub looked_moments : (auto : Bool) (p : Package) (before : Held) (s m : State) → Reads s m → AtEachMomentOf (IsAmidPackage auto p before) s m
 looked_moments auto p before s m reads = since_reads (IsAmidPackage auto p before s.world) s m reads (λ es all. inl (refl, none_failed es all))

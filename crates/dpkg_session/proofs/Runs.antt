@@ -28,6 +28,7 @@ use Rattle.unit_reports.proofs.Counting.{no_fault_here}
 use Rattle.unit_reports.specs.Units.{CountsCause, CountsReply, IsRefused, IsRefusedUnit, IsBroken, IsBrokenBy, touched_at}
 use Rattle.unit_reports.specs.declared.report.Touched.{Touched}
 use Rattle.dpkg_session.specs.Growth.{grown}
+use Rattle.dpkg_session.proofs.Overridden.{unit_alike}
 use Rattle.dpkg_session.specs.Refusals.{IsDecisionFor}
 use Rattle.dpkg_session.specs.Touched.{AreDeconfigured, AreOfBoth, AreUnchanged, IsTouchedBeside, deconfigured_among, told_among}
 use Rattle.dpkg_session.specs.Units.{AnswersBoth, HasUnpackedWhole, IsDecidedUnit, IsPackageUnit, IsUnit, IsUnitBy, IsUnitOf, IsUnpacked, KnowsRecords, reply_to, yielding}
@@ -79,7 +80,8 @@ ready_by p (checked.Planned beside) before after u s t ready is = is.order
 
 ready_of : (auto : Bool) (label : List ℕ) (tree : Result Package TreeFault) (before after : Held) (u : AUnit) (s t : State) → Ready before s → IsUnitOf auto label tree before after u s t → Ready after t
 ready_of auto label (Err fault) before after u s t ready is = ready_refused _ label before after u s t ready is
-ready_of auto label (Ok p) before after u s t ready (added, read, is) = ready_by p is.0 (grown before added) after u s t ready is.2
+ready_of auto label (Ok p) before after u s t ready (added, read, is) =
+    let one = unit_alike auto p (grown before added) after u s t is in ready_by one.alike one.decision (grown before added) after u s t ready one.unit
 
 pub ready_after : (auto : Bool) (c : Candidate) (before after : Held) (u : AUnit) (s t : State) → Ready before s → IsUnit auto c before after u s t → Ready after t
 ready_after auto c before after u s t ready is = ready_of auto c.label c.tree before after u s t ready is
@@ -92,7 +94,7 @@ ready_run auto (c ∷ cs) (u ∷ us) before after s t run ready = ready_run auto
 
 -- by what is refused, and what isn't
 
-refused_here : (rule : Rule) (name : List ℕ) (h : Held) (u : AUnit) (s : State) → IsRefusedUnit rule name u → IsRefused rule name h h u s s
+pub refused_here : (rule : Rule) (name : List ℕ) (h : Held) (u : AUnit) (s : State) → IsRefusedUnit rule name u → IsRefused rule name h h u s s
 refused_here rule name h u s refused = record { refused = refused; held = refl; silent = record { honest = λ honest. honest; scripts = refl }; world = λ honest. refl }
 
 pub by_refused : (auto : Bool) (p : Package) (rule : Rule) (decision : Checked) (h : Held) (u : AUnit) (s : State) → IsDecisionFor p auto h decision → decision ≡ checked.Refused rule → IsRefusedUnit rule p.name u → IsDecidedUnit auto p h h u s s

@@ -23,12 +23,14 @@ use Rattle.unit_reports.specs.Held.{Held, places_of}
 use Rattle.unpack_relations.specs.declared.beside.Beside.{Beside}
 use Rattle.unpack_relations.specs.declared.checking.Checked.{Checked}
 use Rattle.unpack_relations.specs.declared.checking.Checked.TheVariants.{Planned, Refused}
+use Rattle.unit_reports.specs.declared.refusal.Rule.{Rule}
 use Rattle.unit_reports.specs.declared.report.Unit.{Unit as AUnit}
 use Rattle.unit_reports.specs.Units.{HasNoCalls, TellsCalls, calls_of, last_calls}
 use Rattle.unit_reports.specs.declared.report.Report.{Report}
 use Rattle.dpkg_session.specs.Refusals.{IsDecisionFor}
 use Rattle.dpkg_session.specs.Growth.{grown}
-use Rattle.dpkg_session.specs.Units.{HasCalledBeside, HasCalledBy, HasCalledDecided, HasCalledOf, HasCalledPackage, HasCalledWhole, HasUnpackedBeside, given_by, yielding}
+use Rattle.dpkg_session.specs.Overriding.{taken_with}
+use Rattle.dpkg_session.specs.Units.{HasCalledBeside, HasCalledBy, HasCalledDecided, HasCalledOf, HasCalledOverridden, HasCalledPackage, HasCalledTaken, HasCalledWhole, HasUnpackedBeside, given_by, yielding}
 
 -- nothing was done
 pub silent_here : (s : State) → Silent s s
@@ -109,9 +111,17 @@ decided_tells : (auto : Bool) (p : Package) (before : Held) (u : AUnit) (s t : S
 decided_tells auto p before u s t (inl none) = no_calls_tell u s t none
 decided_tells auto p before u s t (inr called) = called_by_tells p called.0 before u s t called.2
 
+taken_tells : (auto : Bool) (taken : Result Package Rule) (before : Held) (u : AUnit) (s t : State) → HasCalledTaken auto taken before u s t → TellsAll s t [] u.calls.items
+taken_tells auto (Err rule) before u s t none = no_calls_tell u s t none
+taken_tells auto (Ok q) before u s t called = decided_tells auto q before u s t called
+
+overridden_tells : (auto : Bool) (p : Package) (before : Held) (u : AUnit) (s t : State) → HasCalledOverridden auto p before u s t → TellsAll s t [] u.calls.items
+overridden_tells auto p before u s t (inl none) = no_calls_tell u s t none
+overridden_tells auto p before u s t (inr (read, are, called)) = taken_tells auto (taken_with read p) before u s t called
+
 package_tells : (auto : Bool) (p : Package) (before : Held) (u : AUnit) (s t : State) → HasCalledPackage auto p before u s t → TellsAll s t [] u.calls.items
 package_tells auto p before u s t (inl none) = no_calls_tell u s t none
-package_tells auto p before u s t (inr (added, read, called)) = decided_tells auto p (grown before added) u s t called
+package_tells auto p before u s t (inr (added, read, called)) = overridden_tells auto p (grown before added) u s t called
 
 pub called_tells : (auto : Bool) (tree : Result Package TreeFault) (before : Held) (u : AUnit) (s t : State) → HasCalledOf auto tree before u s t → TellsAll s t [] u.calls.items
 called_tells auto (Err fault) before u s t none = no_calls_tell u s t none

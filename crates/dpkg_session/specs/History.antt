@@ -1,14 +1,16 @@
 -- Commands given one after another.
 use Rattle.std.specs.Prelude.{◌≡◌, ℕ, Bool, IsTrue, List, [], ◌∷◌, None}
+use Rattle.adopted_conffiles.specs.Adopted.{all_adopted}
 use Rattle.aliases.specs.Aliases.{Alias}
 use Rattle.conffiles.specs.declared.decisions.ConfPolicy.{ConfPolicy}
 use Rattle.configure_run.specs.Run.{IsConfigureRun}
 use Rattle.host_core.specs.Paths.{is_own}
-use Rattle.host_core.specs.World.{World, SameOn}
+use Rattle.host_core.specs.World.{World, KeepsBut, SameOn}
 use Rattle.host_core.specs.Host.{State}
 use Rattle.opening.specs.Opened.{IsFound}
 use Rattle.opening.specs.Parts.{OpensAndMerges}
 use Rattle.removal_run.specs.Run.{IsRemovalRun}
+use Rattle.status_db.specs.Held.{is_record_place}
 use Rattle.status_db.specs.Noting.{AreNoted}
 use Rattle.dpkg_session.specs.declared.asked.Diverting.{Diverting}
 use Rattle.dpkg_session.specs.declared.asked.Undiverting.{Undiverting}
@@ -70,11 +72,15 @@ pub record IsCommand (ran : Ran) (before after : Held) (old new : World) : Type 
 abbrev pub realiased : List Alias → Held → Held
 realiased aliases h = record h { ways = record { entries = h.ways.entries; aliases = aliases } }
 
+-- the same, with the records as they are taken up by the files of a world
+abbrev pub readopted : World → Held → Held
+readopted w h = record h { records = record h.records { records = all_adopted w h.ways h.records.records } }
+
 -- Between two commands any path but the program's own may have changed; and then another session may have been opened, which
--- merges the notes and reads the aliases anew.
+-- merges the notes, reads the aliases anew, and takes up what another program left unsettled.
 pub data IsBetween (left found : Held) (old new : World) : Type 0 where
   same : found ≡ left → SameOn is_own old new → IsBetween left found old new
-  reopened : (mid : World) (aliases : List Alias) → found ≡ realiased aliases (merged left) → SameOn is_own old mid → OpensAndMerges None mid new → IsBetween left found old new
+  reopened : (mid read : World) (aliases : List Alias) → found ≡ readopted read (realiased aliases (merged left)) → SameOn is_own old mid → OpensAndMerges None mid read → KeepsBut is_record_place read new → IsBetween left found old new
 
 -- each command finds what the one before it left
 abbrev pub IsHistory : List Ran → Held → Held → World → World → Type 0

@@ -13,14 +13,17 @@ use Rattle.package_tree.specs.declared.fault.TreeFault.{TreeFault}
 use Rattle.package_tree.specs.declared.package.Package.{Package}
 use Rattle.unit_reports.specs.Units.{CountsReply}
 use Rattle.removal_run.specs.Units.{holding_of}
+use Rattle.stat_overrides.specs.declared.table.Overrides.{Overrides}
 use Rattle.status_db.specs.Recorded.{Recorded}
 use Rattle.unpack_engine.specs.Units.{IsAmidUnit}
 use Rattle.unit_reports.specs.Held.{Held, places_of}
+use Rattle.unit_reports.specs.declared.refusal.Rule.{Rule}
 use Rattle.unpack_relations.specs.declared.beside.Beside.{Beside}
 use Rattle.unpack_relations.specs.declared.checking.Checked.{Checked}
 use Rattle.unpack_relations.specs.declared.checking.Checked.TheVariants.{Refused, Planned}
 use Rattle.unpack_rows.specs.declared.rows.OtherPackage.{OtherPackage}
 use Rattle.dpkg_session.specs.Growth.{HasRead, grown}
+use Rattle.dpkg_session.specs.Overriding.{AreOverrides, taken_with}
 use Rattle.dpkg_session.specs.PowerLoss.{LosesLikeAStop}
 use Rattle.dpkg_session.specs.Refusals.{IsDecisionFor}
 use Rattle.undo_rows.specs.declared.rows.Called.{Called}
@@ -69,10 +72,20 @@ abbrev pub IsAmidDecided : Bool → Package → Held → World → List Event �
 IsAmidDecided auto_deconfigure p before old so_far now =
     IsStill old so_far now ⊎ ((decision : Checked) × IsDecisionFor p auto_deconfigure before decision × IsAmidBy p decision before old so_far now)
 
+-- by what the overrides make of the package: nothing has changed where a rule refuses it
+abbrev pub IsAmidTaken : Bool → Result Package Rule → Held → World → List Event → World → Type 0
+IsAmidTaken auto_deconfigure (Err rule) before old so_far now = now ≡ old
+IsAmidTaken auto_deconfigure (Ok q) before old so_far now = IsAmidDecided auto_deconfigure q before old so_far now
+
+-- nothing is done yet, or the overrides are known
+abbrev pub IsAmidOverridden : Bool → Package → Held → World → List Event → World → Type 0
+IsAmidOverridden auto_deconfigure p before old so_far now =
+    IsStill old so_far now ⊎ ((read : Result Overrides ℕ) × AreOverrides read old true × IsAmidTaken auto_deconfigure (taken_with read p) before old so_far now)
+
 -- at each moment of the unit of a tree that was read: nothing is done yet, or the aliases above its paths are known
 abbrev pub IsAmidPackage : Bool → Package → Held → World → List Event → World → Type 0
 IsAmidPackage auto_deconfigure p before old so_far now =
-    IsStill old so_far now ⊎ ((added : List Alias) × HasRead p before added old true × IsAmidDecided auto_deconfigure p (grown before added) old so_far now)
+    IsStill old so_far now ⊎ ((added : List Alias) × HasRead p before added old true × IsAmidOverridden auto_deconfigure p (grown before added) old so_far now)
 
 -- at each moment of the unit of a tree
 abbrev pub IsAmidUnitOf : Bool → Result Package TreeFault → Held → World → List Event → World → Type 0

@@ -17,6 +17,7 @@ use Rattle.package_tree.specs.declared.fault.TreeFault.{TreeFault}
 use Rattle.undo_rows.specs.Ended.{ended_as}
 use Rattle.undo_rows.specs.declared.failure.Failure.TheVariants.{OfCall}
 use Rattle.undo_rows.specs.declared.unwinding.Unwinding.{Unwinding}
+use Rattle.stat_overrides.specs.declared.table.Overrides.{Overrides}
 use Rattle.status_db.specs.Recorded.{Recorded}
 use Rattle.status_db.specs.Order.{AreInOrder}
 use Rattle.status_records.specs.declared.record.Record.{Record}
@@ -30,12 +31,14 @@ use Rattle.unpack_rows.specs.declared.rows.OtherPackage.{OtherPackage}
 use Rattle.undo_rows.specs.declared.rows.Called.{Called}
 use Rattle.unit_reports.specs.Held.{Held, places_of}
 use Rattle.unit_reports.specs.Units.{HasNoCalls, IsBroken, IsRefused, TellsNoPackage, touched_at}
+use Rattle.unit_reports.specs.declared.refusal.Rule.{Rule}
 use Rattle.unit_reports.specs.declared.refusal.Rule.TheVariants.{Tree}
 use Rattle.unit_reports.specs.declared.report.Reply.{Reply}
 use Rattle.unit_reports.specs.declared.report.Reply.TheVariants.{Done, Failed}
 use Rattle.unit_reports.specs.declared.report.Touched.{Touched}
 use Rattle.unit_reports.specs.declared.report.Unit.{Unit as AUnit}
 use Rattle.dpkg_session.specs.Growth.{HasRead, grown}
+use Rattle.dpkg_session.specs.Overriding.{AreOverrides, taken_with}
 use Rattle.dpkg_session.specs.Refusals.{IsDecisionFor}
 use Rattle.dpkg_session.specs.Touched.{AreDeconfigured, AreTold, IsTouchedBeside, half_configured}
 use Rattle.dpkg_session.specs.declared.displacing.Behind.{Behind}
@@ -152,9 +155,19 @@ IsUnitBy p (checked.Planned beside) before after u s t = IsUnpacked p beside bef
 abbrev pub IsDecidedUnit : Bool → Package → Held → Held → AUnit → State → State → Type 0
 IsDecidedUnit auto_deconfigure p before after u s t = (decision : Checked) × IsDecisionFor p auto_deconfigure before decision × IsUnitBy p decision before after u s t
 
+-- the unit of a package of this name, by what the overrides make of it: a rule refuses it, or it has their accesses
+abbrev pub IsTakenUnit : Bool → List ℕ → Result Package Rule → Held → Held → AUnit → State → State → Type 0
+IsTakenUnit auto_deconfigure name (Err rule) before after u s t = IsRefused rule name before after u s t
+IsTakenUnit auto_deconfigure name (Ok q) before after u s t = IsDecidedUnit auto_deconfigure q before after u s t
+
+-- the unit of a package the aliases above whose paths are known: the overrides of the root, as it is then, are read first
+abbrev pub IsOverriddenUnit : Bool → Package → Held → Held → AUnit → State → State → Type 0
+IsOverriddenUnit auto_deconfigure p before after u s t =
+    (read : Result Overrides ℕ) × AreOverrides read s.world t.honest × IsTakenUnit auto_deconfigure p.name (taken_with read p) before after u s t
+
 -- the unit of a tree that was read: what is missing of the aliases above its paths is read first
 abbrev pub IsPackageUnit : Bool → Package → Held → Held → AUnit → State → State → Type 0
-IsPackageUnit auto_deconfigure p before after u s t = (added : List Alias) × HasRead p before added s.world t.honest × IsDecidedUnit auto_deconfigure p (grown before added) after u s t
+IsPackageUnit auto_deconfigure p before after u s t = (added : List Alias) × HasRead p before added s.world t.honest × IsOverriddenUnit auto_deconfigure p (grown before added) after u s t
 
 -- a tree that can't be read is refused first
 abbrev pub IsUnitOf : Bool → List ℕ → Result Package TreeFault → Held → Held → AUnit → State → State → Type 0
@@ -194,10 +207,20 @@ abbrev pub HasCalledDecided : Bool → Package → Held → AUnit → State → 
 HasCalledDecided auto_deconfigure p before u s t =
     HasNoCalls u s t ⊎ ((decision : Checked) × IsDecisionFor p auto_deconfigure before decision × HasCalledBy p decision before u s t)
 
+-- by what the overrides make of it
+abbrev pub HasCalledTaken : Bool → Result Package Rule → Held → AUnit → State → State → Type 0
+HasCalledTaken auto_deconfigure (Err rule) before u s t = HasNoCalls u s t
+HasCalledTaken auto_deconfigure (Ok q) before u s t = HasCalledDecided auto_deconfigure q before u s t
+
+-- it may be broken off before the overrides are known
+abbrev pub HasCalledOverridden : Bool → Package → Held → AUnit → State → State → Type 0
+HasCalledOverridden auto_deconfigure p before u s t =
+    HasNoCalls u s t ⊎ ((read : Result Overrides ℕ) × AreOverrides read s.world t.honest × HasCalledTaken auto_deconfigure (taken_with read p) before u s t)
+
 -- of a tree that was read; it may be broken off before the aliases are known
 abbrev pub HasCalledPackage : Bool → Package → Held → AUnit → State → State → Type 0
 HasCalledPackage auto_deconfigure p before u s t =
-    HasNoCalls u s t ⊎ ((added : List Alias) × HasRead p before added s.world t.honest × HasCalledDecided auto_deconfigure p (grown before added) u s t)
+    HasNoCalls u s t ⊎ ((added : List Alias) × HasRead p before added s.world t.honest × HasCalledOverridden auto_deconfigure p (grown before added) u s t)
 
 -- none for a tree that can't be read
 abbrev pub HasCalledOf : Bool → Result Package TreeFault → Held → AUnit → State → State → Type 0

@@ -26,9 +26,11 @@
 //! off (`all`, `read`); a closed session reads none (`unread`); each unit of the report was told to
 //! the watcher, in order: when it and those before it had made their calls and no other was made,
 //! and all that they did was on the disk (`watched`); the run is from the records, lists and
-//! diversions of before to those of after; a tree that can't be read, a conffile that is diverted,
-//! and relations to the recorded packages are refused by the first of these that holds, without a
-//! call and without a change; the other trees are unpacked as unpack_engine says, with the rows
+//! diversions of before to those of after; a tree that can't be read, a faulty line of the
+//! overrides or one of a shipped path whose owner has no number, a conffile that is diverted, and
+//! relations to the recorded packages are refused by the first of these that holds, without a call
+//! and without a change; a package has the accesses of the overrides that stand in the root at its
+//! turn (`IsOverriddenUnit`); the other trees are unpacked as unpack_engine says, with the rows
 //! that in_favour_rows gives for the packages that are deconfigured or conflict; behind one whose
 //! rows all succeeded packages disappear and are removed as displaced_packages says; the reply, the
 //! touched packages and those that were deconfigured are as defined; after a unit that was broken
@@ -83,6 +85,7 @@ mod done;
 mod growing;
 mod installing;
 mod laws;
+mod overriding;
 mod recorded;
 mod refusal;
 mod removing;

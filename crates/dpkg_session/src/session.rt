@@ -5,18 +5,17 @@ ghost use Rattle.host_core.specs.Host.{AtEachMoment, Falls, Gives, Needs, Silent
 ghost use Rattle.host_core.specs.Loss.{IsAnswered, IsOnDisk};
 ghost use Rattle.administration.specs.Fault.{CountsAdministration};
 ghost use Rattle.held_administration.specs.Open.{IsOpen};
-ghost use Rattle.opening.specs.Followed.{IsFollowed};
-ghost use Rattle.opening.specs.Leaving.{IsOpeningOrMerging};
 ghost use Rattle.opening.specs.Opened.{IsOpened};
-ghost use Rattle.opening.specs.Parts.{OpensAndMerges, fault_in};
+ghost use Rattle.opening.specs.Parts.{fault_in};
 ghost use Rattle.opening.specs.Stopped.{AfterAStop, BeginsOnDisk, BeginsOnDiskIfAtAll, IsBrought};
+ghost use Rattle.opening.specs.TakenUp.{IsOpeningOrAdopting, IsTakenUp, OpensAndAdopts};
 ghost use Rattle.recorded_packages.specs.Packages.{ArePackagesOf};
 ghost use Rattle.unit_reports.specs.Held.{held_by};
 ghost use Rattle.unit_reports.specs.declared.report.Breakage.TheVariants.{Closed};
 ghost use Rattle.dpkg_session.specs.Growth.{KeepsEntries};
 ghost use Rattle.dpkg_session.specs.PowerLoss.{LosesLikeAStop, StandsOnceAnswered};
 ghost use Rattle.dpkg_session.specs.Run.{HasRunThrough};
-ghost use Rattle.dpkg_session.specs.Standing.{CountsRefusal, IsStanding, OpensAll};
+ghost use Rattle.dpkg_session.specs.Standing.{CountsRefusal, IsStanding, OpensAll, TakesUpAll};
 ghost use Rattle.dpkg_session.specs.Trees.{AreRead};
 ghost use Rattle.dpkg_session.specs.declared.report.Candidate.{Candidate as ACandidate};
 ghost use Rattle.unit_reports.specs.Units.{CountsLast, IsBrokenBy, IsClosedReport, TellsCalls};
@@ -28,7 +27,7 @@ use administration::AdministrationFault;
 use diversions::Diversions;
 use held_administration::Administration;
 use host_core::Host;
-use opening::{Opened, open_followed};
+use opening::{Opened, open_adopted};
 use std::alloc::Global;
 use texts::Texts;
 use unit_reports::{Breakage, Report, Watcher, broken};
@@ -48,26 +47,27 @@ pub struct Session<H: Host> {
     pub ghost writable: { closed ≡ false → diversions.closed ≡ false },
 }
 
-// Opens the administration with the aliases of its root, and brings all that was done to the disk.
+// Opens the administration with the aliases of its root and what another program left unsettled, and brings all that was done to the
+// disk.
 fn open_to_disk<H: Host>(alloc: Global, host: &mut H) -> Result<Opened, AdministrationFault>
-    ensures opens { IsTrue (H.state host.new).honest → OpensAndMerges (fault_in result)
+    ensures opens { IsTrue (H.state host.new).honest → OpensAndAdopts (fault_in result)
         (H.state host.old).world (H.state host.new).world }
     ensures opened { Gives result (λ opened old new. IsOpened opened.database.records
         opened.lists.lists opened.diversions.ways.entries new) (H.state host.old)
         (H.state host.new) }
-    ensures followed { IfOk result (λ opened. Needs (H.state host.new)
-        (IsFollowed opened.lists.lists opened.diversions.ways)) }
+    ensures taken_up { Gives result (λ opened old new. IsTakenUp opened.database.records
+        opened.lists.lists opened.diversions.ways old new) (H.state host.old) (H.state host.new) }
     ensures number { IfOk result (λ opened. opened.database.notes ≡ 0) }
     ensures noting { IfOk result (λ opened. opened.database.closed ≡ false) }
     ensures listing { IfOk result (λ opened. opened.lists.closed ≡ false) }
     ensures writable { IfOk result (λ opened. opened.diversions.closed ≡ false) }
     ensures on_disk { OnOk result (IsOnDisk (H.state host.new).events) }
-    ensures any_moment { AtEachMoment IsOpeningOrMerging (H.state host.old) (H.state host.new) }
+    ensures any_moment { AtEachMoment IsOpeningOrAdopting (H.state host.old) (H.state host.new) }
     ensures silent { Silent (H.state host.old) (H.state host.new) }
     ensures counts { CountsAdministration (H.state host.old) (H.state host.new) result }
     ensures brought { AfterAStop (IsBrought result) (H.state host.old) (H.state host.new) }
 {
-    match open_followed(alloc, host) {
+    match open_adopted(alloc, host) {
         Ok(opened) => match host.barrier() {
             Ok(()) => Ok(opened),
             Err(fault) => Err(AdministrationFault::from(fault)),
@@ -87,25 +87,26 @@ pub(crate) fn closed_report(alloc: Global) -> Report
 }
 
 impl<H: Host> Session<H> {
-    /// Opens the administration of a host. The aliases of its root are read; units add to them. A
+    /// Opens the administration of a host. The aliases of its root are read; units add to them. Conffiles
+    /// that another program unpacked and didn't settle are taken up (`taken_up`). A
     /// refusal hands the host back; it and what was changed then are told by `refused`.
     pub fn open(alloc: Global, mut host: H) -> Result<Session<H>, (H, AdministrationFault)>
         ensures opened { IfOk result (λ s. Needs (H.state s.host)
             (IsOpened s.administration.database.records s.administration.lists.lists
             s.diversions.ways.entries)) }
-        ensures followed { IfOk result (λ s. Needs (H.state s.host)
-            (IsFollowed s.administration.lists.lists s.diversions.ways)) }
+        ensures taken_up { IfOk result (λ s. TakesUpAll s.administration.database.records
+            s.administration.lists.lists s.diversions.ways (H.state host) (H.state s.host)) }
         ensures number { IfOk result (λ s. s.administration.database.notes ≡ 0) }
         ensures opens { IfOk result (λ s. OpensAll None (H.state host) (H.state s.host)) }
         ensures refused { IfErr result (λ e. OpensAll (Some e.1) (H.state host) (H.state e.0)) }
-        ensures any_moment { IfOk result (λ s. AtEachMoment IsOpeningOrMerging (H.state host)
+        ensures any_moment { IfOk result (λ s. AtEachMoment IsOpeningOrAdopting (H.state host)
             (H.state s.host)) }
-        ensures any_moment_refused { IfErr result (λ e. AtEachMoment IsOpeningOrMerging
+        ensures any_moment_refused { IfErr result (λ e. AtEachMoment IsOpeningOrAdopting
             (H.state host) (H.state e.0)) }
         ensures loss { IfOk result
-            (λ s. LosesLikeAStop (λ so_far. IsOpeningOrMerging (H.state host).world) (H.state host)
+            (λ s. LosesLikeAStop (λ so_far. IsOpeningOrAdopting (H.state host).world) (H.state host)
             (H.state s.host)) }
-        ensures loss_refused { IfErr result (λ e. LosesLikeAStop (λ so_far. IsOpeningOrMerging
+        ensures loss_refused { IfErr result (λ e. LosesLikeAStop (λ so_far. IsOpeningOrAdopting
             (H.state host).world) (H.state host) (H.state e.0)) }
         ensures silent { IfOk result (λ s. Silent (H.state host) (H.state s.host)) }
         ensures silent_refused { IfErr result (λ e. Silent (H.state host) (H.state e.0)) }

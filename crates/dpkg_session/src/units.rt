@@ -15,6 +15,7 @@ ghost use Rattle.dpkg_session.specs.Units.{AnswersBoth, HasCalledDecided, HasCal
 
 use crate::displacing::{Behind, UnpackEnd, behind_of, unpack_whole};
 use crate::growing::follow_tree;
+use crate::overriding::unit_of_overridden;
 use crate::recorded::take_packages;
 use crate::refusal::decision_of;
 use crate::report::Candidate;
@@ -205,7 +206,7 @@ fn unpack_unit<H: Host>(
     }
 }
 
-// The unit of a package, the aliases above whose paths are known.
+// The unit of a package that has its accesses.
 fn decide_and_unpack<H: Host>(
     host: &mut H,
     administration: &mut Administration,
@@ -234,7 +235,14 @@ fn decide_and_unpack<H: Host>(
     ensures not_closed { IsBrokenBy Closed result.reply → ⊥ }
 {
     let alloc = administration.alloc;
-    match decision_of(alloc, &incoming, packages, diversions, auto_deconfigure) {
+    match decision_of(
+        alloc,
+        &incoming,
+        &administration.database,
+        packages,
+        diversions,
+        auto_deconfigure,
+    ) {
         Ok(Checked::Refused(rule)) => {
             return refused(alloc, rule, incoming.name);
         }
@@ -254,8 +262,8 @@ fn decide_and_unpack<H: Host>(
     }
 }
 
-// The same, once the packages of the records are known.
-fn unit_of_followed<H: Host>(
+/// The same, once the packages of the records are known.
+pub(crate) fn unit_of_followed<H: Host>(
     host: &mut H,
     administration: &mut Administration,
     diversions: &Diversions,
@@ -335,7 +343,7 @@ fn unit_of_package<H: Host>(
 {
     match follow_tree(host, administration, diversions, &incoming) {
         Ok(()) => {
-            return unit_of_followed(host, administration, diversions, incoming, auto_deconfigure);
+            return unit_of_overridden(host, administration, diversions, incoming, auto_deconfigure);
         }
         Err(fault) => {
             let alloc = administration.alloc;

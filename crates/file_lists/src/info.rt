@@ -5,6 +5,7 @@ ghost use Rattle.host_core.specs.Host.{Needs, Reads, Silent, Tells};
 ghost use Rattle.host_core.specs.Paths.{is_path};
 ghost use Rattle.host_core.specs.World.{kind_of};
 ghost use Rattle.host_core.specs.declared.node.Node.{Node as ANode};
+ghost use Rattle.host_overlay.specs.Seen.{AreSources, seen};
 ghost use Rattle.administration.specs.Directories.{HasBadName};
 ghost use Rattle.administration.specs.Fault.{CountsAdministration};
 ghost use Rattle.administration.specs.Places.{info_path};
@@ -20,6 +21,7 @@ use crate::reading::read_list;
 use crate::table::Table;
 use administration::{AdministrationFault, INFO};
 use host_core::{Host, Kind, Node, RootPath};
+use host_overlay::SeenNames;
 use std::alloc::{AllocError, Global};
 use std::collections::BTreeSet;
 use texts::Text;
@@ -113,19 +115,24 @@ fn read_node(alloc: Global, entry: &[u8], node: &Option<Node>) -> Result<Paths, 
 }
 
 // The names in the directory, all of which are text.
-fn entries_in<H: Host>(alloc: Global, host: &mut H) -> Result<BTreeSet<String>, AdministrationFault>
-    ensures entries { Tells result (λ set w. AreEntries w (contains_text set)) (H.state host.old)
+fn entries_in<H: Host>(
+    alloc: Global,
+    host: &mut H,
+    shown: &SeenNames,
+) -> Result<BTreeSet<String>, AdministrationFault>
+    requires sources { Needs (H.state host.old) (AreSources shown.now) }
+    ensures entries { Tells result (λ set w. AreEntries (seen shown.now w) (contains_text set)) (H.state host.old)
         (H.state host.new) }
-    ensures text { Tells result (λ set w. HasBadName w info_path → ⊥) (H.state host.old)
+    ensures text { Tells result (λ set w. HasBadName (seen shown.now w) info_path → ⊥) (H.state host.old)
         (H.state host.new) }
     ensures fault { IsTrue (H.state host.new).honest
-        → IfErr result (IsNameFault (H.state host.old).world) }
+        → IfErr result (IsNameFault (seen shown.now (H.state host.old).world)) }
     ensures reads { Reads (H.state host.old) (H.state host.new) }
     ensures silent { Silent (H.state host.old) (H.state host.new) }
     ensures counts { CountsAdministration (H.state host.old) (H.state host.new) result }
 {
     let info = RootPath::from_str(alloc, INFO)?;
-    let listing = host.list(&info)?;
+    let listing = shown.list(host, &info)?;
     if listing.bad {
         return Err(AdministrationFault::Damaged {
             file: info,
@@ -148,26 +155,27 @@ fn path_of(alloc: Global, entry: &str) -> Result<Option<RootPath>, AllocError>
 fn read_at<H: Host>(
     alloc: Global,
     host: &mut H,
+    shown: &SeenNames,
     entry: &str,
     file: RootPath,
 ) -> Result<Paths, AdministrationFault>
     requires { file ≡ entry_path entry.now }
-    ensures readable { Tells result (λ paths w. IsReadable (w (entry_path entry.now)))
+    ensures readable { Tells result (λ paths w. IsReadable (seen shown.now w (entry_path entry.now)))
         (H.state host.old) (H.state host.new) }
     ensures apart { Tells result
-        (λ paths w. IsSome (w (entry_path entry.now)) → is_foreign entry.now ≡ false)
+        (λ paths w. IsSome (seen shown.now w (entry_path entry.now)) → is_foreign entry.now ≡ false)
         (H.state host.old) (H.state host.new) }
     ensures paths { IfOk result AreListPaths }
     ensures lists { Tells result
-        (λ paths w. (q : List ℕ) → Contains paths q ↔ Lists (w (entry_path entry.now)) q)
+        (λ paths w. (q : List ℕ) → Contains paths q ↔ Lists (seen shown.now w (entry_path entry.now)) q)
         (H.state host.old) (H.state host.new) }
     ensures fault { IsTrue (H.state host.new).honest
-        → IfErr result (IsListFaultAt (H.state host.old).world entry.now) }
+        → IfErr result (IsListFaultAt (seen shown.now (H.state host.old).world) entry.now) }
     ensures reads { Reads (H.state host.old) (H.state host.new) }
     ensures silent { Silent (H.state host.old) (H.state host.new) }
     ensures counts { CountsAdministration (H.state host.old) (H.state host.new) result }
 {
-    let node = host.node(&file)?;
+    let node = shown.node(host, &file)?;
     match read_node(alloc, entry.as_bytes(), &node) {
         Ok(paths) => {
             return Ok(paths);
@@ -184,6 +192,7 @@ fn read_at<H: Host>(
 // Looks at what kind of node stands at the path of an entry that is no list.
 fn judge<H: Host>(
     host: &mut H,
+    shown: &SeenNames,
     table: &Table,
     entry: &str,
     file: RootPath,
@@ -192,14 +201,14 @@ fn judge<H: Host>(
     requires other { IsListOf (names_of table.now) entry.now → ⊥ }
     ensures sound { IsTrue (H.state host.new).honest
         → OnOk result
-        (IsSound (names_of table.now) entry.now ((H.state host.old).world (entry_path entry.now))) }
+        (IsSound (names_of table.now) entry.now (seen shown.now (H.state host.old).world (entry_path entry.now))) }
     ensures fault { IsTrue (H.state host.new).honest
-        → IfErr result (IsFaultAt (H.state host.old).world (names_of table.now) entry.now) }
+        → IfErr result (IsFaultAt (seen shown.now (H.state host.old).world) (names_of table.now) entry.now) }
     ensures reads { Reads (H.state host.old) (H.state host.new) }
     ensures silent { Silent (H.state host.old) (H.state host.new) }
     ensures counts { CountsAdministration (H.state host.old) (H.state host.new) result }
 {
-    let kind = host.kind(&file)?;
+    let kind = shown.kind(host, &file)?;
     if is_faulty(table, entry.as_bytes(), kind) {
         return Err(AdministrationFault::Damaged { file, line: 0 });
     }
@@ -210,18 +219,19 @@ fn judge<H: Host>(
 fn look_at<H: Host>(
     alloc: Global,
     host: &mut H,
+    shown: &SeenNames,
     table: &mut Table,
     entry: &str,
 ) -> Result<(), AdministrationFault>
     requires { Needs (H.state host.old) (λ w. is_path (entry_path entry.now) ≡ true) }
     ensures sound { IsTrue (H.state host.new).honest
         → OnOk result
-        (IsSound (names_of table.old) entry.now ((H.state host.old).world (entry_path entry.now))) }
+        (IsSound (names_of table.old) entry.now (seen shown.now (H.state host.old).world (entry_path entry.now))) }
     ensures taken { IsTrue (H.state host.new).honest
         → OnOk result
-        (HasTaken entry.now ((H.state host.old).world (entry_path entry.now)) table.old table.new) }
+        (HasTaken entry.now (seen shown.now (H.state host.old).world (entry_path entry.now)) table.old table.new) }
     ensures fault { IsTrue (H.state host.new).honest
-        → IfErr result (IsFaultAt (H.state host.old).world (names_of table.old) entry.now) }
+        → IfErr result (IsFaultAt (seen shown.now (H.state host.old).world) (names_of table.old) entry.now) }
     ensures reads { Reads (H.state host.old) (H.state host.new) }
     ensures silent { Silent (H.state host.old) (H.state host.new) }
     ensures counts { CountsAdministration (H.state host.old) (H.state host.new) result }
@@ -231,12 +241,12 @@ fn look_at<H: Host>(
     };
     match list_at(table, entry.as_bytes()) {
         Some(at) => {
-            let paths = read_at(alloc, host, entry, file)?;
+            let paths = read_at(alloc, host, shown, entry, file)?;
             table.set(at, paths);
             return Ok(());
         }
         None => {
-            return judge(host, table, entry, file);
+            return judge(host, shown, table, entry, file);
         }
     }
 }
@@ -245,25 +255,26 @@ fn look_at<H: Host>(
 fn look_at_all<H: Host>(
     alloc: Global,
     host: &mut H,
+    shown: &SeenNames,
     table: &mut Table,
     entries: &mut BTreeSet<String>,
 ) -> Result<(), AdministrationFault>
     requires { Needs (H.state host.old) (λ w. MakeEntryPaths (contains_text entries.old)) }
     ensures sound { IsTrue (H.state host.new).honest
         → OnOk result
-        (AreSoundAmong (H.state host.old).world (names_of table.old) (contains_text entries.old)) }
+        (AreSoundAmong (seen shown.now (H.state host.old).world) (names_of table.old) (contains_text entries.old)) }
     ensures taken { IsTrue (H.state host.new).honest
         → OnOk result
-        (HaveTaken (H.state host.old).world (contains_text entries.old) table.old table.new) }
+        (HaveTaken (seen shown.now (H.state host.old).world) (contains_text entries.old) table.old table.new) }
     ensures fault { IsTrue (H.state host.new).honest
         → IfErr result
-        (IsFaultAmong (H.state host.old).world (names_of table.old) (contains_text entries.old)) }
+        (IsFaultAmong (seen shown.now (H.state host.old).world) (names_of table.old) (contains_text entries.old)) }
     ensures reads { Reads (H.state host.old) (H.state host.new) }
     ensures silent { Silent (H.state host.old) (H.state host.new) }
     ensures counts { CountsAdministration (H.state host.old) (H.state host.new) result }
 {
     while let Some(entry) = entries.pop_first() {
-        look_at(alloc, host, table, entry.as_str())?;
+        look_at(alloc, host, shown, table, entry.as_str())?;
     }
     Ok(())
 }
@@ -272,22 +283,24 @@ fn look_at_all<H: Host>(
 pub(crate) fn read_info<H: Host>(
     alloc: Global,
     host: &mut H,
+    shown: &SeenNames,
     names: &[Text],
 ) -> Result<Table, AdministrationFault>
-    ensures lists { Tells result (λ table w. HasLists w names.now table) (H.state host.old)
+    requires sources { Needs (H.state host.old) (AreSources shown.now) }
+    ensures lists { Tells result (λ table w. HasLists (seen shown.now w) names.now table) (H.state host.old)
         (H.state host.new) }
-    ensures text { Tells result (λ table w. HasBadName w info_path → ⊥) (H.state host.old)
+    ensures text { Tells result (λ table w. HasBadName (seen shown.now w) info_path → ⊥) (H.state host.old)
         (H.state host.new) }
-    ensures sound { Tells result (λ table w. AreSound w names.now) (H.state host.old)
+    ensures sound { Tells result (λ table w. AreSound (seen shown.now w) names.now) (H.state host.old)
         (H.state host.new) }
     ensures damage { IsTrue (H.state host.new).honest
-        → IfErr result (IsInfoDamage (H.state host.old).world names.now) }
+        → IfErr result (IsInfoDamage (seen shown.now (H.state host.old).world) names.now) }
     ensures reads { Reads (H.state host.old) (H.state host.new) }
     ensures silent { Silent (H.state host.old) (H.state host.new) }
     ensures counts { CountsAdministration (H.state host.old) (H.state host.new) result }
 {
-    let mut entries = entries_in(alloc, host)?;
+    let mut entries = entries_in(alloc, host, shown)?;
     let mut table = Table::of_names(alloc, names)?;
-    look_at_all(alloc, host, &mut table, &mut entries)?;
+    look_at_all(alloc, host, shown, &mut table, &mut entries)?;
     Ok(table)
 }

@@ -2,6 +2,7 @@
 ghost use Rattle.std.specs.Prelude.{◌≡◌, ◌↔◌, ℕ, List, Contains, IfOk, OnOk, OnErr, IfErr, IfSome, IsErrOf, IsTrue, option_copied, true, false};
 ghost use Rattle.host_core.specs.Host.{AtEachMoment, Counts, Leaves, Needs, Reads, Silent, Tells};
 ghost use Rattle.texts.specs.PackageNames.{is_package_name};
+ghost use Rattle.host_overlay.specs.Seen.{AreSources, seen};
 ghost use Rattle.administration.specs.Files.{IsReplaced, IsReplacing};
 ghost use Rattle.administration.specs.Directories.{HasBadName};
 ghost use Rattle.administration.specs.Fault.{CountsAdministration};
@@ -33,6 +34,7 @@ use administration::AdministrationFault;
 use aliases::Aliases;
 use diversions::Diversions;
 use host_core::{Host, HostFault, Places, RootPath};
+use host_overlay::SeenNames;
 use std::alloc::{AllocError, Global};
 use std::marker::Model;
 use texts::Text;
@@ -78,7 +80,33 @@ impl FileLists {
         ensures silent { Silent (H.state host.old) (H.state host.new) }
         ensures counts { CountsAdministration (H.state host.old) (H.state host.new) result }
     {
-        let table = read_info(alloc, host, names)?;
+        let shown = SeenNames::none(alloc);
+        FileLists::open_seen(alloc, host, &shown, names)
+    }
+
+    /// The same of what is seen through these names, which is what a question has of names with an
+    /// architecture.
+    pub fn open_seen<H: Host>(
+        alloc: Global,
+        host: &mut H,
+        shown: &SeenNames,
+        names: &[Text],
+    ) -> Result<FileLists, AdministrationFault>
+        requires sources { Needs (H.state host.old) (AreSources shown.now) }
+        ensures lists { Tells result (λ f w. HasLists (seen shown.now w) names.now f.lists) (H.state host.old)
+            (H.state host.new) }
+        ensures opened { IfOk result (λ f. f.closed ≡ false) }
+        ensures text { Tells result (λ f w. HasBadName (seen shown.now w) info_path → ⊥) (H.state host.old)
+            (H.state host.new) }
+        ensures sound { Tells result (λ f w. AreSound (seen shown.now w) names.now) (H.state host.old)
+            (H.state host.new) }
+        ensures damage { IsTrue (H.state host.new).honest
+            → IfErr result (IsInfoDamage (seen shown.now (H.state host.old).world) names.now) }
+        ensures reads { Reads (H.state host.old) (H.state host.new) }
+        ensures silent { Silent (H.state host.old) (H.state host.new) }
+        ensures counts { CountsAdministration (H.state host.old) (H.state host.new) result }
+    {
+        let table = read_info(alloc, host, shown, names)?;
         Ok(FileLists {
             table,
             index: None,

@@ -6,6 +6,7 @@ pub mod Listings
 pub mod Steps
 pub mod Telling
 pub mod Sound
+pub mod SeenThrough
 pub mod Kept
 pub mod Failures
 pub mod Calls

@@ -3,6 +3,7 @@ pub mod Able
 pub mod Doings
 pub mod Failing
 pub mod Layers
+pub mod Seen
 pub mod Trees
 pub mod TreeLaws
 pub mod Looked

@@ -8,6 +8,9 @@
 //! made whole, or want memory and do nothing. A script call ends with exit status 0, or 1 where it was assumed to fail
 //! (`CallsAsAssumed`), and changes nothing. A path that was taken away doesn't show through from below, nor is an added name
 //! left out of a listing. `changes` tells all paths at which something else may stand than below.
+//!
+//! `SeenNames` are such changes of names alone, without a host: a host is looked at through them (`node`, `kind`, `list`), and
+//! is seen as if these steps had been made on it.
 #![tactic(auto)]
 
 mod changed_path;
@@ -17,6 +20,7 @@ mod failing;
 mod layer;
 mod looking;
 mod overlay;
+mod seen_names;
 mod standing;
 mod step;
 mod stored;
@@ -25,4 +29,5 @@ pub use changed_path::ChangedPath;
 pub use done::{DeviceStep, Done, Made};
 pub use failing::AssumedFailure;
 pub use overlay::Overlay;
+pub use seen_names::SeenNames;
 pub use stored::Stored;

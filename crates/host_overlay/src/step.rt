@@ -40,7 +40,11 @@ fn move_name(changes: &mut Changes, from: &RootPath, to: &RootPath) -> Result<()
     Ok(())
 }
 
-fn link_name(changes: &mut Changes, from: &RootPath, to: &RootPath) -> Result<(), AllocError>
+pub(crate) fn link_name(
+    changes: &mut Changes,
+    from: &RootPath,
+    to: &RootPath,
+) -> Result<(), AllocError>
     ensures ok { OnOk result (Becomes (HardLink from.now to.now) (get_by_text changes.old.map)
         (get_by_text changes.new.map)) }
     ensures err { OnErr result (get_by_text changes.new.map ≡ get_by_text changes.old.map) }

@@ -5,3 +5,5 @@ pub mod Formats
 pub mod Fits
 pub mod Conversion
 pub mod Stages
+pub mod Seeings
+pub mod Showings

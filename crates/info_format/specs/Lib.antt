@@ -5,3 +5,4 @@ pub mod Tests
 pub mod Steps
 pub mod Converting
 pub mod Stage
+pub mod Seeing

@@ -20,7 +20,7 @@ use host_core::{Host, HostFault, RootPath};
 use status_db::NotedDatabase;
 use std::alloc::Global;
 
-const FORMAT: &str = "/var/lib/dpkg/info/format";
+pub(crate) const FORMAT: &str = "/var/lib/dpkg/info/format";
 
 // What tells the format goes when all else is on the disk.
 fn leave_format<H: Host>(host: &mut H, format: &RootPath) -> Result<(), HostFault>
@@ -129,7 +129,7 @@ fn convert_long<H: Host>(
 }
 
 // In a format that isn't known, which is told where names have an architecture.
-fn pass_unknown<H: Host>(
+pub(crate) fn pass_unknown<H: Host>(
     host: &mut H,
     pairs: &[Pair],
     format: &RootPath,

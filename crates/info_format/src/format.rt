@@ -106,7 +106,7 @@ pub(crate) fn is_there<H: Host>(host: &mut H, path: &RootPath) -> Result<bool, H
     Ok(is_some_kind(kind))
 }
 
-fn is_some_kind(kind: Option<Kind>) -> bool
+pub(crate) fn is_some_kind(kind: Option<Kind>) -> bool
     ensures { (node : Option ANode) → kind ≡ kind_of node → result ≡ is_some node }
 {
     match kind {

@@ -16,6 +16,9 @@
 //!
 //! Names of packages that aren't recorded with that architecture are left alone. `bring_names` is
 //! the stage of an opening: where no name has a colon and `format` isn't there it only looks.
+//!
+//! `see_names` does the same in memory, for a question: the host is only looked at, and what is seen
+//! through the names that it gives is what an opening would make of it (`through`, specs/Seeing).
 #![tactic(auto)]
 
 mod bringing;
@@ -24,8 +27,11 @@ mod format;
 mod laws;
 mod naming;
 mod pairs;
+mod seeing;
+mod shown;
 mod stage;
 
 pub use bringing::convert;
 pub use laws::a_stopped_conversion_goes_on;
+pub use shown::see_names;
 pub use stage::bring_names;

@@ -36,7 +36,7 @@ fn are_plain(entries: &[Text]) -> bool
 }
 
 // Whether there may be such names.
-fn has_named<H: Host>(host: &mut H, info: &RootPath) -> Result<bool, HostFault>
+pub(crate) fn has_named<H: Host>(host: &mut H, info: &RootPath) -> Result<bool, HostFault>
     requires { info.now ≡ info_path }
     ensures looks { Looks result (λ named w. named ≡ false → IsPlain w) (H.state host.old)
         (H.state host.new) }
@@ -66,7 +66,7 @@ fn convert_recorded<H: Host>(alloc: Global, host: &mut H) -> Result<(), Administ
 }
 
 // Whether a directory stands there.
-fn is_directory<H: Host>(host: &mut H, path: &RootPath) -> Result<bool, HostFault>
+pub(crate) fn is_directory<H: Host>(host: &mut H, path: &RootPath) -> Result<bool, HostFault>
     ensures looks { Looks result
         (λ there w. MatchBool there (IsDirectory (w path.now)) (NoDirectory (w path.now)))
         (H.state host.old) (H.state host.new) }

@@ -5,21 +5,18 @@ use Rattle.std.proofs.lemmas.Bool.{true≢false}
 use Rattle.std.specs.List.{AllByRecursion}
 use Rattle.host_core.specs.Host.{Needs, State, Tells}
 use Rattle.host_core.specs.World.{World}
-use Rattle.administration.specs.Directories.{HasBadName}
-use Rattle.administration.specs.Places.{info_path}
 use Rattle.administration.specs.declared.fault.AdministrationFault.{AdministrationFault}
 use Rattle.administration.specs.declared.fault.AdministrationFault.TheVariants.{Damaged, Device, NoMemory, Declined}
 use Rattle.diversions.specs.Diverted.{Diverted}
 use Rattle.diversions.specs.Lines.{HasDiversions, IsDiversionsDamage}
-use Rattle.file_lists.specs.Info.{AreSound, IsInfoDamage}
 use Rattle.file_lists.specs.Owners.{paths_of}
 use Rattle.opening.proofs.Finding.{finds_before, finds_behind}
-use Rattle.opening.specs.Parts.{Part, Root, Records, Info, Diversions, Finds, IsDamage, IsFine, IsTable, Opens, fault_in, names_of}
+use Rattle.opening.specs.Parts.{Part, Root, Records, Diversions, Finds, IsDamage, IsFine, IsTable, Opens, fault_in, names_of}
 use Rattle.status_db.specs.NoteDamage.{AreNotesFine, IsRecordsDamage}
 use Rattle.queries.specs.Files.{files_text, listing_text}
 use Rattle.status_records.specs.Records.{record_in}
 use Rattle.status_records.specs.declared.record.Record.{Record}
-use Rattle.inquiries.specs.Read.{IsFilesDamage, all_parts, records_parts}
+use Rattle.inquiries.specs.Read.{AreListsDamaged, AreListsFine, FindsAll, FindsLists, FindsRest, IsFilesDamage, records_parts}
 
 -- what was told of the world before is so behind it
 pub needs_told : {T E : Type 0} (result : Result T E) (P : T → World → Type 0) (old new : State) → new.world ≡ old.world → Tells result P old new → IfOk result (λ x. Needs new (P x))
@@ -50,17 +47,7 @@ records_stop given result u v is same opens damage =
 pub records_fine : (table : List Record) (u v : World) → v ≡ u → Opens (Root ∷ []) None u v → AreNotesFine v → IsTable v table → AllByRecursion (IsFine u) records_parts
 records_fine table u v same opens notes is = ((root_fine u v same opens).0, ((subst AreNotesFine same notes, (table, subst (λ w. IsTable w table) same is)), tt))
 
-info_faulty : (table : List Record) (w : World) (fault : AdministrationFault) → IsTable w table → IsInfoDamage w (names_of table) fault → IsDamage (Info ∷ []) w fault
-info_faulty table w (Damaged file line) is damage = inl (table, is, damage)
-info_faulty table w Device is damage = tt
-info_faulty table w NoMemory is damage = tt
-info_faulty table w Declined is damage = tt
-
-pub info_finds : {T : Type 0} (result : Result T AdministrationFault) (table : List Record) (w : World) → IsTable w table → IfOk result (λ k. HasBadName w info_path → ⊥) → IfOk result (λ k. AreSound w (names_of table)) → IfErr result (IsInfoDamage w (names_of table)) → Finds (Info ∷ []) w (fault_in result)
-info_finds (Ok x) table w is text sound damage = (record { table = table; is_table = is; text = text; sound = sound }, tt)
-info_finds (Err fault) table w is text sound damage = info_faulty table w fault is damage
-
-diversions_faulty : (w : World) (fault : AdministrationFault) → IsDiversionsDamage w fault → IsDamage (Diversions ∷ []) w fault
+pub diversions_faulty : (w : World) (fault : AdministrationFault) → IsDiversionsDamage w fault → IsDamage (Diversions ∷ []) w fault
 diversions_faulty w (Damaged file line) damage = inl damage
 diversions_faulty w Device damage = tt
 diversions_faulty w NoMemory damage = tt
@@ -75,10 +62,29 @@ pub diversions_stop : {T : Type 0} (among : List Part) (given : AdministrationFa
 diversions_stop among given result u v is same fine damage =
     passed (among ++ Diversions ∷ []) given result u is (diversions_finds among (Err given) u v same fine tt damage)
 
--- the lists and diversions behind the records
-pub rest_stop : {T : Type 0} (given : AdministrationFault) (result : Result T AdministrationFault) (u v : World) → IsErrAnd result (λ e. e ≡ given) → v ≡ u → AllByRecursion (IsFine u) records_parts → IsDamage (Info ∷ Diversions ∷ []) v given → Finds all_parts u (fault_in result)
-rest_stop given result u v is same fine damage =
-    passed all_parts given result u is (finds_behind records_parts (Info ∷ Diversions ∷ []) u (Some given) fine (subst (λ w. IsDamage (Info ∷ Diversions ∷ []) w given) same damage))
+-- the diversions behind lists that are fine
+pub rest_found : {T : Type 0} (result : Result T AdministrationFault) (names : List (List ℕ)) (u v : World) → v ≡ u → AreListsFine u names → Finds (Diversions ∷ []) v (fault_in result) → FindsRest names u (fault_in result)
+rest_found (Ok x) names u v same fine found = (fine, subst (λ w. AllByRecursion (IsFine w) (Diversions ∷ [])) same found)
+rest_found (Err fault) names u v same fine found = inr (fine, subst (λ w. IsDamage (Diversions ∷ []) w fault) same found)
+
+-- and both behind the records
+pub behind_found : {T : Type 0} (result : Result T AdministrationFault) (table : List Record) (u v : World) → v ≡ u → AllByRecursion (IsFine u) records_parts → IsTable v table → FindsRest (names_of table) v (fault_in result) → FindsAll u (fault_in result)
+behind_found (Ok x) table u v same fine is found = record { fine = fine; table = table; is_table = subst (λ w. IsTable w table) same is; rest = subst (λ w. FindsRest (names_of table) w None) same found }
+behind_found (Err fault) table u v same fine is found = inr record { fine = fine; table = table; is_table = subst (λ w. IsTable w table) same is; rest = subst (λ w. FindsRest (names_of table) w (Some fault)) same found }
+
+-- want of memory is none of them
+pub lists_memory : {T : Type 0} (result : Result T AdministrationFault) (names : List (List ℕ)) (w : World) → IsErrAnd result (λ e. e ≡ NoMemory) → FindsLists names w (fault_in result)
+lists_memory (Ok x) names w told = absurd told
+lists_memory (Err fault) names w is = subst (AreListsDamaged w names) (sym is) (inl tt)
+
+pub all_memory : {T : Type 0} (result : Result T AdministrationFault) (w : World) → IsErrAnd result (λ e. e ≡ NoMemory) → FindsAll w (fault_in result)
+all_memory (Ok x) w told = absurd told
+all_memory (Err fault) w is = inl (subst (IsDamage records_parts w) (sym is) tt)
+
+-- why lists can't be read
+pub lists_damaged : {T : Type 0} (result : Result T AdministrationFault) (names : List (List ℕ)) (w : World) → FindsLists names w (fault_in result) → IfErr result (AreListsDamaged w names)
+lists_damaged (Ok x) names w found = tt
+lists_damaged (Err fault) names w found = found
 
 -- a package with a record, and one without
 pub some_recorded : (found : Option (Bor Record)) (asked : Option Record) → option_copied found ≡ asked → is_some found ≡ true → IsSome asked
@@ -94,12 +100,12 @@ no_files table name none = sym (ap (option_map (λ r. listing_text (paths_of [] 
 
 -- the one list that a package has
 pub list_stop : {T : Type 0} (name : List ℕ) (given : AdministrationFault) (result : Result T AdministrationFault) (table : List Record) (u v : World) → IsErrAnd result (λ e. e ≡ given) → v ≡ u
-    → AllByRecursion (IsFine u) records_parts → IsTable v table → IsSome (record_in table name) → IsInfoDamage v (name ∷ []) given → IfErr result (IsFilesDamage name u)
+    → AllByRecursion (IsFine u) records_parts → IsTable v table → IsSome (record_in table name) → AreListsDamaged v (name ∷ []) given → IfErr result (IsFilesDamage name u)
 list_stop name given (Ok x) table u v told same fine is some damage = absurd told
 list_stop name given (Err fault) table u v told same fine is some damage = inr record {
   fine = fine;
   table = table;
   is_table = subst (λ w. IsTable w table) same is;
   recorded = some;
-  info = subst (IsInfoDamage u (name ∷ [])) (sym told) (subst (λ w. IsInfoDamage w (name ∷ []) given) same damage);
+  lists = subst (AreListsDamaged u (name ∷ [])) (sym told) (subst (λ w. AreListsDamaged w (name ∷ []) given) same damage);
 }

@@ -2,17 +2,18 @@
 ghost use Rattle.std.specs.Prelude.{◌≡◌, ◌∷◌, [], IsTrue, IfErr, IfOk};
 ghost use Rattle.host_core.specs.Host.{Counts, Needs, Reads, Silent};
 ghost use Rattle.administration.specs.Fault.{CountsAdministration};
-ghost use Rattle.file_lists.specs.Info.{IsInfoDamage};
-ghost use Rattle.file_lists.specs.Lists.{HasLists};
-ghost use Rattle.opening.specs.Parts.{Finds, fault_in};
-ghost use Rattle.inquiries.specs.Read.{AreFiles, HasFollowed, IsAudit, IsFilesDamage, IsSearch, all_parts};
+ghost use Rattle.host_overlay.specs.Seen.{seen};
+ghost use Rattle.opening.specs.Parts.{IsTable, fault_in};
+ghost use Rattle.inquiries.specs.Read.{AreFiles, AreListsDamaged, FindsAll, HasFollowed, HasSeenLists, IsAudit, IsFilesDamage, IsSearch};
 
-use crate::reading::{read_all, read_followed, read_records};
+use crate::reading::{SeenAll, read_all, read_followed, read_records, read_seen};
 use administration::AdministrationFault;
 use file_lists::FileLists;
 use host_core::{Host, HostFault, RootPath};
+use host_overlay::SeenNames;
 use opening::Opened;
 use queries::{audit_text, files_text, search_text};
+use status_db::NotedDatabase;
 use std::alloc::Global;
 use texts::{Bytes, Text, Texts};
 
@@ -20,19 +21,22 @@ use texts::{Bytes, Text, Texts};
 fn read_list<H: Host>(
     alloc: Global,
     host: &mut H,
+    database: &NotedDatabase,
     name: &Text,
-) -> Result<FileLists, AdministrationFault>
+) -> Result<(FileLists, SeenNames), AdministrationFault>
+    requires { Needs (H.state host.old) (λ w. IsTable w database.now.records) }
     ensures lists { IfOk result
-        (λ f. Needs (H.state host.new) (λ w. HasLists w (name.now ∷ []) f.lists)) }
+        (λ read. Needs (H.state host.new)
+        (HasSeenLists (name.now ∷ []) read.0.lists (seen read.1))) }
     ensures damage { IsTrue (H.state host.new).honest
-        → IfErr result (IsInfoDamage (H.state host.old).world (name.now ∷ [])) }
+        → IfErr result (AreListsDamaged (H.state host.old).world (name.now ∷ [])) }
     ensures reads { Reads (H.state host.old) (H.state host.new) }
     ensures silent { Silent (H.state host.old) (H.state host.new) }
     ensures counts { CountsAdministration (H.state host.old) (H.state host.new) result }
 {
     let mut names = Texts::new(alloc);
     names.push(name.copy()?)?;
-    FileLists::open(alloc, host, names.as_slice())
+    read_seen(alloc, host, database, names.as_slice())
 }
 
 /// The paths that a package lists; none where it has no record.
@@ -52,7 +56,7 @@ pub fn list_files<H: Host>(
     if database.get(name).is_none() {
         return Ok(None);
     }
-    let lists = read_list(alloc, host, name)?;
+    let (lists, _shown) = read_list(alloc, host, &database, name)?;
     let text = files_text(alloc, &database, &lists, name)?;
     Ok(text)
 }
@@ -61,11 +65,12 @@ pub fn list_files<H: Host>(
 fn search_read<H: Host>(
     alloc: Global,
     host: &mut H,
-    all: Opened,
+    all: SeenAll,
     path: &RootPath,
 ) -> Result<Bytes, HostFault>
     requires held { Needs (H.state host.old)
-        (HasFollowed all.database.records all.lists.lists all.diversions.ways) }
+        (HasFollowed all.opened.database.records all.opened.lists.lists
+        all.opened.diversions.ways (seen all.shown)) }
     ensures told { IfOk result (IsSearch path.now (H.state host.new)) }
     ensures reads { Reads (H.state host.old) (H.state host.new) }
     ensures silent { Silent (H.state host.old) (H.state host.new) }
@@ -75,7 +80,7 @@ fn search_read<H: Host>(
         database: _database,
         lists,
         mut diversions,
-    } = all;
+    } = all.opened;
     diversions.read_above(host, path)?;
     let place = diversions.resolve(path)?;
     let text = search_text(alloc, &lists, &diversions, &place)?;
@@ -90,7 +95,7 @@ pub fn search<H: Host>(
 ) -> Result<Bytes, AdministrationFault>
     ensures told { IfOk result (IsSearch path.now (H.state host.new)) }
     ensures finds { IsTrue (H.state host.new).honest
-        → Finds all_parts (H.state host.old).world (fault_in result) }
+        → FindsAll (H.state host.old).world (fault_in result) }
     ensures reads { Reads (H.state host.old) (H.state host.new) }
     ensures silent { Silent (H.state host.old) (H.state host.new) }
     ensures counts { CountsAdministration (H.state host.old) (H.state host.new) result }
@@ -108,12 +113,12 @@ pub fn search<H: Host>(
 pub fn audit<H: Host>(alloc: Global, host: &mut H) -> Result<Bytes, AdministrationFault>
     ensures told { IfOk result (IsAudit (H.state host.new)) }
     ensures finds { IsTrue (H.state host.new).honest
-        → Finds all_parts (H.state host.old).world (fault_in result) }
+        → FindsAll (H.state host.old).world (fault_in result) }
     ensures reads { Reads (H.state host.old) (H.state host.new) }
     ensures silent { Silent (H.state host.old) (H.state host.new) }
     ensures counts { CountsAdministration (H.state host.old) (H.state host.new) result }
 {
     let all = read_all(alloc, host)?;
-    let text = audit_text(alloc, &all.database)?;
+    let text = audit_text(alloc, &all.opened.database)?;
     Ok(text)
 }

@@ -6,7 +6,8 @@
 //! `silent`); its text is the one that queries defines over the records, lists and diversions that
 //! stand there (`told`). `list` and `status` read the records, with the notes; `list_files` the
 //! records, and where the package has one, its list alone; `search` and `audit` the records, all
-//! lists and the diversions; `truename` and `list_diversions` the diversions. `search` and
+//! lists and the diversions (lists as a command's opening would find them, where names in `info/`
+//! have an architecture: `IsSeenAs`); `truename` and `list_diversions` the diversions. `search` and
 //! `truename` go by places, with the aliases of the root above the path that is asked for, those
 //! that diversions name, and for `search` all listed ones. Damage is told of the first of these that
 //! can't be read, behind a look whether the root is a directory, and of nothing else (`finds`); a
@@ -14,7 +15,7 @@
 //!
 //! What is proved of an answer is so of a root that nobody changes meanwhile. `Glance::take` tells
 //! what a command would change (`IsGlance`: what stands at `status`, the names in `updates/`, and
-//! for an audit those in `info/`), and `is_same` compares two of them: what differs is told
+//! where lists are read those in `info/`), and `is_same` compares two of them: what differs is told
 //! (`exact`), and two glances at one world are the same (`same`).
 #![tactic(auto)]
 
@@ -27,5 +28,5 @@ mod records;
 pub use files::{audit, list_files, search};
 pub use glance::Glance;
 pub use places::{list_diversions, truename};
-pub use reading::{read_all, read_followed};
+pub use reading::{SeenAll, read_all, read_followed};
 pub use records::{list, status};

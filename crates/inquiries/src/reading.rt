@@ -4,18 +4,22 @@ ghost use Rattle.host_core.specs.Host.{Counts, Leaves, Needs, Reads, Silent};
 ghost use Rattle.administration.specs.Fault.{CountsAdministration};
 ghost use Rattle.aliases.specs.Reading.{AreAliasesIn};
 ghost use Rattle.diversions.specs.Lines.{HasDiversions};
-ghost use Rattle.file_lists.specs.Lists.{HasLists};
+ghost use Rattle.host_overlay.specs.Seen.{seen};
+ghost use Rattle.info_format.specs.Seeing.{IsSeenThrough};
 ghost use Rattle.opening.specs.Followed.{AreWhole, diverted_paths};
-ghost use Rattle.opening.specs.Parts.{Diversions as ItsDiversions, Finds, Info, IsTable, fault_in, names_of};
-ghost use Rattle.inquiries.specs.Read.{all_parts, diversions_parts, HasAll, HasFollowed, HasRest, HasWays, records_parts};
+ghost use Rattle.opening.specs.Parts.{Diversions as ItsDiversions, Finds, IsDamaged, IsTable, fault_in, names_of};
+ghost use Rattle.inquiries.specs.Read.{diversions_parts, FindsAll, FindsLists, FindsRest, HasAll, HasFollowed, HasSeenLists, HasWays, records_parts};
 
 use administration::AdministrationFault;
 use diversions::Diversions;
 use file_lists::FileLists;
 use host_core::{Host, HostFault, RootPath};
+use host_overlay::SeenNames;
+use info_format::see_names;
 use opening::{Opened, add_diverted, check_root, follow, names_of, read_above_each};
 use status_db::NotedDatabase;
 use std::alloc::Global;
+use texts::Text;
 
 /// The records, with the notes.
 pub(crate) fn read_records<H: Host>(
@@ -35,24 +39,75 @@ pub(crate) fn read_records<H: Host>(
     Ok(database)
 }
 
-// The lists of recorded packages.
+/// What a question about all packages' files read, and how it sees the names in `info/`.
+#[derive(Drop)]
+pub struct SeenAll {
+    pub opened: Opened,
+    pub shown: SeenNames,
+}
+
+// The lists of packages, through names.
+fn open_seen<H: Host>(
+    alloc: Global,
+    host: &mut H,
+    shown: SeenNames,
+    names: &[Text],
+) -> Result<(FileLists, SeenNames), AdministrationFault>
+    requires through { Needs (H.state host.old) (λ w. IsSeenThrough w shown) }
+    ensures finds { IsTrue (H.state host.new).honest
+        → FindsLists names.now (H.state host.old).world (fault_in result) }
+    ensures lists { IfOk result (λ read. Needs (H.state host.new)
+        (HasSeenLists names.now read.0.lists (seen read.1))) }
+    ensures reads { Reads (H.state host.old) (H.state host.new) }
+    ensures silent { Silent (H.state host.old) (H.state host.new) }
+    ensures counts { CountsAdministration (H.state host.old) (H.state host.new) result }
+{
+    match FileLists::open_seen(alloc, host, &shown, names) {
+        Ok(lists) => Ok((lists, shown)),
+        Err(fault) => Err(fault),
+    }
+}
+
+/// The lists of packages, as a command's opening would find them.
+pub(crate) fn read_seen<H: Host>(
+    alloc: Global,
+    host: &mut H,
+    database: &NotedDatabase,
+    names: &[Text],
+) -> Result<(FileLists, SeenNames), AdministrationFault>
+    requires { Needs (H.state host.old) (λ w. IsTable w database.now.records) }
+    ensures finds { IsTrue (H.state host.new).honest
+        → FindsLists names.now (H.state host.old).world (fault_in result) }
+    ensures lists { IfOk result (λ read. Needs (H.state host.new)
+        (HasSeenLists names.now read.0.lists (seen read.1))) }
+    ensures reads { Reads (H.state host.old) (H.state host.new) }
+    ensures silent { Silent (H.state host.old) (H.state host.new) }
+    ensures counts { CountsAdministration (H.state host.old) (H.state host.new) result }
+{
+    match see_names(alloc, host, database) {
+        Ok(shown) => open_seen(alloc, host, shown, names),
+        Err(fault) => Err(fault),
+    }
+}
+
+// Those of recorded packages.
 fn read_lists<H: Host>(
     alloc: Global,
     host: &mut H,
     database: &NotedDatabase,
-) -> Result<FileLists, AdministrationFault>
+) -> Result<(FileLists, SeenNames), AdministrationFault>
     requires { Needs (H.state host.old) (λ w. IsTable w database.now.records) }
     ensures finds { IsTrue (H.state host.new).honest
-        → Finds (Info ∷ []) (H.state host.old).world (fault_in result) }
-    ensures lists { IfOk result
-        (λ f. Needs (H.state host.new)
-        (λ w. HasLists w (names_of database.now.records) f.lists)) }
+        → FindsLists (names_of database.now.records) (H.state host.old).world
+        (fault_in result) }
+    ensures lists { IfOk result (λ read. Needs (H.state host.new)
+        (HasSeenLists (names_of database.now.records) read.0.lists (seen read.1))) }
     ensures reads { Reads (H.state host.old) (H.state host.new) }
     ensures silent { Silent (H.state host.old) (H.state host.new) }
     ensures counts { CountsAdministration (H.state host.old) (H.state host.new) result }
 {
     let names = names_of(alloc, database.records())?;
-    FileLists::open(alloc, host, names.as_slice())
+    read_seen(alloc, host, database, names.as_slice())
 }
 
 /// The diversions.
@@ -73,62 +128,119 @@ pub(crate) fn read_diversions<H: Host>(
     Diversions::open(alloc, host)
 }
 
-// The lists of recorded packages, and the diversions.
+// Adds the diversions.
+fn read_behind<H: Host>(
+    alloc: Global,
+    host: &mut H,
+    database: NotedDatabase,
+    lists: FileLists,
+    shown: SeenNames,
+) -> Result<SeenAll, AdministrationFault>
+    requires table { Needs (H.state host.old) (λ w. IsTable w database.records) }
+    requires lists { Needs (H.state host.old)
+        (HasSeenLists (names_of database.records) lists.lists (seen shown)) }
+    ensures finds { IsTrue (H.state host.new).honest
+        → Finds (ItsDiversions ∷ []) (H.state host.old).world (fault_in result) }
+    ensures held { IfOk result (λ all. Needs (H.state host.new)
+        (HasAll all.opened.database.records all.opened.lists.lists
+        all.opened.diversions.ways.entries (seen all.shown))) }
+    ensures bare { IfOk result (λ all. all.opened.diversions.ways.aliases ≡ []) }
+    ensures reads { Reads (H.state host.old) (H.state host.new) }
+    ensures silent { Silent (H.state host.old) (H.state host.new) }
+    ensures counts { CountsAdministration (H.state host.old) (H.state host.new) result }
+{
+    match Diversions::open(alloc, host) {
+        Ok(diversions) => Ok(SeenAll {
+            opened: Opened {
+                database,
+                lists,
+                diversions,
+            },
+            shown,
+        }),
+        Err(fault) => Err(fault),
+    }
+}
+
+// Adds the lists and the diversions.
 fn read_rest<H: Host>(
     alloc: Global,
     host: &mut H,
-    database: &NotedDatabase,
-) -> Result<(FileLists, Diversions), AdministrationFault>
-    requires { Needs (H.state host.old) (λ w. IsTable w database.now.records) }
+    database: NotedDatabase,
+) -> Result<SeenAll, AdministrationFault>
+    requires { Needs (H.state host.old) (λ w. IsTable w database.records) }
     ensures finds { IsTrue (H.state host.new).honest
-        → Finds (Info ∷ ItsDiversions ∷ []) (H.state host.old).world (fault_in result) }
-    ensures held { IfOk result
-        (λ read. Needs (H.state host.new)
-        (HasRest (names_of database.now.records) read.0.lists read.1.ways.entries)) }
-    ensures bare { IfOk result (λ read. read.1.ways.aliases ≡ []) }
+        → FindsRest (names_of database.records) (H.state host.old).world (fault_in result) }
+    ensures held { IfOk result (λ all. Needs (H.state host.new)
+        (HasAll all.opened.database.records all.opened.lists.lists
+        all.opened.diversions.ways.entries (seen all.shown))) }
+    ensures bare { IfOk result (λ all. all.opened.diversions.ways.aliases ≡ []) }
     ensures reads { Reads (H.state host.old) (H.state host.new) }
     ensures silent { Silent (H.state host.old) (H.state host.new) }
     ensures counts { CountsAdministration (H.state host.old) (H.state host.new) result }
 {
-    let lists = read_lists(alloc, host, database)?;
-    let diversions = Diversions::open(alloc, host)?;
-    Ok((lists, diversions))
+    match read_lists(alloc, host, &database) {
+        Ok((lists, shown)) => read_behind(alloc, host, database, lists, shown),
+        Err(fault) => Err(fault),
+    }
 }
 
 /// The records, all lists and the diversions.
-pub fn read_all<H: Host>(alloc: Global, host: &mut H) -> Result<Opened, AdministrationFault>
+pub fn read_all<H: Host>(alloc: Global, host: &mut H) -> Result<SeenAll, AdministrationFault>
     ensures finds { IsTrue (H.state host.new).honest
-        → Finds all_parts (H.state host.old).world (fault_in result) }
-    ensures held { IfOk result
-        (λ all. Needs (H.state host.new)
-        (HasAll all.database.records all.lists.lists all.diversions.ways.entries)) }
-    ensures bare { IfOk result (λ all. all.diversions.ways.aliases ≡ []) }
+        → FindsAll (H.state host.old).world (fault_in result) }
+    ensures held { IfOk result (λ all. Needs (H.state host.new)
+        (HasAll all.opened.database.records all.opened.lists.lists
+        all.opened.diversions.ways.entries (seen all.shown))) }
+    ensures bare { IfOk result (λ all. all.opened.diversions.ways.aliases ≡ []) }
     ensures reads { Reads (H.state host.old) (H.state host.new) }
     ensures silent { Silent (H.state host.old) (H.state host.new) }
     ensures counts { CountsAdministration (H.state host.old) (H.state host.new) result }
 {
-    let database = read_records(alloc, host)?;
-    let (lists, diversions) = read_rest(alloc, host, &database)?;
-    Ok(Opened {
-        database,
-        lists,
-        diversions,
-    })
+    match read_records(alloc, host) {
+        Ok(database) => read_rest(alloc, host, database),
+        Err(fault) => Err(fault),
+    }
+}
+
+// Adds the aliases of the root.
+fn follow_seen<H: Host>(
+    alloc: Global,
+    host: &mut H,
+    all: SeenAll,
+) -> Result<SeenAll, AdministrationFault>
+    requires bare { all.opened.diversions.ways.aliases ≡ [] }
+    requires held { Needs (H.state host.old)
+        (HasAll all.opened.database.records all.opened.lists.lists
+        all.opened.diversions.ways.entries (seen all.shown)) }
+    ensures held { IfOk result (λ all. Needs (H.state host.new)
+        (HasFollowed all.opened.database.records all.opened.lists.lists
+        all.opened.diversions.ways (seen all.shown))) }
+    ensures sound { IsDamaged (fault_in result) → ⊥ }
+    ensures reads { Reads (H.state host.old) (H.state host.new) }
+    ensures silent { Silent (H.state host.old) (H.state host.new) }
+    ensures counts { CountsAdministration (H.state host.old) (H.state host.new) result }
+{
+    let SeenAll { opened, shown } = all;
+    match follow(alloc, host, opened) {
+        Ok(opened) => Ok(SeenAll { opened, shown }),
+        Err(fault) => Err(fault),
+    }
 }
 
 /// The same, with the aliases of the root.
-pub fn read_followed<H: Host>(alloc: Global, host: &mut H) -> Result<Opened, AdministrationFault>
+pub fn read_followed<H: Host>(alloc: Global, host: &mut H) -> Result<SeenAll, AdministrationFault>
     ensures finds { IsTrue (H.state host.new).honest
-        → Finds all_parts (H.state host.old).world (fault_in result) }
-    ensures held { IfOk result
-        (λ all. Needs (H.state host.new)
-        (HasFollowed all.database.records all.lists.lists all.diversions.ways)) }
+        → FindsAll (H.state host.old).world (fault_in result) }
+    ensures held { IfOk result (λ all. Needs (H.state host.new)
+        (HasFollowed all.opened.database.records all.opened.lists.lists
+        all.opened.diversions.ways (seen all.shown))) }
     ensures reads { Reads (H.state host.old) (H.state host.new) }
     ensures silent { Silent (H.state host.old) (H.state host.new) }
     ensures counts { CountsAdministration (H.state host.old) (H.state host.new) result }
 {
     match read_all(alloc, host) {
-        Ok(all) => follow(alloc, host, all),
+        Ok(all) => follow_seen(alloc, host, all),
         Err(fault) => Err(fault),
     }
 }

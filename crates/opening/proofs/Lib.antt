@@ -8,3 +8,4 @@ pub mod Reopened
 pub mod Brought
 pub mod KeptLists
 pub mod Followed
+pub mod TakingUp

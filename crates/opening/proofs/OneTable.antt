@@ -1,5 +1,5 @@
 -- A status file with its notes stands for one table, and then none of its lines is faulty.
-use Rattle.std.proofs.Common.{◌≡◌, ◌<◌, inl, inr, zero, suc, arith, ℕ, List, [], ◌∷◌, ◌++◌, Option, Some, None, refl, sym, ap, subst, ◌∙◌, codes}
+use Rattle.std.proofs.Common.{◌≡◌, ◌<◌, inl, inr, zero, suc, arith, ℕ, List, [], ◌∷◌, ◌++◌, Option, Some, None, is_some, Bool, true, refl, sym, ap, subst, ◌∙◌, codes}
 use Rattle.std.specs.List.{AllByRecursion, list_any}
 use Rattle.std.specs.Option.{option_to_list}
 use Rattle.std.specs.Str.{bytes_eq}
@@ -19,15 +19,19 @@ use Rattle.control_fields.specs.declared.fault.ControlFault.{ControlFault}
 use Rattle.control_fields.proofs.Once.{reads_once, not_stuck}
 use Rattle.status_records.specs.declared.record.Record.{Record}
 use Rattle.status_records.specs.Records.{record_in, standing}
-use Rattle.status_records.specs.Paragraphs.{field_in, Says, IsGone, IsRecordOf, SaysEntry, IsEntry, Enters}
-use Rattle.status_records.specs.Damage.{IsMissing, IsFaultyEntry, IsFaultOf, IsFirstFault}
+use Rattle.status_records.specs.Paragraphs.{field_in, record_word, Says, IsGone, IsRecordOf, SaysEntry, IsEntry, Enters}
+use Rattle.status_records.specs.Words.{agrees, disagrees, is_not_installed, state_of}
+use Rattle.status_records.specs.declared.words.StateWord.{StateWord}
+use Rattle.status_records.specs.declared.words.StateWord.TheVariants.{NotInstalled}
+use Rattle.status_records.specs.Damage.{AreAmiss, IsMissing, IsFaultyEntry, IsFaultOf, IsFirstFault}
 use Rattle.status_db.specs.Held.{HasRecords, Holds}
 use Rattle.status_db.specs.NoteDamage.{AreNotesFine, AreNotesDamaged, AreRecordsDamaged, IsFaultyNote, IsFaultyNumber, IsFaultyRest, IsFineNumber, IsNoteDamage}
 use Rattle.status_db.specs.Notes.{IsNote, IsNoteAt, Lookup, Note, entered, limit, note_path, with_notes}
 use Rattle.status_records.specs.Status.{IsStatus, IsStatusAt, IsDamageAt}
 use Rattle.status_db.proofs.Ordered.{one_table}
 use Rattle.status_records.proofs.Parsing.{gone_state}
-use Rattle.status_records.proofs.SameRecords.{record_once}
+use Rattle.status_records.proofs.Missing.{some_line}
+use Rattle.status_records.proofs.SameRecords.{off_by, record_once, state_from_word, status_once}
 use Rattle.status_records.proofs.Sayings.{says_same}
 
 -- what holds of all holds of one
@@ -49,7 +53,8 @@ name_once : (fields : List Field) (a b : List ℕ) (k l : List Record) → SaysE
 name_once fields a b k l first second = says_same (codes "package") fields a b first.named.0 second.named.0
 
 gone_or_not : (fields : List Field) (r : Record) → IsGone fields → IsRecordOf fields r → ⊥
-gone_or_not fields r gone is = true≢false (sym (gone_state r.want gone.0 r.flag gone.1 r.state (says_same (codes "status") fields _ _ is.status gone.2)) ∙ is.stands)
+gone_or_not fields r gone is =
+    true≢false (sym (gone_state r.want gone.0 r.flag gone.1 (record_word r) (says_same (codes "status") fields _ _ is.status gone.2)) ∙ ap is_not_installed (state_from_word r) ∙ is.stands)
 
 kept_once : (fields : List Field) (a b : List ℕ) (k l : List Record) → SaysEntry fields a k → SaysEntry fields b l → k ≡ l
 kept_once fields a b k l first second = elim first.stands_for [
@@ -84,10 +89,31 @@ not_missing fields name kept says (inl unnamed) = said (codes "package") fields 
 not_missing fields name kept says (inr (inl status)) = elim says.stands_for [ inl gone ↦ said (codes "status") fields _ gone.0.2 status | inr r ↦ said (codes "status") fields _ r.1.status status ]
 not_missing fields name kept says (inr (inr version)) = elim says.stands_for [ inl gone ↦ version.1 gone.0 | inr r ↦ said (codes "version") fields _ r.1.version version.0 ]
 
+-- what stands beside the word of a record's state agrees with it
+beside_word : (fields : List Field) (r : Record) → IsRecordOf fields r → agrees (record_word r) (is_some (field_in (codes "triggers-pending") fields)) (is_some (field_in (codes "triggers-awaited") fields)) ≡ true
+beside_word fields r is =
+    let pending = ap is_some is.triggers_pending ∙ some_line (field_in (codes "triggers-pending") fields) in
+    let awaited = ap is_some is.triggers_awaited ∙ some_line (field_in (codes "triggers-awaited") fields) in
+    sym (ap (λ (p : Bool). agrees (record_word r) p (is_some r.triggers.awaited)) pending ∙ ap (agrees (record_word r) (is_some (field_in (codes "triggers-pending") fields))) awaited) ∙ r.beside
+
+not_amiss : (fields : List Field) (name : List ℕ) (kept : List Record) → SaysEntry fields name kept → AreAmiss fields → ⊥
+not_amiss fields name kept says amiss =
+    let pending = is_some (field_in (codes "triggers-pending") fields) in
+    let awaited = is_some (field_in (codes "triggers-awaited") fields) in
+    elim says.stands_for [
+      | inl gone ↦
+          let same = status_once amiss.0 gone.0.0 amiss.1 gone.0.1 amiss.2 NotInstalled (says_same (codes "status") fields _ _ amiss.3 gone.0.2) in
+          true≢false (sym amiss.4 ∙ ap (λ (q : StateWord). disagrees q pending awaited) same.2)
+      | inr r ↦
+          let same = status_once amiss.0 r.0.want amiss.1 r.0.flag amiss.2 (record_word r.0) (says_same (codes "status") fields _ _ amiss.3 r.1.status) in
+          true≢false (sym amiss.4 ∙ ap (λ (q : StateWord). disagrees q pending awaited) same.2 ∙ off_by (is_not_installed (state_of (record_word r.0))) (agrees (record_word r.0) pending awaited) (beside_word fields r.0 r.1))
+    ]
+
 not_faulty : (names : List (List ℕ)) (l : Located) (line : ℕ) (name : List ℕ) (kept : List Record) → IsEntry names l.paragraph name kept → IsFaultyEntry names l line → ⊥
 not_faulty names l line name kept entry (inl whole) = elim whole.0 [
   | inl missing ↦ not_missing l.paragraph name kept entry.says missing
-  | inr taken ↦ true≢false (sym taken.2 ∙ ap (λ (n : List ℕ). list_any (bytes_eq n) names) (says_same (codes "package") l.paragraph taken.0 name taken.1.0 entry.says.named.0) ∙ entry.new)
+  | inr (inl taken) ↦ true≢false (sym taken.2 ∙ ap (λ (n : List ℕ). list_any (bytes_eq n) names) (says_same (codes "package") l.paragraph taken.0 name taken.1.0 entry.says.named.0) ∙ entry.new)
+  | inr (inr amiss) ↦ not_amiss l.paragraph name kept entry.says amiss
 ]
 not_faulty names l line name kept entry (inr field) = field.1.bad (all_at _ l.paragraph field.1.front field.1.rest field.1.field field.1.is entry.readable)
 

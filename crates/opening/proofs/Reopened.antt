@@ -9,7 +9,7 @@ use Rattle.std.proofs.Props.{props}
 use Rattle.std.proofs.Math.Logic.{∥∥₁_elim, ∥∥₁_prop}
 use Rattle.host_core.proofs.Nodes.{none_stands}
 use Rattle.host_core.specs.Paths.{Path}
-use Rattle.host_core.specs.World.{World, IsDirectory, IsLoose}
+use Rattle.host_core.specs.World.{World, IsDirectory, IsLoose, KeepsBut}
 use Rattle.host_core.specs.Tree.{IsOdd, has_slash}
 use Rattle.host_core.specs.declared.node.Node.{Node}
 use Rattle.host_core.specs.declared.node.Node.TheVariants.{File, Dir, Link}
@@ -25,19 +25,25 @@ use Rattle.diversions.specs.Lines.{HasDiversions, HasEntries, IsDamageAt}
 use Rattle.file_lists.specs.Info.{HasFault, IsInfoDamage, IsListOf, IsSound, entry_path}
 use Rattle.file_lists.specs.Lists.{HasLists}
 use Rattle.file_lists.specs.declared.paths.PackageList.{PackageList}
-use Rattle.status_db.specs.Held.{CanOpenRecords, HasRecords, Holds}
+use Rattle.status_db.specs.Held.{CanOpenRecords, HasRecords, Holds, is_record_place}
 use Rattle.status_db.specs.NoteDamage.{AreNotesDamaged, AreNotesFine, AreRecordsDamaged, IsFaultyNumber, IsFineNumber, IsNoteDamage}
 use Rattle.status_db.specs.Notes.{IsNoteAt, note_path}
 use Rattle.status_db.specs.Noting.{IsMerging}
 use Rattle.status_records.specs.Status.{IsStatusAt}
 use Rattle.status_records.specs.Status as status
 use Rattle.status_records.specs.declared.record.Record.{Record}
+use Rattle.status_records.specs.Records.{standing}
+use Rattle.diversions.specs.Ways.{Ways}
+use Rattle.adopted_conffiles.specs.Adopted.{all_adopted}
+use Rattle.adopted_conffiles.specs.Adopting.{IsAdopting}
+use Rattle.adopted_conffiles.proofs.Taken.{names_partly, standing_partly}
 use Rattle.status_db.proofs.NotedWorlds.{records_same}
 use Rattle.info_format.specs.Converting.{IsLeft, IsNamed, IsNamesDamage, IsUntold}
 use Rattle.info_format.specs.Format.{format_path, is_one, says_one}
 use Rattle.info_format.specs.Names.{Architectures, AreTwo, architectures, are_ending_signs}
 use Rattle.info_format.specs.Stage.{AreDamaged, AreShort, IsNaming}
 use Rattle.info_format.proofs.Two.{has_dot, short_none}
+use Rattle.opening.specs.TakenUp.{ArePartlyTakenUp, IsOpeningOrAdopting}
 use Rattle.opening.specs.Leaving.{IsOpening, IsOpeningOrMerging, IsReading, is_way, lib_path, root_path, var_path}
 use Rattle.opening.specs.Parts.{Part, Root, Way, Records, Spare, Info, Diversions, Leftovers, IsFirstFault, names_of, parts}
 use Rattle.opening.specs.Undamaged.{HasNoFault, IsUndamaged}
@@ -221,55 +227,44 @@ fine_held w table can held = record {
   each = λ n lt. record { note = held.notes n; is = held.noted n lt; spare = can.unblocked.spares n lt };
 }
 
-module _ (table : List Record) (u v : World) (has : HasRecords u table) (merging : IsMerging table u v) where
-  way_merging : (path : Path) → v path ≡ u path → HasNoFault u (Way path) → HasNoFault v (Way path)
-  way_merging path same none file line faulty = none file line (faulty.0, faulty.1, subst IsLoose same faulty.2)
+-- where only records have changed
 
-  records_merging : HasNoFault v Records
-  records_merging file line faulty = ∥∥₁_elim merging.same (hlevel props) (λ held. records_not_damaged v table file line (fine_held v table merging.opens held) merging.same faulty)
+module _ (u v : World) (rest : KeepsBut is_record_place u v) (opens : CanOpenRecords v) (records : HasNoFault v Records) (info : HasNoFault u Info → HasNoFault v Info) where
+  way_beside : (path : Path) → v path ≡ u path → HasNoFault u (Way path) → HasNoFault v (Way path)
+  way_beside path same none file line faulty = none file line (faulty.0, faulty.1, subst IsLoose same faulty.2)
 
-  same_merging : (other : List Record) → HasRecords u other → HasRecords v other
-  same_merging other is = ∥∥₁_elim has ∥∥₁_prop (λ held. ∥∥₁_elim is ∥∥₁_prop (λ also. subst (HasRecords v) (one_holding u table other held also) merging.same))
+  leftovers_beside : HasNoFault u Leftovers → IsUndamaged u → HasNoFault v Leftovers
+  leftovers_beside none whole file line (line_zero, inl (is, inl loose)) = none file line (line_zero, inl (is, inl (subst IsLoose (rest tmp_path refl) loose)))
+  leftovers_beside none whole file line (line_zero, inl (is, inr bad)) =
+      none file line (line_zero, inl (is, inr (bad_name_at tmp_path v u (λ name some. sym (rest (tmp_path ++ 47 ∷ name) refl)) bad)))
+  leftovers_beside none whole file line (line_zero, inr held) = whole.leftovers held.1.0 held.1.2.plain (subst IsDirectory (rest (tmp_path ++ 47 ∷ held.1.0) refl) held.1.2.holds)
 
-  info_merging : HasNoFault u Info → HasNoFault v Info
-  info_merging none file line faulty = one_records v table faulty.0 merging.same faulty.1.records (λ same. none file line (
-    faulty.0,
-    record { records = subst (HasRecords u) same has; standing = faulty.1.standing },
-    info_damaged_at (names_of faulty.0) file line v u (λ entry. sym (merging.rest (entry_path entry) refl)) faulty.2,
-  ))
-
-  leftovers_merging : HasNoFault u Leftovers → IsUndamaged u → HasNoFault v Leftovers
-  leftovers_merging none whole file line (line_zero, inl (is, inl loose)) = none file line (line_zero, inl (is, inl (subst IsLoose (merging.rest tmp_path refl) loose)))
-  leftovers_merging none whole file line (line_zero, inl (is, inr bad)) =
-      none file line (line_zero, inl (is, inr (bad_name_at tmp_path v u (λ name some. sym (merging.rest (tmp_path ++ 47 ∷ name) refl)) bad)))
-  leftovers_merging none whole file line (line_zero, inr held) = whole.leftovers held.1.0 held.1.2.plain (subst IsDirectory (merging.rest (tmp_path ++ 47 ∷ held.1.0) refl) held.1.2.holds)
-
-  pub undamaged_merging : IsUndamaged u → IsUndamaged v
-  undamaged_merging whole = record {
+  undamaged_beside : IsUndamaged u → IsUndamaged v
+  undamaged_beside whole = record {
     sound = (
-      (λ file line faulty. whole.sound.0 file line (faulty.0, faulty.1, no_directory_at (u root_path) (v root_path) (sym (merging.rest root_path refl)) faulty.2)),
+      (λ file line faulty. whole.sound.0 file line (faulty.0, faulty.1, no_directory_at (u root_path) (v root_path) (sym (rest root_path refl)) faulty.2)),
       (
-        way_merging var_path (merging.rest var_path refl) whole.sound.1.0,
+        way_beside var_path (rest var_path refl) whole.sound.1.0,
         (
-          way_merging lib_path (merging.rest lib_path refl) whole.sound.1.1.0,
+          way_beside lib_path (rest lib_path refl) whole.sound.1.1.0,
           (
-            way_merging home_path (merging.rest home_path refl) whole.sound.1.1.1.0,
+            way_beside home_path (rest home_path refl) whole.sound.1.1.1.0,
             (
-              records_merging,
+              records,
               (
-                (λ file line faulty. merging.opens.unblocked.status_spare faulty.2),
+                (λ file line faulty. opens.unblocked.status_spare faulty.2),
                 (
-                  way_merging updates_path (merging.rest updates_path refl) whole.sound.1.1.1.1.1.1.0,
+                  way_beside updates_path (rest updates_path refl) whole.sound.1.1.1.1.1.1.0,
                   (
-                    way_merging info_path (merging.rest info_path refl) whole.sound.1.1.1.1.1.1.1.0,
+                    way_beside info_path (rest info_path refl) whole.sound.1.1.1.1.1.1.1.0,
                     (
-                      info_merging whole.sound.1.1.1.1.1.1.1.1.0,
+                      info whole.sound.1.1.1.1.1.1.1.1.0,
                       (
-                        (λ file line faulty. whole.sound.1.1.1.1.1.1.1.1.1.0 file line (faulty.0, subst (λ (found : Option Node). IsDamageAt found line) (merging.rest diversions_path refl) faulty.1)),
+                        (λ file line faulty. whole.sound.1.1.1.1.1.1.1.1.1.0 file line (faulty.0, subst (λ (found : Option Node). IsDamageAt found line) (rest diversions_path refl) faulty.1)),
                         (
-                          (λ file line faulty. whole.sound.1.1.1.1.1.1.1.1.1.1.0 file line (faulty.0, faulty.1, subst IsDirectory (merging.rest (temporary diversions_path) refl) faulty.2)),
+                          (λ file line faulty. whole.sound.1.1.1.1.1.1.1.1.1.1.0 file line (faulty.0, faulty.1, subst IsDirectory (rest (temporary diversions_path) refl) faulty.2)),
                           (
-                            leftovers_merging whole.sound.1.1.1.1.1.1.1.1.1.1.1.0 whole,
+                            leftovers_beside whole.sound.1.1.1.1.1.1.1.1.1.1.1.0 whole,
                             tt,
                           ),
                         ),
@@ -283,9 +278,48 @@ module _ (table : List Record) (u v : World) (has : HasRecords u table) (merging
         ),
       ),
     );
-    short = λ entry plain some. whole.short entry plain (subst IsSome (merging.rest (entry_path entry) refl) some);
-    leftovers = λ name plain. no_directory_at (v (tmp_path ++ 47 ∷ name)) (u (tmp_path ++ 47 ∷ name)) (merging.rest (tmp_path ++ 47 ∷ name) refl) (whole.leftovers name plain);
+    short = λ entry plain some. whole.short entry plain (subst IsSome (rest (entry_path entry) refl) some);
+    leftovers = λ name plain. no_directory_at (v (tmp_path ++ 47 ∷ name)) (u (tmp_path ++ 47 ∷ name)) (rest (tmp_path ++ 47 ∷ name) refl) (whole.leftovers name plain);
   }
+
+module _ (table : List Record) (u v : World) (has : HasRecords u table) (merging : IsMerging table u v) where
+  records_merging : HasNoFault v Records
+  records_merging file line faulty = ∥∥₁_elim merging.same (hlevel props) (λ held. records_not_damaged v table file line (fine_held v table merging.opens held) merging.same faulty)
+
+  same_merging : (other : List Record) → HasRecords u other → HasRecords v other
+  same_merging other is = ∥∥₁_elim has ∥∥₁_prop (λ held. ∥∥₁_elim is ∥∥₁_prop (λ also. subst (HasRecords v) (one_holding u table other held also) merging.same))
+
+  info_merging : HasNoFault u Info → HasNoFault v Info
+  info_merging none file line faulty = one_records v table faulty.0 merging.same faulty.1.records (λ same. none file line (
+    faulty.0,
+    record { records = subst (HasRecords u) same has; standing = faulty.1.standing },
+    info_damaged_at (names_of faulty.0) file line v u (λ entry. sym (merging.rest (entry_path entry) refl)) faulty.2,
+  ))
+
+  pub undamaged_merging : IsUndamaged u → IsUndamaged v
+  undamaged_merging whole = undamaged_beside u v merging.rest merging.opens records_merging info_merging whole
+
+-- while records are taken up
+
+module _ (ways : Ways) (table : List Record) (u v : World) (has : HasRecords u table) (is : IsAdopting ways table u v) where
+  abbrev now_records : List Record
+  now_records = all_adopted u ways is.front ++ is.back
+
+  names_now : names_of now_records ≡ names_of table
+  names_now = names_partly u ways is.front is.back ∙ ap names_of (sym is.is)
+
+  records_adopting : HasNoFault v Records
+  records_adopting file line faulty = ∥∥₁_elim is.records (hlevel props) (λ held. records_not_damaged v now_records file line (fine_held v now_records is.opens held) is.records faulty)
+
+  info_adopting : HasNoFault u Info → HasNoFault v Info
+  info_adopting none file line faulty = one_records v now_records faulty.0 is.records faulty.1.records (λ same. none file line (
+    table,
+    record { records = has; standing = subst (λ (l : List Record). standing l ≡ l) (sym is.is) (standing_partly u ways is.front is.back (subst (λ (l : List Record). standing l ≡ l) (sym same) faulty.1.standing)) },
+    subst (λ (names : List (List ℕ)). IsInfoDamage u names (Damaged file line)) (ap names_of (sym same) ∙ names_now) (info_damaged_at (names_of faulty.0) file line v u (λ entry. sym (is.rest (entry_path entry) refl)) faulty.2),
+  ))
+
+  pub undamaged_adopting : IsUndamaged u → IsUndamaged v
+  undamaged_adopting whole = undamaged_beside u v is.rest is.opens records_adopting info_adopting whole
 
 -- while names in `info` are brought to format 0
 
@@ -510,17 +544,40 @@ diversions_read old now entries (IsReading.merging read held is holds merging) h
 
 -- with the names before
 
-pub undamaged_stopped : (old now : World) → IsOpeningOrMerging old now → IsUndamaged old → IsUndamaged now
-undamaged_stopped old now is whole = undamaged_read is.begun now is.reading (undamaged_named old is.begun is.names whole)
+undamaged_merged : (old now : World) → IsOpeningOrMerging old now → IsUndamaged old → IsUndamaged now
+undamaged_merged old now is whole = undamaged_read is.begun now is.reading (undamaged_named old is.begun is.names whole)
 
 pub records_stopped : (old now : World) (table : List Record) → IsOpeningOrMerging old now → HasRecords old table → HasRecords now table
 records_stopped old now table is has = records_read is.begun now table is.reading (records_named old is.begun is.names table has)
 
-pub lists_stopped : (old now : World) (names : List (List ℕ)) (lists : List PackageList) → AreShort old → IsOpeningOrMerging old now → HasLists old names lists → HasLists now names lists
-lists_stopped old now names lists short is has = lists_read is.begun now names lists is.reading (lists_named old is.begun is.names short names lists has)
+lists_merged : (old now : World) (names : List (List ℕ)) (lists : List PackageList) → AreShort old → IsOpeningOrMerging old now → HasLists old names lists → HasLists now names lists
+lists_merged old now names lists short is has = lists_read is.begun now names lists is.reading (lists_named old is.begun is.names short names lists has)
 
-pub diversions_stopped : (old now : World) (entries : List Diversion) → IsOpeningOrMerging old now → HasDiversions old entries → HasDiversions now entries
-diversions_stopped old now entries is has = diversions_read is.begun now entries is.reading (diverted_named old is.begun is.names entries has)
+diversions_merged : (old now : World) (entries : List Diversion) → IsOpeningOrMerging old now → HasDiversions old entries → HasDiversions now entries
+diversions_merged old now entries is has = diversions_read is.begun now entries is.reading (diverted_named old is.begun is.names entries has)
+
+-- with what is taken up behind that
+
+pub undamaged_stopped : (old now : World) → IsOpeningOrAdopting old now → IsUndamaged old → IsUndamaged now
+undamaged_stopped old now (IsOpeningOrAdopting.opening is) whole = undamaged_merged old now is whole
+undamaged_stopped old now (IsOpeningOrAdopting.adopting read ways table lists is opened adopting) whole = undamaged_adopting ways table read now opened.records.holds adopting (undamaged_merged old read is whole)
+
+pub lists_stopped : (old now : World) (names : List (List ℕ)) (lists : List PackageList) → AreShort old → IsOpeningOrAdopting old now → HasLists old names lists → HasLists now names lists
+lists_stopped old now names lists short (IsOpeningOrAdopting.opening is) has = lists_merged old now names lists short is has
+lists_stopped old now names lists short (IsOpeningOrAdopting.adopting read ways table found is opened adopting) has =
+    has_lists_kept read now names lists (λ name known. adopting.rest (list_path name) refl) (lists_merged old read names lists short is has)
+
+pub diversions_stopped : (old now : World) (entries : List Diversion) → IsOpeningOrAdopting old now → HasDiversions old entries → HasDiversions now entries
+diversions_stopped old now entries (IsOpeningOrAdopting.opening is) has = diversions_merged old now entries is has
+diversions_stopped old now entries (IsOpeningOrAdopting.adopting read ways table lists is opened adopting) has =
+    subst (λ (found : Option Node). HasEntries found entries) (sym (adopting.rest diversions_path refl)) (diversions_merged old read entries is has)
+
+-- the records are those of before, the first of them as they are taken up
+pub partly_stopped : (old now : World) (table : List Record) → IsOpeningOrAdopting old now → HasRecords old table → ∥ ArePartlyTakenUp table now ∥₁
+partly_stopped old now table (IsOpeningOrAdopting.opening is) has = ∣ record { files = now; ways = record { entries = []; aliases = [] }; front = []; back = table; is = refl; records = records_stopped old now table is has } ∣₁
+partly_stopped old now table (IsOpeningOrAdopting.adopting read ways held lists is opened adopting) has =
+    ∥∥₁_elim opened.records.holds ∥∥₁_prop (λ one. ∥∥₁_elim (records_stopped old read table is has) ∥∥₁_prop (λ other.
+    ∣ record { files = read; ways = ways; front = adopting.front; back = adopting.back; is = one_holding read table held other one ∙ adopting.is; records = adopting.records } ∣₁))
 
 none_first : (among : List Part) (w : World) (file : Path) (line : ℕ) → AllByRecursion (HasNoFault w) among → IsFirstFault among w file line → ⊥
 none_first [] w file line none fault = fault

@@ -4,3 +4,4 @@ pub mod Undamaged
 pub mod Opened
 pub mod Followed
 pub mod Stopped
+pub mod TakenUp

@@ -12,6 +12,7 @@ ghost use Rattle.administration.specs.declared.fault.AdministrationFault.TheVari
 ghost use Rattle.info_format.specs.Stage.{AreDamaged, AreShort};
 ghost use Rattle.opening.specs.Leaving.{IsOpeningOrMerging};
 ghost use Rattle.opening.specs.Parts.{parts, IsFine, IsFirstFault};
+ghost use Rattle.opening.specs.TakenUp.{ArePartlyTakenUp, IsOpeningOrAdopting};
 ghost use Rattle.opening.specs.Undamaged.{IsUndamaged};
 ghost use Rattle.status_db.specs.Held.{HasRecords};
 ghost use Rattle.status_records.specs.declared.record.Record.{Record};
@@ -26,11 +27,12 @@ pub fn what_is_fine_has_no_fault()
 {}
 
 /// An opening of an administration that isn't damaged changes none of its records, lists and
-/// diversions, wherever it is broken off, and the next opening finds no damage. Of lists this is said
-/// where no name in `info/` has an architecture: those that have one get their lists at other names.
+/// diversions, wherever it is broken off, but for records that it takes up, and the next opening finds no
+/// damage. Of lists this is said where no name in `info/` has an architecture: those that have one get their
+/// lists at other names.
 pub fn a_stopped_opening_can_be_opened()
     ensures undamaged { (old now : World)
-        → IsOpeningOrMerging old now
+        → IsOpeningOrAdopting old now
         → IsUndamaged old
         → IsUndamaged now }
     ensures no_fault { (w : World) (file : Path) (line : ℕ)
@@ -45,13 +47,17 @@ pub fn a_stopped_opening_can_be_opened()
         → IsOpeningOrMerging old now
         → HasRecords old table
         → HasRecords now table }
+    ensures taken_up { (old now : World) (table : List Record)
+        → IsOpeningOrAdopting old now
+        → HasRecords old table
+        → ∥ ArePartlyTakenUp table now ∥₁ }
     ensures lists { (old now : World) (names : List (List ℕ)) (lists : List PackageList)
         → AreShort old
-        → IsOpeningOrMerging old now
+        → IsOpeningOrAdopting old now
         → HasLists old names lists
         → HasLists now names lists }
     ensures diversions { (old now : World) (entries : List Diversion)
-        → IsOpeningOrMerging old now
+        → IsOpeningOrAdopting old now
         → HasDiversions old entries
         → HasDiversions now entries }
 {}

@@ -17,15 +17,21 @@
 //! diversion and those in the usual directories are followed to where they lead in the world
 //! (`followed`, specs/Followed). It only looks.
 //!
+//! `open_adopted` is what a command opens with: behind all that it takes up the conffiles that another
+//! program unpacked (adopted_conffiles, specs/TakenUp). The records that it answers are those of the
+//! administration as they are taken up, and only they have changed (`taken_up`).
+//!
 //! Where no name has an architecture no record, list or diversion is another behind an opening,
-//! wherever it is broken off, and the next one finds no damage (`a_stopped_opening_can_be_opened`).
+//! but for those that are taken up, wherever it is broken off, and the next one finds no damage (`a_stopped_opening_can_be_opened`).
 #![tactic(auto)]
 
+mod adopting;
 mod following;
 mod laws;
 mod open;
 mod stopped;
 
+pub use adopting::open_adopted;
 pub use following::{add_diverted, follow, open_followed, read_above_each};
 pub use laws::{a_stopped_opening_can_be_opened, what_is_fine_has_no_fault};
 pub use open::{Opened, check_root, names_of, open_administration};

@@ -3,7 +3,7 @@ ghost use Rattle.std.specs.Prelude.{◌≡◌, ◌∷◌, [], true, false, IsTru
 ghost use Rattle.host_core.specs.Host.{AtEachMoment, Gives, Leaves, Needs, Reads, Silent};
 ghost use Rattle.host_core.specs.Looks.{Looks};
 ghost use Rattle.host_core.specs.Paths.{is_path};
-ghost use Rattle.host_core.specs.World.{HasParent, World, IsDirectory};
+ghost use Rattle.host_core.specs.World.{HasParent, IsDirectory, KeepsBut, World};
 ghost use Rattle.administration.specs.Fault.{CountsAdministration};
 ghost use Rattle.administration.specs.Files.{NoDirectory};
 ghost use Rattle.administration.specs.Places.{diversions_path, home_path, status_path, temporary, updates_path, info_path, tmp_path};
@@ -12,7 +12,7 @@ ghost use Rattle.diversions.specs.Lines.{HasDiversions};
 ghost use Rattle.opening.specs.Leaving.{is_way, IsOpening, IsOpeningOrMerging, IsReading, var_path, lib_path};
 ghost use Rattle.opening.specs.Parts.{Root, Way, IsDamaged, IsTable, Opens, OpensAndMerges, ReadsAndMerges, fault_in, told, Spare, Info, names_of, Diversions as ItsDiversions, Leftovers, parts};
 ghost use Rattle.status_db.specs.Noting.{AreNoted, IsMerging};
-ghost use Rattle.status_db.specs.Held.{IsKept};
+ghost use Rattle.status_db.specs.Held.{IsKept, is_record_place};
 ghost use Rattle.opening.specs.Opened.{IsFound, IsListed, IsOpened};
 ghost use Rattle.opening.specs.Stopped.{AfterAStop, IsBrought};
 
@@ -402,6 +402,7 @@ fn merge_notes<H: Host>(
     requires open { database.old.closed ≡ false }
     ensures records { database.new.records ≡ database.old.records }
     ensures number { OnOk result (database.new.notes ≡ 0) }
+    ensures still { database.old.notes ≡ 0 → H.state host.new ≡ H.state host.old }
     ensures open { OnOk result (database.new.closed ≡ false) }
     ensures sound { IsDamaged (fault_in result) → ⊥ }
     ensures merged { Leaves result (AreNoted database.old.records 0)
@@ -424,8 +425,8 @@ fn merge_notes<H: Host>(
     }
 }
 
-// The same of what was opened.
-fn settle_notes<H: Host>(
+/// The same of what was opened.
+pub(crate) fn settle_notes<H: Host>(
     alloc: Global,
     host: &mut H,
     opened: Opened,
@@ -438,7 +439,11 @@ fn settle_notes<H: Host>(
         (λ kept old new. IsOpened kept.database.records kept.lists.lists kept.diversions.ways.entries
         new)
         (H.state host.old) (H.state host.new) }
+    ensures records { IfOk result (λ kept. kept.database.records ≡ opened.database.records) }
     ensures number { IfOk result (λ kept. kept.database.notes ≡ 0) }
+    ensures still { opened.database.notes ≡ 0 → H.state host.new ≡ H.state host.old }
+    ensures rest { Leaves result (KeepsBut is_record_place) (H.state host.old)
+        (H.state host.new) }
     ensures open { IfOk result (λ kept. kept.database.closed ≡ false) }
     ensures listing { IfOk result (λ kept. kept.lists ≡ opened.lists) }
     ensures writable { IfOk result (λ kept. kept.diversions ≡ opened.diversions) }

@@ -1,9 +1,10 @@
 -- What is told of the records: their states, and what the status file says of a package.
-use Rattle.std.specs.Prelude.{ℕ, Bool, true, false, List, [], ◌∷◌, ◌++◌, Option, codes, option_map, if◌then◌else◌}
+use Rattle.std.specs.Prelude.{◌&&◌, ℕ, Bool, true, false, not, List, [], ◌∷◌, ◌++◌, Option, codes, option_map, if◌then◌else◌}
 use Rattle.std.specs.List.{flat_map}
 use Rattle.shown_lines.specs.Lines.{line}
-use Rattle.status_records.specs.Paragraphs.{record_text}
+use Rattle.status_records.specs.Paragraphs.{record_text, record_word}
 use Rattle.status_records.specs.Records.{place_record, record_in}
+use Rattle.status_records.specs.Triggers.{has_triggers}
 use Rattle.status_records.specs.Words.{flag_word, state_word}
 use Rattle.status_records.specs.declared.record.Record.{Record}
 use Rattle.status_records.specs.declared.words.Flag.{Flag}
@@ -23,7 +24,7 @@ reinstreq_mark Reinstreq = codes " reinstreq"
 
 -- `PKG VERSION STATE`, and ` reinstreq` where that is set
 abbrev pub list_line : Record → List ℕ
-list_line r = line (r.name ++ (codes " " ++ (r.version ++ (codes " " ++ (state_word r.state ++ reinstreq_mark r.flag)))))
+list_line r = line (r.name ++ (codes " " ++ (r.version ++ (codes " " ++ (state_word (record_word r) ++ reinstreq_mark r.flag)))))
 
 -- each package's line
 abbrev pub list_text : List Record → List ℕ
@@ -43,13 +44,17 @@ abbrev pub is_settled : Flag → State → Bool
 is_settled Ok state = is_final state
 is_settled Reinstreq state = false
 
+-- and no triggers are to be processed, by it or for it
+abbrev pub is_done : Record → Bool
+is_done r = is_settled r.flag r.state && not (has_triggers r.triggers)
+
 -- `PKG STATE FLAG`
 abbrev pub audit_line : Record → List ℕ
-audit_line r = line (r.name ++ (codes " " ++ (state_word r.state ++ (codes " " ++ flag_word r.flag))))
+audit_line r = line (r.name ++ (codes " " ++ (state_word (record_word r) ++ (codes " " ++ flag_word r.flag))))
 
 -- the line of a package with which something has to be done
 abbrev pub audit_lines : Record → List ℕ
-audit_lines r = if is_settled r.flag r.state then [] else audit_line r
+audit_lines r = if is_done r then [] else audit_line r
 
 -- the lines of all such packages
 abbrev pub audit_text : List Record → List ℕ

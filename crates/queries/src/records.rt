@@ -5,7 +5,7 @@ ghost use Rattle.std.specs.List.{flat_map, insert};
 ghost use Rattle.std.specs.Ordering.{is_lt, nat_cmp};
 ghost use Rattle.status_records.specs.Records.{place_record};
 ghost use Rattle.status_records.specs.declared.record.Record.{Record as ARecord};
-ghost use Rattle.queries.specs.Records.{audit_line, audit_lines, audit_text, by_name, is_final, is_settled, list_line, list_text, reinstreq_mark, status_text};
+ghost use Rattle.queries.specs.Records.{audit_line, audit_lines, audit_text, by_name, is_done, is_final, is_settled, list_line, list_text, reinstreq_mark, status_text};
 
 use shown_lines::line;
 use status_db::NotedDatabase;
@@ -68,7 +68,7 @@ fn list_line(alloc: Global, entry: &Record) -> Result<String, AllocError>
 {
     let name = entry.name.as_str();
     let version = entry.version.text();
-    let state = entry.state.name();
+    let state = entry.word().name();
     let mark = reinstreq_mark(entry.flag);
     let content = format!(in alloc; "{name} {version} {state}{mark}")?;
     line(alloc, content.as_str())
@@ -119,11 +119,18 @@ pub fn is_settled(flag: Flag, state: State) -> bool
     }
 }
 
+// Whether nothing has to be done with a package, and it has no triggers.
+fn is_done(entry: &Record) -> bool
+    ensures { result ≡ is_done entry.now }
+{
+    is_settled(entry.flag, entry.state) && !entry.triggers.are_some()
+}
+
 fn audit_line(alloc: Global, entry: &Record) -> Result<String, AllocError>
     ensures { IfOk result (λ printed. string_bytes printed ≡ audit_line entry.now) }
 {
     let name = entry.name.as_str();
-    let state = entry.state.name();
+    let state = entry.word().name();
     let flag = entry.flag.name();
     let content = format!(in alloc; "{name} {state} {flag}")?;
     line(alloc, content.as_str())
@@ -133,7 +140,7 @@ fn audit_line(alloc: Global, entry: &Record) -> Result<String, AllocError>
 fn audit_lines(alloc: Global, entry: &Record) -> Result<String, AllocError>
     ensures { IfOk result (λ printed. string_bytes printed ≡ audit_lines entry.now) }
 {
-    if is_settled(entry.flag, entry.state) {
+    if is_done(entry) {
         return Ok(String::new(alloc));
     }
     audit_line(alloc, entry)
@@ -151,7 +158,8 @@ fn add_audit(alloc: Global, lines: &mut String, entries: &[&Record]) -> Result<(
 }
 
 /// The packages with which something has to be done, in the order of their names: all but those
-/// installed or with their configuration files alone, and not to be installed again.
+/// installed or with their configuration files alone, and not to be installed again; and those with
+/// triggers.
 pub fn audit_text(alloc: Global, database: &NotedDatabase) -> Result<Bytes, AllocError>
     ensures { IfOk result (λ text. text ≡ audit_text database.now.records) }
 {

@@ -1,5 +1,5 @@
 -- Recorded packages, as relations see them (Policy 7.1).
-use Rattle.std.specs.Prelude.{◌≡◌, ℕ, true, false, Bool, List, [], ◌∷◌, Option, Some, None}
+use Rattle.std.specs.Prelude.{◌≡◌, ℕ, true, false, Bool, List, [], ◌∷◌, Option, Some, None, is_some}
 use Rattle.relation_fields.specs.declared.relation_field.RelationField.TheVariants.{PreDepends, Depends, Breaks, Conflicts, Replaces}
 use Rattle.relation_index.specs.declared.package.Package.{Package}
 use Rattle.relation_index.specs.declared.package.PackageState.{PackageState}
@@ -40,6 +40,7 @@ pub record IsPackageOf (root : Option (List ℕ)) (r : Record) (p : Package) : T
   pub architecture : p.architecture ≡ counted_as root (architecture_of r.fields)
   pub version : p.version ≡ r.version
   pub state : p.state ≡ package_state r.state
+  pub awaits : p.awaits ≡ is_some r.triggers.awaited
   pub reinstreq : p.reinstreq ≡ is_reinstreq r.flag
   pub essential : p.essential ≡ is_essential r.fields
   pub configured : p.configured ≡ last_configured r

@@ -96,6 +96,7 @@ pub(crate) fn package_of(
         architecture: counted_as(alloc, root, fields)?,
         version: entry.version.copy()?,
         state: package_state(entry.state),
+        awaits: entry.triggers.awaited.is_some(),
         reinstreq: is_reinstreq(entry.flag),
         essential: is_essential(fields),
         configured: configured_of(entry)?,

@@ -29,6 +29,8 @@ pub struct Package {
     pub architecture: Option<Text>,
     pub version: Version,
     pub state: PackageState,
+    /// Whether triggers are awaited: what others need before their unpack it meets only then when they were processed.
+    pub awaits: bool,
     pub reinstreq: bool,
     pub essential: bool,
     /// The version that was configured last, if one was, and whether the package was removed since then.

@@ -17,7 +17,8 @@ use Rattle.administration.specs.declared.fault.AdministrationFault.TheVariants.{
 use Rattle.diversions.specs.Lines.{IsDamageAt}
 use Rattle.file_lists.specs.Info.{HasBadLine, HasFault, IsFaultyWhole, IsInfoDamage, IsLink, IsListOf, IsScriptOf, IsSound, entry_path}
 use Rattle.file_lists.specs.Lists.{IsReadable}
-use Rattle.opening.specs.Leaving.{IsOpeningOrMerging, lib_path, root_path, var_path}
+use Rattle.opening.specs.TakenUp.{IsOpeningOrAdopting}
+use Rattle.opening.specs.Leaving.{lib_path, root_path, var_path}
 use Rattle.opening.specs.Parts.{Diversions, Info, IsTable, Leftovers, Records, Root, Spare, Way, names_of}
 use Rattle.opening.specs.Undamaged.{HasNoFault, IsUndamaged}
 use Rattle.status_db.proofs.NotedWorlds.{records_same}
@@ -214,9 +215,9 @@ module _ (w left : World) (like : IsLike every w left) where
 
 -- the law of opening: its stop leaves no damage
 abbrev pub KeepsUndamaged : Type 0
-KeepsUndamaged = (old now : World) → IsOpeningOrMerging old now → IsUndamaged old → IsUndamaged now
+KeepsUndamaged = (old now : World) → IsOpeningOrAdopting old now → IsUndamaged old → IsUndamaged now
 
-pub opening_lost : KeepsUndamaged → (begun s t : State) (session : List Event) (left : World) → IsTrue t.honest → IsSettled t.events → t.events ≡ begun.events ++ session → changes_of session ≡ [] → Needs s IsUndamaged → AtEachMoment IsOpeningOrMerging s t → LosesSince begun s t left
+pub opening_lost : KeepsUndamaged → (begun s t : State) (session : List Event) (left : World) → IsTrue t.honest → IsSettled t.events → t.events ≡ begun.events ++ session → changes_of session ≡ [] → Needs s IsUndamaged → AtEachMoment IsOpeningOrAdopting s t → LosesSince begun s t left
     → IsUndamaged left
 opening_lost keeps begun s t session left h settled events silent undamaged since loses =
     let amid = since_weaker_if _ (λ so_far. IsUndamaged) s t (λ honest so_far now is. keeps s.world now is (undamaged (since.honest honest))) since in

@@ -1,27 +1,35 @@
 -- An opening of what can be opened leaves what can be opened, wherever it is broken off.
-use Rattle.std.proofs.Common.{◌≡◌, inl, inr, false, List, ◌∷◌, ◌++◌, Option, None, refl, sym, subst, ◌∙◌}
+use Rattle.std.proofs.Common.{◌≡◌, inl, inr, false, ℕ, List, ◌∷◌, ◌++◌, Option, None, refl, sym, ap, subst, ◌∙◌}
 use Rattle.std.specs.Prelude.{IsSome}
 use Rattle.std.proofs.lemmas.Bool.{true≢false}
 use Rattle.host_core.proofs.Nodes.{none_stands}
 use Rattle.host_core.specs.Host.{AtEachMoment, Needs, State}
 use Rattle.host_core.proofs.Moments.{since_weaker_if}
 use Rattle.host_core.specs.Paths.{Path}
-use Rattle.host_core.specs.World.{World, IsDirectory, IsLoose}
+use Rattle.host_core.specs.World.{World, IsDirectory, IsLoose, KeepsBut}
 use Rattle.host_core.specs.declared.node.Node.{Node}
+use Rattle.adopted_conffiles.specs.Adopted.{all_adopted}
+use Rattle.adopted_conffiles.specs.Adopting.{IsAdopting}
+use Rattle.adopted_conffiles.proofs.Taken.{names_partly, partly_standing}
 use Rattle.administration.proofs.Within.{directory_differs}
 use Rattle.administration.proofs.WholeFiles.{no_directory_at, no_directory_none}
 use Rattle.administration.specs.Places.{diversions_path, home_path, info_path, status_path, temporary, tmp_path, updates_path, is_within}
 use Rattle.control_members.specs.LaidOut.{IsIncoming, laid_path}
 use Rattle.diversions.specs.Lines.{HasEntries}
-use Rattle.file_lists.specs.Info.{IsSound, entry_path}
+use Rattle.diversions.specs.Ways.{Ways}
+use Rattle.file_lists.specs.Info.{AreSound, IsSound, entry_path}
+use Rattle.file_lists.specs.declared.paths.PackageList.{PackageList}
 use Rattle.info_format.specs.Stage.{AreShort, IsNaming}
 use Rattle.opening.proofs.Reopened.{named_outside, named_same, records_named, sound_named, stood_before}
 use Rattle.opening.specs.Leaving.{IsOpening, IsOpeningOrMerging, IsReading, is_way}
-use Rattle.opening.specs.Parts.{names_of}
+use Rattle.opening.specs.Opened.{IsOpened}
+use Rattle.opening.specs.Parts.{IsTable, names_of}
+use Rattle.opening.specs.TakenUp.{IsOpeningOrAdopting}
 use Rattle.status_db.proofs.NotedWorlds.{records_same}
-use Rattle.status_db.specs.Held.{CanOpenRecords, HasRecords}
+use Rattle.status_db.specs.Held.{CanOpenRecords, HasRecords, is_record_place}
 use Rattle.status_db.specs.Notes.{note_path}
 use Rattle.status_db.specs.Noting.{IsMerging}
+use Rattle.status_records.specs.Records.{standing}
 use Rattle.status_records.specs.declared.record.Record.{Record}
 use Rattle.reopening.specs.Opens.{CanBeOpened, CanBeOpenedAmid}
 
@@ -83,24 +91,38 @@ module _ (old now : World) (is : IsOpening old now) (opens : CanBeOpened old) wh
     incoming = incoming_at;
   }
 
-merging_opens : (table : List Record) (old now : World) → IsMerging table old now → ((other : List Record) → HasRecords old other → HasRecords now other) → CanBeOpened old → CanBeOpened now
-merging_opens table old now merging keeps opens = record {
-  records = merging.opens;
-  info = subst IsDirectory (sym (merging.rest info_path refl)) opens.info;
+-- where only records have changed: this is the table, and packages have the names that they had
+beside_opens : (table was : List Record) (old now : World) → KeepsBut is_record_place old now → CanOpenRecords now → IsTable now table → names_of table ≡ names_of was → AreSound old (names_of was) → CanBeOpened old → CanBeOpened now
+beside_opens table was old now rest records is_table names sound opens = record {
+  records = records;
+  info = subst IsDirectory (sym (rest info_path refl)) opens.info;
   readable = record {
-    table = opens.readable.table;
-    is_table = record { records = keeps opens.readable.table opens.readable.is_table.records; standing = opens.readable.is_table.standing };
-    text = λ bad. opens.readable.text (bad.0, bad.1, bad.2, subst IsSome (merging.rest (info_path ++ 47 ∷ bad.0) refl) bad.3);
-    sound = λ entry plain. subst (IsSound (names_of opens.readable.table) entry) (sym (merging.rest (entry_path entry) refl)) (opens.readable.sound entry plain);
+    table = table;
+    is_table = is_table;
+    text = λ bad. opens.readable.text (bad.0, bad.1, bad.2, subst IsSome (rest (info_path ++ 47 ∷ bad.0) refl) bad.3);
+    sound = λ entry plain. subst (IsSound (names_of table) entry) (sym (rest (entry_path entry) refl)) (subst (λ (ns : List (List ℕ)). IsSound ns entry (old (entry_path entry))) (sym names) (sound entry plain));
   };
-  diversions = (opens.diversions.0, subst (λ (n : Option Node). HasEntries n opens.diversions.0) (sym (merging.rest diversions_path refl)) opens.diversions.1);
-  spare = no_directory_at (now (temporary diversions_path)) (old (temporary diversions_path)) (merging.rest (temporary diversions_path) refl) opens.spare;
+  diversions = (opens.diversions.0, subst (λ (n : Option Node). HasEntries n opens.diversions.0) (sym (rest diversions_path refl)) opens.diversions.1);
+  spare = no_directory_at (now (temporary diversions_path)) (old (temporary diversions_path)) (rest (temporary diversions_path) refl) opens.spare;
   incoming = record {
-    place = λ loose. opens.incoming.place (subst IsLoose (merging.rest tmp_path refl) loose);
-    named = λ name plain some. opens.incoming.named name plain (subst IsSome (merging.rest (laid_path name) refl) some);
-    loose = λ name plain. no_directory_at (now (laid_path name)) (old (laid_path name)) (merging.rest (laid_path name) refl) (opens.incoming.loose name plain);
+    place = λ loose. opens.incoming.place (subst IsLoose (rest tmp_path refl) loose);
+    named = λ name plain some. opens.incoming.named name plain (subst IsSome (rest (laid_path name) refl) some);
+    loose = λ name plain. no_directory_at (now (laid_path name)) (old (laid_path name)) (rest (laid_path name) refl) (opens.incoming.loose name plain);
   };
 }
+
+merging_opens : (table : List Record) (old now : World) → IsMerging table old now → ((other : List Record) → HasRecords old other → HasRecords now other) → CanBeOpened old → CanBeOpened now
+merging_opens table old now merging keeps opens =
+    beside_opens opens.readable.table opens.readable.table old now merging.rest merging.opens
+    (record { records = keeps opens.readable.table opens.readable.is_table.records; standing = opens.readable.is_table.standing }) refl opens.readable.sound opens
+
+-- records that are taken up are of the packages of before
+adopting_opens : (ways : Ways) (table : List Record) (lists : List PackageList) (old now : World) → IsOpened table lists ways.entries old → IsAdopting ways table old now → CanBeOpened old → CanBeOpened now
+adopting_opens ways table lists old now opened is opens =
+    beside_opens (all_adopted old ways is.front ++ is.back) table old now is.rest is.opens
+    (record { records = is.records; standing = partly_standing old ways is.front is.back (subst (λ (l : List Record). standing l ≡ l) is.is opened.standing) })
+    (names_partly old ways is.front is.back ∙ ap names_of (sym is.is))
+    opened.listed.sound opens
 
 -- names in `info` are brought to format 0
 
@@ -151,5 +173,9 @@ reading_opens keeps old now opens (IsReading.merging read table is has merging) 
 pub reopened : KeepsRecords → (old now : World) → CanBeOpened old → IsOpeningOrMerging old now → CanBeOpened now
 reopened keeps old now opens is = reading_opens keeps is.begun now (naming_opens old is.begun is.names opens) is.reading
 
-pub opening_ends : KeepsRecords → (s t : State) → Needs s CanBeOpened → AtEachMoment IsOpeningOrMerging s t → CanBeOpenedAmid s t
-opening_ends keeps s t opens since = since_weaker_if _ _ s t (λ h so_far now is. reopened keeps s.world now (opens (since.honest h)) is) since
+adopted_opens : KeepsRecords → (old now : World) → CanBeOpened old → IsOpeningOrAdopting old now → CanBeOpened now
+adopted_opens keeps old now opens (IsOpeningOrAdopting.opening is) = reopened keeps old now opens is
+adopted_opens keeps old now opens (IsOpeningOrAdopting.adopting read ways table lists is opened adopting) = adopting_opens ways table lists read now opened adopting (reopened keeps old read opens is)
+
+pub opening_ends : KeepsRecords → (s t : State) → Needs s CanBeOpened → AtEachMoment IsOpeningOrAdopting s t → CanBeOpenedAmid s t
+opening_ends keeps s t opens since = since_weaker_if _ _ s t (λ h so_far now is. adopted_opens keeps s.world now (opens (since.honest h)) is) since

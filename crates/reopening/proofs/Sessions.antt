@@ -34,6 +34,7 @@ use Rattle.unpack_relations.specs.declared.checking.Checked.TheVariants.{Planned
 use Rattle.undo_rows.specs.declared.rows.Called.{Called}
 use Rattle.dpkg_session.specs.Installs.{HasGoneOn}
 use Rattle.dpkg_session.specs.Growth.{grown}
+use Rattle.dpkg_session.proofs.Overridden.{amid_alike, unit_alike}
 use Rattle.dpkg_session.specs.Run.{HasRun, IsAmidBehind, IsAmidBeside, IsAmidBy, IsAmidNext, IsAmidPackage, IsAmidUnitOf, IsAmidUnpack, IsRun, RunsUnit}
 use Rattle.dpkg_session.specs.Units.{HasDisplaced, HasUnpackedBeside, IsUnitBy, IsUnitOf, IsUnpacked, displacing_by, given_by, held_with, yielding}
 use Rattle.dpkg_session.specs.declared.report.Candidate.{Candidate}
@@ -54,6 +55,10 @@ ships_text p texts = by p.files texts
     by [] all q has = absurd (omega (arith, has.1))
     by (file ∷ files) all q (zero, lt, e) = subst IsUtf8 e all.0
     by (file ∷ files) all q (suc k, lt, e) = by files all.1 q (k, omega (arith, lt), e)
+
+-- and those of a package that ships the same
+alike_text : (p q : Package) → shipped_paths q.files ≡ shipped_paths p.files → ShipsText p → ShipsText q
+alike_text p q same texts = λ path has. texts path (subst (λ (paths : List Path). Contains paths path) same has)
 
 -- what is left of the unit of a package, before anything is displaced
 
@@ -156,7 +161,8 @@ by_goes p (Unpacks beside) before after u s t texts falls is = unpacked_goes p b
 unit_goes : (auto : Bool) (label : List ℕ) (tree : Result Package TreeFault) (before after : Held) (u : AUnit) (s t : State) → IsTextTree tree → (IsTrue t.honest → IsTrue s.honest) → IsUnitOf auto label tree before after u s t → Goes before after s t
 unit_goes auto label (Err fault) before after u s t texts falls is = goes_refused _ label before after u s t is
 unit_goes auto label (Ok p) before after u s t texts falls (added, read, is) =
-    let goes = by_goes p is.0 (grown before added) after u s t (ships_text p texts) falls is.2 in
+    let one = unit_alike auto p (grown before added) after u s t is in
+    let goes = by_goes one.alike one.decision (grown before added) after u s t (alike_text p one.alike one.paths (ships_text p texts)) falls one.unit in
     record { falls = goes.falls; sound = λ h sound. goes.sound h (sound_grown before added s.world sound) }
 
 -- at each moment
@@ -185,8 +191,9 @@ by_opens p (Unpacks beside) before old so_far now texts sound amid = unpack_open
 
 package_opens : (auto : Bool) (p : Package) (before : Held) (old : World) (so_far : List Event) (now : World) → ShipsText p → IsSound before old → IsAmidPackage auto p before old so_far now → CanBeOpened now
 package_opens auto p before old so_far now texts sound (inl still) = still_opens before old now sound still.0
-package_opens auto p before old so_far now texts sound (inr (added, read, inl still)) = still_opens before old now sound still.0
-package_opens auto p before old so_far now texts sound (inr (added, read, inr decided)) = by_opens p decided.0 (grown before added) old so_far now texts (sound_grown before added old sound) decided.2
+package_opens auto p before old so_far now texts sound (inr (added, read, amid)) =
+    let one = amid_alike auto p (grown before added) old so_far now amid in
+    by_opens one.alike one.decision (grown before added) old so_far now (alike_text p one.alike one.paths texts) (sound_grown before added old sound) one.amid
 
 unit_opens : (auto : Bool) (tree : Result Package TreeFault) (before : Held) (old : World) (so_far : List Event) (now : World) → IsTextTree tree → IsSound before old → IsAmidUnitOf auto tree before old so_far now → CanBeOpened now
 unit_opens auto (Err fault) before old so_far now texts sound same = still_opens before old now sound same

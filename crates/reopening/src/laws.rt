@@ -17,8 +17,8 @@ ghost use Rattle.host_core.specs.Paths.{Path, is_own, is_ship_text};
 ghost use Rattle.host_core.specs.Tree.{IsTree};
 ghost use Rattle.host_core.specs.Unsynced.{IsSettled};
 ghost use Rattle.host_core.specs.World.{Avoids, World};
-ghost use Rattle.opening.specs.Leaving.{IsOpeningOrMerging};
 ghost use Rattle.opening.specs.Parts.{parts, IsFirstFault};
+ghost use Rattle.opening.specs.TakenUp.{IsOpeningOrAdopting};
 ghost use Rattle.opening.specs.Undamaged.{IsUndamaged};
 ghost use Rattle.removal_run.specs.Run.{HasRun as HasRemoved};
 ghost use Rattle.status_db.specs.Held.{AreKept, IsTableOf};
@@ -84,11 +84,11 @@ pub fn a_diversion_can_be_opened_amid()
 /// administration that isn't damaged, as of a root without its directories, a loss of power during an opening leaves one that isn't.
 pub fn an_opening_can_be_opened_amid()
     ensures amid { (s t : State) → Needs s CanBeOpened → AtEachMoment
-        IsOpeningOrMerging s t → CanBeOpenedAmid s t }
+        IsOpeningOrAdopting s t → CanBeOpenedAmid s t }
     ensures lost { (begun s t : State) (session : List Event) (left : World) → IsTrue t.honest
         → IsSettled t.events → t.events ≡ begun.events ++ session
         → changes_of session ≡ [] → Needs s IsUndamaged → AtEachMoment
-        IsOpeningOrMerging s t → LosesSince begun s t left → IsUndamaged left }
+        IsOpeningOrAdopting s t → LosesSince begun s t left → IsUndamaged left }
 {
     a_stopped_opening_can_be_opened();
 }

@@ -15,7 +15,7 @@ use Rattle.relation_fields.specs.RelationFields.{relation_name}
 use Rattle.diversions.specs.declared.refusal.Refusal.{Refusal as ItsRefusal}
 use Rattle.diversions.specs.declared.refusal.Refusal.TheVariants as diverted
 use Rattle.unit_reports.specs.declared.refusal.Rule.{Rule}
-use Rattle.unit_reports.specs.declared.refusal.Rule.TheVariants.{Tree, ConffileDiverted, Architecture, PreDepends, Conflicts, ConflictEssential, Dependents, Breaks, Divert, Unknown, WrongState, Reinstreq, NothingToRemove, Essential, Depends, BrokenBy, ConffileKind, DependedOn}
+use Rattle.unit_reports.specs.declared.refusal.Rule.TheVariants.{Tree, OverrideLine, OwnerUnknown, ConffileDiverted, Architecture, PreDepends, Conflicts, ConflictEssential, Dependents, Breaks, Divert, Unknown, TriggerState, WrongState, Reinstreq, NothingToRemove, Essential, Depends, BrokenBy, ConffileKind, DependedOn}
 use Rattle.undo_rows.specs.declared.fall.StepFault.{StepFault}
 use Rattle.undo_rows.specs.declared.fall.StepFault.TheVariants as step
 
@@ -74,10 +74,12 @@ divert_word diverted.OtherOwner = codes "OtherOwner"
 divert_word diverted.TargetExists = codes "TargetExists"
 divert_word diverted.NoParent = codes "NoParent"
 
--- the rule of a refusal with its detail: a path, an architecture, a clause of relations (Policy 7.1) or another package; of a tree's fault the
+-- the rule of a refusal with its detail: a path, a line, an architecture, a clause of relations (Policy 7.1) or another package; of a tree's fault the
 -- fault is the rule
 abbrev pub rule_text : Rule → List ℕ
 rule_text (Tree fault) = tree_text fault
+rule_text (OverrideLine line) = codes "OverrideLine " ++ decimal line
+rule_text (OwnerUnknown path) = codes "OwnerUnknown " ++ path
 rule_text (ConffileDiverted path) = codes "ConffileDiverted " ++ path
 rule_text (Architecture own) = codes "Architecture " ++ own
 rule_text (PreDepends clause) = codes "PreDepends " ++ print_clause clause
@@ -87,6 +89,7 @@ rule_text (Dependents other) = codes "Dependents " ++ other
 rule_text (Breaks other) = codes "Breaks " ++ other
 rule_text (Divert refusal) = divert_word refusal
 rule_text Unknown = codes "Unknown"
+rule_text TriggerState = codes "TriggerState"
 rule_text WrongState = codes "WrongState"
 rule_text Reinstreq = codes "Reinstreq"
 rule_text NothingToRemove = codes "NothingToRemove"

@@ -160,6 +160,14 @@ pub(crate) fn rule_text(alloc: Global, rule: &Rule) -> Result<String, AllocError
 {
     match rule {
         Rule::Tree(fault) => tree_text(alloc, fault),
+        Rule::OverrideLine(line) => {
+            let line = *line;
+            format!(in alloc; "OverrideLine {line}")
+        }
+        Rule::OwnerUnknown(shipped) => {
+            let shipped = shipped.as_str();
+            format!(in alloc; "OwnerUnknown {shipped}")
+        }
         Rule::ConffileDiverted(path) => {
             let path = path.as_str();
             format!(in alloc; "ConffileDiverted {path}")
@@ -172,6 +180,7 @@ pub(crate) fn rule_text(alloc: Global, rule: &Rule) -> Result<String, AllocError
         Rule::Breaks(other) => of_package(alloc, "Breaks", other),
         Rule::Divert(refusal) => String::from_str(alloc, divert_word(*refusal)),
         Rule::Unknown => String::from_str(alloc, "Unknown"),
+        Rule::TriggerState => String::from_str(alloc, "TriggerState"),
         Rule::WrongState => String::from_str(alloc, "WrongState"),
         Rule::Reinstreq => String::from_str(alloc, "Reinstreq"),
         Rule::NothingToRemove => String::from_str(alloc, "NothingToRemove"),

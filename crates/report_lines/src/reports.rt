@@ -83,7 +83,7 @@ fn state_text(alloc: Global, entry: &Option<Record>) -> Result<String, AllocErro
             let version = entry.version.text();
             let want = entry.want.name();
             let flag = entry.flag.name();
-            let state = entry.state.name();
+            let state = entry.word().name();
             format!(in alloc; "{version} {want} {flag} {state}")
         }
         None => String::from_str(alloc, "none"),

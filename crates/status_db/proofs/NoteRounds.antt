@@ -10,7 +10,7 @@ use Rattle.control_fields.proofs.Again.{again}
 use Rattle.status_records.specs.declared.record.Record.{Record}
 use Rattle.status_records.specs.declared.words.Want.TheVariants.{Unknown}
 use Rattle.status_records.specs.declared.words.Flag.TheVariants.{Ok}
-use Rattle.status_records.specs.declared.words.State.TheVariants.{NotInstalled}
+use Rattle.status_records.specs.declared.words.StateWord.TheVariants.{NotInstalled}
 use Rattle.status_records.specs.Words.{is_not_installed}
 use Rattle.status_records.specs.Paragraphs.{line_field, paragraph_of, HasParts, IsEntry}
 use Rattle.status_db.specs.Notes.{IsNote, gone_fields, said_gone, said_of}

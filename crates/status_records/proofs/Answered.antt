@@ -7,6 +7,10 @@ pub on_ok : {T E P Q : Type 0} (r : Result T E) → (P → Q) → OnOk r P → O
 on_ok (Ok x) so h = so h
 on_ok (Err e) so h = tt
 
+pub both_ok : {T E : Type 0} (P Q : Type 0) (r : Result T E) → OnOk r P → OnOk r Q → OnOk r (P × Q)
+both_ok P Q (Ok x) p q = (p, q)
+both_ok P Q (Err e) p q = tt
+
 pub none_beside : (b : Bool) → b && false ≡ false
 none_beside true = refl
 none_beside false = refl

@@ -3,7 +3,7 @@ use Rattle.std.proofs.Common.{◌≡◌, ℕ, Bool, true, false, cond, ◌&&◌,
 use Rattle.std.specs.Prelude.{IfOk, MatchOption, is_some}
 use Rattle.std.specs.List.{list_any, list_all, AllByRecursion}
 use Rattle.std.specs.Str.{bytes_eq, IsUtf8, is_utf8}
-use Rattle.std.proofs.lemmas.Bool.{and_parts, false_from_ne_true}
+use Rattle.std.proofs.lemmas.Bool.{true≢false, and_parts, false_from_ne_true}
 use Rattle.std.proofs.lemmas.Bool.Decides.{nat_tests}
 use Rattle.std.proofs.lemmas.Slice.Eq.{bytes_eq-Decides}
 use Rattle.std.proofs.lemmas.Str.{IsUtf8-from_is_utf8, is_utf8-from_IsUtf8}
@@ -12,6 +12,8 @@ use Rattle.control_fields.specs.Names.{lower}
 use Rattle.control_fields.specs.declared.field.Field.{Field}
 use Rattle.conffiles.specs.Digests.{is_lower_digit, is_digest_text}
 use Rattle.version_order.specs.Versions.{IsVersion}
+use Rattle.status_records.specs.declared.values.Kind.TheVariants.{TriggerNames}
+use Rattle.status_records.specs.TriggerNames.{are_trigger_names}
 use Rattle.status_records.specs.Values.{kind_of, IsReadableAs, IsReadable}
 use Rattle.status_records.specs.ConffilePaths.{is_ship_path}
 use Rattle.status_records.specs.ConffileFields.{is_conffile_line, is_pending_line, are_apart, conffile_paths, pending_paths, IsConffileField, IsPendingField}
@@ -88,3 +90,24 @@ pub version_read : {E : Type 0} (found : Result (Option (List ℕ)) E) (fs : Lis
 version_read (Err e) fs value all said read = tt
 version_read (Ok None) fs value all said read = absurd (read (config_found fs value all said))
 version_read (Ok (Some v)) fs value all said read = ap (λ (x : List ℕ). Some x) read.0 ∙ said
+
+-- names of triggers or packages
+
+names_found : (text : List ℕ) → kind_of text ≡ TriggerNames → (fs : List Field) (value : List ℕ) → AllByRecursion IsReadable fs → Some value ≡ line_of (field_in text fs) → are_trigger_names value ≡ true
+names_found text kind [] value all e = absurd (cc e)
+names_found text kind (f ∷ fs) value all e = by (bytes_eq (lower f.name) text) refl e (names_found text kind fs value all.1)
+  where
+    same : (a b : List ℕ) → Some a ≡ Some b → b ≡ a
+    same a b e = cc
+
+    by : (b : Bool) → bytes_eq (lower f.name) text ≡ b → Some value ≡ line_of (cond b (Some f) (field_in text fs)) → (Some value ≡ line_of (field_in text fs) → are_trigger_names value ≡ true) → are_trigger_names value ≡ true
+    by true called e rest =
+        let here : IsReadableAs TriggerNames f = subst (λ k. IsReadableAs k f) (ap kind_of ((bytes_eq-Decides (lower f.name) text).0 called) ∙ kind) all.0 in
+        subst (λ v. are_trigger_names v ≡ true) (same value f.first e) here.1
+    by false called e rest = rest e
+
+pub names_read : {E : Type 0} (found : Result (Option (List ℕ)) E) (text : List ℕ) (fs : List Field) (value : List ℕ) → kind_of text ≡ TriggerNames → AllByRecursion IsReadable fs → Some value ≡ line_of (field_in text fs)
+    → IfOk found (λ o. MatchOption o (are_trigger_names value ≡ false) (λ v. (v ≡ value) × (are_trigger_names value ≡ true))) → IfOk found (λ o. o ≡ line_of (field_in text fs))
+names_read (Err e) text fs value kind all said read = tt
+names_read (Ok None) text fs value kind all said read = absurd (true≢false (sym (names_found text kind fs value all said) ∙ read))
+names_read (Ok (Some v)) text fs value kind all said read = ap (λ (x : List ℕ). Some x) read.0 ∙ said

@@ -30,7 +30,7 @@ none_told Q told (Err e) none = subst Q (sym none) told
 pub entry_here : (names : List (List ℕ)) (fs : List Field) (name : List ℕ) (kept : List Record) → (IsFaultyWhole names fs → ⊥) → AllByRecursion IsReadable fs → SaysEntry fs name kept → IsEntry names fs name kept
 entry_here names fs name kept sound readable says = record {
   says = says;
-  new = false_from_ne_true (list_any (bytes_eq name) names) (λ t. sound (inr (name, says.named, t)));
+  new = false_from_ne_true (list_any (bytes_eq name) names) (λ t. sound (inr (inl (name, says.named, t))));
   readable = readable;
 }
 

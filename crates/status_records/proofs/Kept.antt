@@ -15,7 +15,7 @@ use Rattle.control_fields.specs.Spelling.{AreFields}
 use Rattle.control_fields.specs.declared.field.Field.{Field}
 use Rattle.status_records.specs.Fields.{own_names, is_one_of, fields_but, recorded_fields}
 use Rattle.status_records.specs.declared.values.Kind.{Kind}
-use Rattle.status_records.specs.declared.values.Kind.TheVariants.{PackageName, StatusWords, VersionText, Yes, ConffileLines, PendingLines}
+use Rattle.status_records.specs.declared.values.Kind.TheVariants.{PackageName, StatusWords, VersionText, Yes, ConffileLines, PendingLines, TriggerNames}
 use Rattle.status_records.specs.Values.{kind_of, control_kind, IsReadableAs, IsReadable, IsReadableControl}
 use Rattle.status_records.specs.Writable.{IsWritable}
 
@@ -124,12 +124,21 @@ other_kind l out =
     let e = or_parts (bytes_eq l (codes "removed-since")) _ d.1 in
     let f = or_parts (bytes_eq l (codes "conffiles")) _ e.1 in
     let g = or_parts (bytes_eq l (codes "new-conffiles")) _ f.1 in
+    let h = or_parts (bytes_eq l (codes "triggers-pending")) _ g.1 in
+    let i = or_parts (bytes_eq l (codes "triggers-awaited")) _ h.1 in
     ap (λ x. cond x PackageName (kind_but_package l)) a.0 ∙ ap (λ x. cond x StatusWords (kind_but_status l)) b.0 ∙ ap (λ x. cond x VersionText (kind_but_version l)) c.0
     ∙ ap (λ x. cond x VersionText (kind_but_earlier l)) d.0 ∙ ap (λ x. cond x Yes (kind_but_removed l)) e.0
-    ∙ ap (λ x. cond x ConffileLines (kind_but_conffiles l)) f.0 ∙ ap (λ x. cond x PendingLines (control_kind l)) g.0
+    ∙ ap (λ x. cond x ConffileLines (kind_but_conffiles l)) f.0 ∙ ap (λ x. cond x PendingLines (kind_but_conffile_fields l)) g.0
+    ∙ ap (λ x. cond x TriggerNames (kind_but_pending l)) h.0 ∙ ap (λ x. cond x TriggerNames (control_kind l)) i.0
   where
+    kind_but_pending : List ℕ → Kind
+    kind_but_pending l = cond (bytes_eq l (codes "triggers-awaited")) TriggerNames (control_kind l)
+
+    kind_but_conffile_fields : List ℕ → Kind
+    kind_but_conffile_fields l = cond (bytes_eq l (codes "triggers-pending")) TriggerNames (kind_but_pending l)
+
     kind_but_conffiles : List ℕ → Kind
-    kind_but_conffiles l = cond (bytes_eq l (codes "new-conffiles")) PendingLines (control_kind l)
+    kind_but_conffiles l = cond (bytes_eq l (codes "new-conffiles")) PendingLines (kind_but_conffile_fields l)
 
     kind_but_removed : List ℕ → Kind
     kind_but_removed l = cond (bytes_eq l (codes "conffiles")) ConffileLines (kind_but_conffiles l)

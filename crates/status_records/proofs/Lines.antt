@@ -2,7 +2,8 @@
 use Rattle.std.proofs.Common.{◌≡◌, ◌≢◌, ℕ, not, ◌<◌, Bool, true, false, cond, ◌&&◌, ltb, eqb, List, [], ◌∷◌, ◌++◌, length, get_or, refl, ap, ◌∙◌, arith, codes, Option, None, Some}
 use Rattle.std.specs.Prelude.{IfSome}
 use Rattle.std.specs.Char.{is_ascii_digit}
-use Rattle.std.specs.Str.{IsUtf8}
+use Rattle.std.specs.Str.{IsUtf8, bytes_eq}
+use Rattle.std.proofs.lemmas.Slice.Eq.{bytes_eq-Decides}
 use Rattle.std.specs.List.{list_all, AllPass}
 use Rattle.std.proofs.lemmas.Bool.{and_parts, and_from}
 use Rattle.std.proofs.lemmas.Bool.Decides.{nat_tests}
@@ -21,9 +22,10 @@ use Rattle.status_records.specs.declared.words.Want.{Want}
 use Rattle.status_records.specs.declared.words.Want.TheVariants as want
 use Rattle.status_records.specs.declared.words.Flag.{Flag}
 use Rattle.status_records.specs.declared.words.Flag.TheVariants as flag
-use Rattle.status_records.specs.declared.words.State.{State}
-use Rattle.status_records.specs.declared.words.State.TheVariants as state
+use Rattle.status_records.specs.declared.words.StateWord.{StateWord}
+use Rattle.status_records.specs.declared.words.StateWord.TheVariants as word
 use Rattle.status_records.specs.Words.{want_word, flag_word, state_word, status_text}
+use Rattle.status_records.specs.TriggerNames.{is_printed_sign, starts_with_sign, are_trigger_names}
 use Rattle.status_records.specs.Paragraphs.{line_field}
 
 -- a sign of ASCII, and the same or a space
@@ -125,26 +127,30 @@ flag_visible : (g : Flag) → list_all is_printed (flag_word g) ≡ true
 flag_visible flag.Ok = refl
 flag_visible flag.Reinstreq = refl
 
-state_visible : (s : State) → list_all is_printed (state_word s) ≡ true
-state_visible state.NotInstalled = refl
-state_visible state.ConfigFiles = refl
-state_visible state.HalfInstalled = refl
-state_visible state.Unpacked = refl
-state_visible state.HalfConfigured = refl
-state_visible state.Installed = refl
+state_visible : (s : StateWord) → list_all is_printed (state_word s) ≡ true
+state_visible word.NotInstalled = refl
+state_visible word.ConfigFiles = refl
+state_visible word.HalfInstalled = refl
+state_visible word.Unpacked = refl
+state_visible word.HalfConfigured = refl
+state_visible word.TriggersAwaited = refl
+state_visible word.TriggersPending = refl
+state_visible word.Installed = refl
 
-state_end : (s : State) → (state_word s ≢ []) × (trim_end (state_word s) ≡ state_word s)
-state_end state.NotInstalled = ((λ e. cc e), refl)
-state_end state.ConfigFiles = ((λ e. cc e), refl)
-state_end state.HalfInstalled = ((λ e. cc e), refl)
-state_end state.Unpacked = ((λ e. cc e), refl)
-state_end state.HalfConfigured = ((λ e. cc e), refl)
-state_end state.Installed = ((λ e. cc e), refl)
+state_end : (s : StateWord) → (state_word s ≢ []) × (trim_end (state_word s) ≡ state_word s)
+state_end word.NotInstalled = ((λ e. cc e), refl)
+state_end word.ConfigFiles = ((λ e. cc e), refl)
+state_end word.HalfInstalled = ((λ e. cc e), refl)
+state_end word.Unpacked = ((λ e. cc e), refl)
+state_end word.HalfConfigured = ((λ e. cc e), refl)
+state_end word.TriggersAwaited = ((λ e. cc e), refl)
+state_end word.TriggersPending = ((λ e. cc e), refl)
+state_end word.Installed = ((λ e. cc e), refl)
 
 pub both_printed : (a b : List ℕ) → list_all is_printed a ≡ true → list_all is_printed b ≡ true → list_all is_printed (a ++ b) ≡ true
 both_printed a b e f = list_all-append is_printed a b ∙ and_from (list_all is_printed a) (list_all is_printed b) e f
 
-pub status_printed : (w : Want) (g : Flag) (s : State) → list_all is_printed (status_text w g s) ≡ true
+pub status_printed : (w : Want) (g : Flag) (s : StateWord) → list_all is_printed (status_text w g s) ≡ true
 status_printed w g s = both_printed (want_word w) (32 ∷ (flag_word g ++ 32 ∷ state_word s)) (want_visible w) (both_printed (flag_word g) (32 ∷ state_word s) (flag_visible g) (state_visible s))
 
 pub status_start : (w : Want) (rest : List ℕ) → trim_start (want_word w ++ rest) ≡ want_word w ++ rest
@@ -158,7 +164,7 @@ flag_some : (g : Flag) (rest : List ℕ) → flag_word g ++ rest ≢ []
 flag_some flag.Ok rest = λ e. cc e
 flag_some flag.Reinstreq rest = λ e. cc e
 
-pub status_end : (w : Want) (g : Flag) (s : State) → trim_end (status_text w g s) ≡ status_text w g s
+pub status_end : (w : Want) (g : Flag) (s : StateWord) → trim_end (status_text w g s) ≡ status_text w g s
 status_end w g s =
     let last = state_end s in
     let a = trimmed_after (32 ∷ []) (state_word s) last.0 last.1 in
@@ -196,9 +202,25 @@ pub removed_is_field : IsField (line_field (codes "Removed-Since") (codes "yes")
 removed_is_field =
     line_is_field (codes "Removed-Since") (codes "yes") (name_of (codes "Removed-Since") refl (omega arith) (omega arith) (omega arith)) (lacks_colon (codes "Removed-Since") refl) refl refl refl
 
-pub status_is_field : (w : Want) (g : Flag) (s : State) → IsField (line_field (codes "Status") (status_text w g s))
+pub status_is_field : (w : Want) (g : Flag) (s : StateWord) → IsField (line_field (codes "Status") (status_text w g s))
 status_is_field w g s =
     line_is_field (codes "Status") (status_text w g s) (name_of (codes "Status") refl (omega arith) (omega arith) (omega arith)) (lacks_colon (codes "Status") refl) (status_printed w g s) (status_end w g s) (status_start w (32 ∷ (flag_word g ++ 32 ∷ state_word s)))
+
+-- names of triggers or packages
+
+start_kept : (text : List ℕ) → starts_with_sign text ≡ true → trim_start text ≡ text
+start_kept [] e = refl
+start_kept (b ∷ bs) e = by (is_blank b) refl e
+  where
+    by : (blank : Bool) → is_blank b ≡ blank → not blank ≡ true → trim_start (b ∷ bs) ≡ b ∷ bs
+    by true is e = absurd (cc e)
+    by false is e = ap (λ y. cond y (trim_start bs) (b ∷ bs)) is
+
+pub names_are_field : (name value : List ℕ) → IsName name → Lacks name 58 → are_trigger_names value ≡ true → IsField (line_field name value)
+names_are_field name value is colon e =
+    let parts = and_parts (list_all is_printed_sign value) (starts_with_sign value && bytes_eq (trim_end value) value) e in
+    let ends = and_parts (starts_with_sign value) (bytes_eq (trim_end value) value) parts.1 in
+    line_is_field name value is colon parts.0 ((bytes_eq-Decides (trim_end value) value).0 ends.1) (start_kept value ends.0)
 
 no_blank : (b : ℕ) → not (eqb b 32) ≡ true → b ≢ 32
 no_blank b e = grind (arith, nat_tests)

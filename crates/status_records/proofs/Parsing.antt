@@ -8,9 +8,9 @@ use Rattle.status_records.specs.declared.words.Want.{Want}
 use Rattle.status_records.specs.declared.words.Want.TheVariants as want
 use Rattle.status_records.specs.declared.words.Flag.{Flag}
 use Rattle.status_records.specs.declared.words.Flag.TheVariants as flag
-use Rattle.status_records.specs.declared.words.State.{State}
-use Rattle.status_records.specs.declared.words.State.TheVariants as state
-use Rattle.status_records.specs.Words.{want_word, flag_word, state_word, is_not_installed, status_text, IsStatusText}
+use Rattle.status_records.specs.declared.words.StateWord.{StateWord}
+use Rattle.status_records.specs.declared.words.StateWord.TheVariants as word
+use Rattle.status_records.specs.Words.{want_word, flag_word, state_word, state_of, is_not_installed, status_text, IsStatusText}
 use Rattle.status_records.proofs.Lines.{lacks_blank}
 
 pub behind : (a b x y : List ℕ) → Lacks a 32 → Lacks b 32 → a ++ 32 ∷ x ≡ b ++ 32 ∷ y → x ≡ y
@@ -44,30 +44,34 @@ no_want bytes none is = none is.0 (flag_word is.1 ++ 32 ∷ state_word is.2) is.
 pub no_flag : (bytes rest : List ℕ) (w : Want) → bytes ≡ want_word w ++ 32 ∷ rest → ((g : Flag) (behind : List ℕ) → rest ≢ flag_word g ++ 32 ∷ behind) → IsStatusText bytes → ⊥
 no_flag bytes rest w e none is = none is.1 (state_word is.2) (behind_want w is.0 rest (flag_word is.1 ++ 32 ∷ state_word is.2) (sym e ∙ is.3))
 
-pub no_state : (bytes rest last : List ℕ) (w : Want) (g : Flag) → bytes ≡ want_word w ++ 32 ∷ rest → rest ≡ flag_word g ++ 32 ∷ last → ((s : State) → last ≢ state_word s) → IsStatusText bytes → ⊥
+pub no_state : (bytes rest last : List ℕ) (w : Want) (g : Flag) → bytes ≡ want_word w ++ 32 ∷ rest → rest ≡ flag_word g ++ 32 ∷ last → ((s : StateWord) → last ≢ state_word s) → IsStatusText bytes → ⊥
 no_state bytes rest last w g e f none is =
     none is.2 (behind_flag g is.1 last (state_word is.2) (sym f ∙ behind_want w is.0 rest (flag_word is.1 ++ 32 ∷ state_word is.2) (sym e ∙ is.3)))
 
-begins_n : (s : State) → get_or (state_word s) 0 0 ≡ 110 → is_not_installed s ≡ true
-begins_n state.NotInstalled e = refl
-begins_n state.ConfigFiles e = absurd (omega (arith, e))
-begins_n state.HalfInstalled e = absurd (omega (arith, e))
-begins_n state.Unpacked e = absurd (omega (arith, e))
-begins_n state.HalfConfigured e = absurd (omega (arith, e))
-begins_n state.Installed e = absurd (omega (arith, e))
+begins_n : (s : StateWord) → get_or (state_word s) 0 0 ≡ 110 → is_not_installed (state_of s) ≡ true
+begins_n word.NotInstalled e = refl
+begins_n word.ConfigFiles e = absurd (omega (arith, e))
+begins_n word.HalfInstalled e = absurd (omega (arith, e))
+begins_n word.Unpacked e = absurd (omega (arith, e))
+begins_n word.HalfConfigured e = absurd (omega (arith, e))
+begins_n word.TriggersAwaited e = absurd (omega (arith, e))
+begins_n word.TriggersPending e = absurd (omega (arith, e))
+begins_n word.Installed e = absurd (omega (arith, e))
 
 -- a Status with the word not-installed has that state
-pub gone_state : (w v : Want) (g h : Flag) (s : State) → status_text w g s ≡ status_text v h state.NotInstalled → is_not_installed s ≡ true
+pub gone_state : (w v : Want) (g h : Flag) (s : StateWord) → status_text w g s ≡ status_text v h word.NotInstalled → is_not_installed (state_of s) ≡ true
 gone_state w v g h s e =
-    begins_n s (ap (λ (l : List ℕ). get_or l 0 0) (behind_flag g h (state_word s) (state_word state.NotInstalled) (behind_want w v (flag_word g ++ 32 ∷ state_word s) (flag_word h ++ 32 ∷ state_word state.NotInstalled) e)))
+    begins_n s (ap (λ (l : List ℕ). get_or l 0 0) (behind_flag g h (state_word s) (state_word word.NotInstalled) (behind_want w v (flag_word g ++ 32 ∷ state_word s) (flag_word h ++ 32 ∷ state_word word.NotInstalled) e)))
 
-pub is_gone_state : (s : State) → is_not_installed s ≡ true → s ≡ state.NotInstalled
-is_gone_state state.NotInstalled e = refl
-is_gone_state state.ConfigFiles e = absurd (cc e)
-is_gone_state state.HalfInstalled e = absurd (cc e)
-is_gone_state state.Unpacked e = absurd (cc e)
-is_gone_state state.HalfConfigured e = absurd (cc e)
-is_gone_state state.Installed e = absurd (cc e)
+pub is_gone_state : (s : StateWord) → is_not_installed (state_of s) ≡ true → s ≡ word.NotInstalled
+is_gone_state word.NotInstalled e = refl
+is_gone_state word.ConfigFiles e = absurd (cc e)
+is_gone_state word.HalfInstalled e = absurd (cc e)
+is_gone_state word.Unpacked e = absurd (cc e)
+is_gone_state word.HalfConfigured e = absurd (cc e)
+is_gone_state word.TriggersAwaited e = absurd (cc e)
+is_gone_state word.TriggersPending e = absurd (cc e)
+is_gone_state word.Installed e = absurd (cc e)
 
 -- what stands behind a text and a blank
 

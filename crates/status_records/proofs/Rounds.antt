@@ -17,13 +17,15 @@ use Rattle.status_records.specs.declared.record.Record.{Record}
 use Rattle.status_records.specs.Words.{is_not_installed, is_installed, status_text}
 use Rattle.status_records.specs.Digests.{IsDigestOrNone}
 use Rattle.status_records.specs.Writable.{IsWritable}
+use Rattle.status_records.specs.Fields.{own_names, is_one_of}
+use Rattle.control_fields.specs.declared.field.Field.{Field}
 use Rattle.status_records.specs.Records.{IsWithout, AreApart, standing}
 use Rattle.status_records.specs.ConffilePaths.{AreInOrder, in_path_order}
 use Rattle.status_records.specs.ConffileFields.{ConffileWords, PendingWords, conffile_words, pending_words, conffile_paths, pending_paths, are_apart, words_of_conffile, words_of_pending, conffile_line, pending_line}
-use Rattle.status_records.specs.Paragraphs.{line_field, paragraph_of, record_text, HasParts, field_in, line_of, conffile_lines, pending_lines, AreConffilesOf, ArePendingOf, IsRecordOf, IsEntry, Enters}
+use Rattle.status_records.specs.Paragraphs.{line_field, record_word, paragraph_of, record_text, HasParts, field_in, line_of, is_configured_in, conffile_lines, pending_lines, AreConffilesOf, ArePendingOf, IsRecordOf, IsEntry, Enters}
 use Rattle.status_records.specs.Status.{IsStatus}
 use Rattle.status_records.proofs.EntryLines.{all_digested, all_pending_digested, words_by, pending_by, words_again, pending_again, all_more, all_pending_more, lines_read, pending_lines_read}
-use Rattle.status_records.proofs.OwnFields.{own_written, whole_written, IsReadAgain, own_readable, others_kept, config_again, removed_again, conffiles_again, pending_field_again}
+use Rattle.status_records.proofs.OwnFields.{ArePartsFit, own_written, whole_written, IsReadAgain, own_readable, others_kept, config_again, removed_again, conffiles_again, pending_field_again, triggers_pending_again, triggers_awaited_again}
 use Rattle.status_records.proofs.PathOrder.{order_apart, in_order_kept}
 use Rattle.status_records.proofs.Tables.{apart_filter}
 
@@ -38,10 +40,13 @@ pub record IsWhole (r : Record) : Type 0 where
 pub whole_of : (r : Record) → ∥ IsWhole r ∥₁
 whole_of r = ∥∥₁_elim r.writable ∥∥₁_prop (λ w. ∥∥₁_elim (all_digested r.conffiles) ∥∥₁_prop (λ es. ∥∥₁_map (all_pending_digested r.pending) (λ ps. record { writable = w; conffiles = es; pending = ps })))
 
+parts_fit : (r : Record) → HasParts r → ArePartsFit r
+parts_fit r parts = record { version = parts.version; config_version = parts.config_version; triggers_pending = parts.triggers_pending; triggers_awaited = parts.triggers_awaited }
+
 pub paragraph_written : (r : Record) → IsWhole r → HasParts r → IsParagraph (paragraph_of r)
 paragraph_written r whole parts = record {
   some = λ e. cc e;
-  are = whole_written r (own_written r whole.writable.named parts.version parts.config_version (all_more r.conffiles whole.conffiles) (all_pending_more r.pending whole.pending)) whole.writable.others whole.writable.written;
+  are = whole_written r (own_written r whole.writable.named (parts_fit r parts) (all_more r.conffiles whole.conffiles) (all_pending_more r.pending whole.pending)) whole.writable.others whole.writable.written;
 }
 
 -- the parts of a record as they are found again
@@ -50,6 +55,16 @@ config_kept : (b : Bool) (v found : Option (List ℕ)) → b && is_some v ≡ fa
 config_kept true None found current e = refl
 config_kept true (Some v) found current e = absurd (true≢false current)
 config_kept false v found current e = sym e
+
+some_line : (o : Option Field) → is_some (line_of o) ≡ is_some o
+some_line None = refl
+some_line (Some f) = refl
+
+current_again : (r : Record) → AllByRecursion (λ f. is_one_of own_names f ≡ false) r.fields → is_configured_in r.state (paragraph_of r) && is_some r.config_version ≡ false
+current_again r others =
+    let found = field_in (codes "triggers-awaited") (paragraph_of r) in
+    let same : is_some found ≡ is_some r.triggers.awaited = sym (some_line found) ∙ ap is_some (triggers_awaited_again r others) in
+    ap (λ b. (is_installed r.state && not b) && is_some r.config_version) same ∙ r.current
 
 word_paths : (es : List ConffileEntry) → map (λ (w : ConffileWords). w.path) (map words_of_conffile es) ≡ map (λ (e : ConffileEntry). e.path) es
 word_paths [] = refl
@@ -82,12 +97,14 @@ pending_found r whole parts =
 record_again : (r : Record) → IsWhole r → HasParts r → is_not_installed r.state ≡ false → IsRecordOf (paragraph_of r) r
 record_again r whole parts there = record {
   name = record { field = line_field (codes "Package") r.name; there = refl; value_is = refl; one_line = refl };
-  status = record { field = line_field (codes "Status") (status_text r.want r.flag r.state); there = refl; value_is = refl; one_line = refl };
+  status = record { field = line_field (codes "Status") (status_text r.want r.flag (record_word r)); there = refl; value_is = refl; one_line = refl };
   version = record { field = line_field (codes "Version") r.version; there = refl; value_is = refl; one_line = refl };
-  config_version = config_kept (is_installed r.state) r.config_version (line_of (field_in (codes "config-version") (paragraph_of r))) r.current (config_again r whole.writable.others);
+  config_version = config_kept (is_configured_in r.state (paragraph_of r)) r.config_version (line_of (field_in (codes "config-version") (paragraph_of r))) (current_again r whole.writable.others) (config_again r whole.writable.others);
   removed_since = sym (removed_again r whole.writable.others);
   conffiles = conffiles_found r whole parts;
   pending = pending_found r whole parts;
+  triggers_pending = sym (triggers_pending_again r whole.writable.others);
+  triggers_awaited = sym (triggers_awaited_again r whole.writable.others);
   others = sym (others_kept r whole.writable.others);
   stands = there;
 }
@@ -107,7 +124,7 @@ entry_again names r whole parts there new = record {
     stands_for = inr (r, record_again r whole parts there, refl);
   };
   new = new;
-  readable = own_readable r whole.writable.named parts.version parts.config_version (read_again r whole parts) whole.writable.readable;
+  readable = own_readable r whole.writable.named (parts_fit r parts) (read_again r whole parts) whole.writable.readable;
 }
 
 -- all of them

@@ -12,9 +12,9 @@ use Rattle.texts.specs.PackageNames.{is_package_name}
 use Rattle.version_order.specs.Versions.{IsVersion}
 use Rattle.status_records.specs.declared.words.Want.{Want}
 use Rattle.status_records.specs.declared.words.Flag.{Flag}
-use Rattle.status_records.specs.declared.words.State.{State}
-use Rattle.status_records.specs.declared.words.State.TheVariants.{NotInstalled}
-use Rattle.status_records.specs.Words.{is_not_installed, status_text, IsStatusText}
+use Rattle.status_records.specs.declared.words.StateWord.{StateWord}
+use Rattle.status_records.specs.declared.words.StateWord.TheVariants.{NotInstalled}
+use Rattle.status_records.specs.Words.{is_not_installed, state_of, status_text, IsStatusText}
 use Rattle.status_records.specs.Values.{IsReadable}
 use Rattle.status_records.specs.Paragraphs.{field_in, Says, IsNamed, IsGone}
 use Rattle.control_fields.specs.Names.{line_of_field}
@@ -51,7 +51,7 @@ says_same text fs a b p q =
 pub none_named : (fs : List Field) (value : List ℕ) → Says (codes "package") fs value → is_package_name value ≡ false → (name : List ℕ) → IsNamed fs name → ⊥
 none_named fs value says bad name is = true≢false (sym is.1 ∙ ap is_package_name (says_same (codes "package") fs name value is.0 says) ∙ bad)
 
-pub none_status : (fs : List Field) (value : List ℕ) → Says (codes "status") fs value → (IsStatusText value → ⊥) → (w : Want) (g : Flag) (s : State) → Says (codes "status") fs (status_text w g s) → ⊥
+pub none_status : (fs : List Field) (value : List ℕ) → Says (codes "status") fs value → (IsStatusText value → ⊥) → (w : Want) (g : Flag) (s : StateWord) → Says (codes "status") fs (status_text w g s) → ⊥
 none_status fs value says bad w g s is = bad (w, g, s, says_same (codes "status") fs value (status_text w g s) says is)
 
 pub none_version : (fs : List Field) (value : List ℕ) → Says (codes "version") fs value → (IsVersion value → ⊥) → (v : List ℕ) → Says (codes "version") fs v × IsVersion v → ⊥
@@ -59,12 +59,12 @@ none_version fs value says bad v is = bad (subst IsVersion (says_same (codes "ve
 
 -- gone
 
-pub not_gone : (fs : List Field) → ((w : Want) (g : Flag) (s : State) → Says (codes "status") fs (status_text w g s) → ⊥) → IsTrue false ↔ IsGone fs
+pub not_gone : (fs : List Field) → ((w : Want) (g : Flag) (s : StateWord) → Says (codes "status") fs (status_text w g s) → ⊥) → IsTrue false ↔ IsGone fs
 not_gone fs none = (λ t. absurd (false≢true t), λ is. absurd (none is.0 is.1 NotInstalled is.2))
 
-pub gone_by : (fs : List Field) (w : Want) (g : Flag) (s : State) (b : Bool) → Says (codes "status") fs (status_text w g s) → b ≡ is_not_installed s → IsTrue b ↔ IsGone fs
+pub gone_by : (fs : List Field) (w : Want) (g : Flag) (s : StateWord) (b : Bool) → Says (codes "status") fs (status_text w g s) → b ≡ is_not_installed (state_of s) → IsTrue b ↔ IsGone fs
 gone_by fs w g s b says e = (
-  λ t. (w, g, subst (λ (q : State). Says (codes "status") fs (status_text w g q)) (is_gone_state s (sym e ∙ t)) says),
+  λ t. (w, g, subst (λ (q : StateWord). Says (codes "status") fs (status_text w g q)) (is_gone_state s (sym e ∙ t)) says),
   λ is. e ∙ gone_state w is.0 g is.1 s (says_same (codes "status") fs (status_text w g s) (status_text is.0 is.1 NotInstalled) says is.2),
 )
 

@@ -1,5 +1,5 @@
 -- The first faulty line of the status file's text.
-use Rattle.std.specs.Prelude.{◌≡◌, ◌⊎◌, ◌<◌, ◌^◌, ℕ, true, List, [], ◌∷◌, ◌++◌, Option, Some, None, length, codes, slice_get}
+use Rattle.std.specs.Prelude.{◌≡◌, ◌⊎◌, ◌<◌, ◌^◌, ℕ, true, List, [], ◌∷◌, ◌++◌, Option, Some, None, length, codes, slice_get, is_some, false}
 use Rattle.std.specs.List.{list_any, AllByRecursion}
 use Rattle.std.specs.Str.{bytes_eq}
 use Rattle.control_fields.specs.Names.{line_of_field}
@@ -11,7 +11,11 @@ use Rattle.control_fields.specs.declared.fault.ControlFault.{ControlFault}
 use Rattle.control_fields.specs.declared.fault.ControlFault.TheVariants.{NoColon, BadName, Twice, OrphanContinuation, NotUtf8, NoMemory, Second}
 use Rattle.status_records.specs.declared.record.Record.{Record}
 use Rattle.status_records.specs.Values.{IsReadable}
-use Rattle.status_records.specs.Paragraphs.{field_in, IsNamed, IsGone, Enters}
+use Rattle.status_records.specs.declared.words.Want.{Want}
+use Rattle.status_records.specs.declared.words.Flag.{Flag}
+use Rattle.status_records.specs.declared.words.StateWord.{StateWord}
+use Rattle.status_records.specs.Words.{status_text, disagrees}
+use Rattle.status_records.specs.Paragraphs.{field_in, Says, IsNamed, IsGone, Enters}
 
 -- the line that a fault of the control grammar tells
 abbrev pub line_in : ControlFault → ℕ
@@ -31,9 +35,14 @@ IsMissing fields = (field_in (codes "package") fields ≡ None) ⊎ ((field_in (
 abbrev pub IsTaken : List (List ℕ) → List Field → Type 0
 IsTaken names fields = (name : List ℕ) × IsNamed fields name × (list_any (bytes_eq name) names ≡ true)
 
+-- triggers are pending or awaited beside a state that has none, or aren't beside one that has
+abbrev pub AreAmiss : List Field → Type 0
+AreAmiss fields = (want : Want) × (flag : Flag) × (word : StateWord) × Says (codes "status") fields (status_text want flag word)
+    × (disagrees word (is_some (field_in (codes "triggers-pending") fields)) (is_some (field_in (codes "triggers-awaited") fields)) ≡ true)
+
 -- the fault is one of the paragraph as a whole
 abbrev pub IsFaultyWhole : List (List ℕ) → List Field → Type 0
-IsFaultyWhole names fields = IsMissing fields ⊎ IsTaken names fields
+IsFaultyWhole names fields = IsMissing fields ⊎ (IsTaken names fields ⊎ AreAmiss fields)
 
 -- the first field whose value can't be read stands on this line
 pub record IsBadField (l : Located) (line : ℕ) : Type 0 where

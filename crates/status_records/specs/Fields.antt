@@ -7,7 +7,7 @@ use Rattle.control_fields.specs.declared.field.Field.{Field}
 
 -- the fields that a record has of its own
 abbrev pub own_names : List (List ℕ)
-own_names = codes "package" ∷ codes "status" ∷ codes "version" ∷ codes "config-version" ∷ codes "removed-since" ∷ codes "conffiles" ∷ codes "new-conffiles" ∷ []
+own_names = codes "package" ∷ codes "status" ∷ codes "version" ∷ codes "config-version" ∷ codes "removed-since" ∷ codes "conffiles" ∷ codes "new-conffiles" ∷ codes "triggers-pending" ∷ codes "triggers-awaited" ∷ []
 
 -- the field has one of the names, in any case
 abbrev pub is_one_of : List (List ℕ) → Field → Bool

@@ -1,4 +1,6 @@
 pub mod Words
+pub mod TriggerNames
+pub mod Triggers
 pub mod Fields
 pub mod ConffilePaths
 pub mod Digests

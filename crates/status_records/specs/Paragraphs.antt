@@ -1,5 +1,5 @@
 -- How a record is written as a paragraph, and what a paragraph says.
-use Rattle.std.specs.Prelude.{◌≡◌, ◌⊎◌, ℕ, Bool, true, false, cond, List, [], ◌∷◌, ◌++◌, Option, Some, None, is_some, IfSome, map, codes}
+use Rattle.std.specs.Prelude.{◌≡◌, ◌⊎◌, ℕ, Bool, true, false, not, ◌&&◌, cond, List, [], ◌∷◌, ◌++◌, Option, Some, None, is_some, IfSome, map, codes}
 use Rattle.std.specs.List.{list_any, AllByRecursion}
 use Rattle.std.specs.Str.{bytes_eq}
 use Rattle.control_fields.specs.Names.{lower}
@@ -13,8 +13,11 @@ use Rattle.status_records.specs.declared.record.Record.{Record}
 use Rattle.status_records.specs.declared.words.Want.{Want}
 use Rattle.status_records.specs.declared.words.Flag.{Flag}
 use Rattle.status_records.specs.declared.words.State.{State}
-use Rattle.status_records.specs.declared.words.State.TheVariants.{NotInstalled}
-use Rattle.status_records.specs.Words.{status_text, is_not_installed, is_installed}
+use Rattle.status_records.specs.declared.words.StateWord.{StateWord}
+use Rattle.status_records.specs.declared.words.StateWord.TheVariants.{NotInstalled}
+use Rattle.status_records.specs.declared.triggers.Triggers.{Triggers}
+use Rattle.status_records.specs.Words.{status_text, word_of, is_not_installed, is_installed}
+use Rattle.status_records.specs.TriggerNames.{are_trigger_names}
 use Rattle.status_records.specs.Fields.{recorded_fields}
 use Rattle.status_records.specs.Values.{IsReadable}
 use Rattle.status_records.specs.ConffilePaths.{AreInOrder, in_path_order}
@@ -42,13 +45,26 @@ abbrev pub lines_field : List ℕ → List (List ℕ) → List Field
 lines_field name [] = []
 lines_field name (line ∷ lines) = record { name = name; first = []; more = line ∷ lines } ∷ []
 
+-- names of triggers or packages, where there are any
+abbrev pub names_field : List ℕ → Option (List ℕ) → List Field
+names_field name None = []
+names_field name (Some names) = line_field name names ∷ []
+
+abbrev pub trigger_fields : Triggers → List Field
+trigger_fields t = names_field (codes "Triggers-Pending") t.pending ++ names_field (codes "Triggers-Awaited") t.awaited
+
+-- the word of a record's state
+abbrev pub record_word : Record → StateWord
+record_word r = word_of r.state (is_some r.triggers.pending) (is_some r.triggers.awaited)
+
 -- the fields of a record's own, in their order
 abbrev pub own_fields : Record → List Field
 own_fields r =
-    first_fields r.name (status_text r.want r.flag r.state) r.version
+    first_fields r.name (status_text r.want r.flag (record_word r)) r.version
     ++ (config_field r.config_version
     ++ (removed_field r.removed_since
-    ++ (lines_field (codes "Conffiles") (map conffile_line r.conffiles) ++ lines_field (codes "New-Conffiles") (map pending_line r.pending))))
+    ++ (lines_field (codes "Conffiles") (map conffile_line r.conffiles)
+    ++ (lines_field (codes "New-Conffiles") (map pending_line r.pending) ++ trigger_fields r.triggers))))
 
 -- a record's own fields, then the other ones
 abbrev pub paragraph_of : Record → List Field
@@ -64,6 +80,8 @@ pub record HasParts (r : Record) : Type 0 where
   pub config_version : IfSome r.config_version IsVersion
   pub conffiles : AreInOrder (map (λ e. e.path) r.conffiles)
   pub pending : AreInOrder (map (λ p. p.path) r.pending)
+  pub triggers_pending : IfSome r.triggers.pending (λ names. are_trigger_names names ≡ true)
+  pub triggers_awaited : IfSome r.triggers.awaited (λ names. are_trigger_names names ≡ true)
 
 -- the field of a name, which is given in lower case
 abbrev pub field_in : List ℕ → List Field → Option Field
@@ -94,9 +112,14 @@ abbrev pub lines_of_field : Option Field → List (List ℕ)
 lines_of_field None = []
 lines_of_field (Some f) = f.more
 
--- Config-Version; that of an installed package isn't looked at, since its Version was configured last
+-- whether a package of this state is installed and awaits no triggers
+abbrev pub is_configured_in : State → List Field → Bool
+is_configured_in state fields = is_installed state && not (is_some (field_in (codes "triggers-awaited") fields))
+
+-- Config-Version; that of an installed package isn't looked at, since its Version was configured last. Where triggers are awaited
+-- dpkg keeps it, and so it is kept here.
 abbrev pub earlier_version : State → List Field → Option (List ℕ)
-earlier_version state fields = cond (is_installed state) None (line_of (field_in (codes "config-version") fields))
+earlier_version state fields = cond (is_configured_in state fields) None (line_of (field_in (codes "config-version") fields))
 
 -- the lines of the conffiles, and of the digests that aren't settled yet
 abbrev pub conffile_lines : List Field → List (List ℕ)
@@ -115,12 +138,14 @@ ArePendingOf lines pending = map words_of_pending pending ≡ in_path_order (λ 
 -- what a paragraph says of a package that isn't gone
 pub record IsRecordOf (fields : List Field) (r : Record) : Type 0 where
   pub name : Says (codes "package") fields r.name
-  pub status : Says (codes "status") fields (status_text r.want r.flag r.state)
+  pub status : Says (codes "status") fields (status_text r.want r.flag (record_word r))
   pub version : Says (codes "version") fields r.version
   pub config_version : r.config_version ≡ earlier_version r.state fields
   pub removed_since : r.removed_since ≡ is_some (field_in (codes "removed-since") fields)
   pub conffiles : AreConffilesOf (conffile_lines fields) r.conffiles
   pub pending : ArePendingOf (pending_lines fields) r.pending
+  pub triggers_pending : r.triggers.pending ≡ line_of (field_in (codes "triggers-pending") fields)
+  pub triggers_awaited : r.triggers.awaited ≡ line_of (field_in (codes "triggers-awaited") fields)
   pub others : r.fields ≡ recorded_fields fields
   pub stands : is_not_installed r.state ≡ false
 

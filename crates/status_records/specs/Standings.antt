@@ -1,5 +1,5 @@
 -- How a record changes with what is done to its package (Policy 6.6 to 6.8).
-use Rattle.std.specs.Prelude.{◌≡◌, ◌&&◌, ℕ, Bool, true, false, cond, List, Option, Some, None, is_some}
+use Rattle.std.specs.Prelude.{◌≡◌, ◌&&◌, ℕ, Bool, true, false, not, cond, List, Option, Some, None, is_some}
 use Rattle.std.proofs.Common.{refl}
 use Rattle.control_fields.specs.declared.field.Field.{Field}
 use Rattle.status_records.specs.Configured.{last_configured}
@@ -8,6 +8,7 @@ use Rattle.status_records.specs.Words.{is_installed}
 use Rattle.status_records.specs.declared.entries.ConffileEntry.{ConffileEntry}
 use Rattle.status_records.specs.declared.entries.PendingDigest.{PendingDigest}
 use Rattle.status_records.specs.declared.record.Record.{Record}
+use Rattle.status_records.specs.Triggers.{no_triggers, triggers_beside, left_may_stand}
 use Rattle.status_records.specs.declared.words.Want.{Want}
 use Rattle.status_records.specs.declared.words.Want.TheVariants as want
 use Rattle.status_records.specs.declared.words.Flag.{Flag}
@@ -19,17 +20,21 @@ use Rattle.status_records.specs.declared.words.State.TheVariants as state
 abbrev pub version_beside : Bool → Option (List ℕ) → Option (List ℕ)
 version_beside installed last = cond installed None last
 
-pub one_version : (installed : Bool) (last : Option (List ℕ)) → installed && is_some (version_beside installed last) ≡ false
-one_version true last = refl
-one_version false last = refl
+pub one_version : (installed awaits : Bool) (last : Option (List ℕ)) → (installed && not awaits) && is_some (version_beside installed last) ≡ false
+one_version true true last = refl
+one_version true false last = refl
+one_version false awaits last = refl
 
--- With another flag and state: a package that leaves the state installed keeps its version as the one last configured.
+-- With another flag and state: a package that leaves the state installed keeps its version as the one last configured, and has
+-- no triggers to process.
 abbrev pub standing_as : Flag → State → Record → Record
 standing_as flag state r = record r {
   flag = flag;
   state = state;
   config_version = version_beside (is_installed state) (last_configured r);
-  current = one_version (is_installed state) (last_configured r);
+  current = one_version (is_installed state) (is_some (triggers_beside state r.triggers).awaited) (last_configured r);
+  triggers = triggers_beside state r.triggers;
+  beside = left_may_stand state r.triggers;
 }
 
 -- something else is wanted of the package
@@ -57,7 +62,8 @@ abbrev pub removed_of : Option Record → Bool
 removed_of None = false
 removed_of (Some old) = old.removed_since
 
--- The record of an unpacked package, wanted installed: what an earlier record told of the last configuration stays.
+-- The record of an unpacked package, wanted installed: what an earlier record told of the last configuration stays. It has no
+-- triggers: no package that has some is unpacked.
 pub record IsUnpackedOf (name version : List ℕ) (control : List Field) (old : Option Record) (entries : List ConffileEntry) (pending : List PendingDigest) (r : Record) : Type 0 where
   pub name_is : r.name ≡ name
   pub want_is : r.want ≡ want.Install
@@ -68,4 +74,5 @@ pub record IsUnpackedOf (name version : List ℕ) (control : List Field) (old : 
   pub removed_is : r.removed_since ≡ removed_of old
   pub conffiles_are : r.conffiles ≡ entries
   pub pending_are : r.pending ≡ pending
+  pub triggers_are : r.triggers ≡ no_triggers
   pub fields_are : r.fields ≡ recorded_fields control

@@ -8,9 +8,10 @@ use Rattle.texts.specs.PackageNames.{is_package_name}
 use Rattle.version_order.specs.Versions.{IsVersion}
 use Rattle.relation_fields.specs.RelationFields.{relation_called, IsRelation}
 use Rattle.status_records.specs.declared.values.Kind.{Kind}
-use Rattle.status_records.specs.declared.values.Kind.TheVariants.{PackageName, StatusWords, VersionText, Yes, ConffileLines, PendingLines, YesOrNo, Relation, Any}
+use Rattle.status_records.specs.declared.values.Kind.TheVariants.{PackageName, StatusWords, VersionText, Yes, ConffileLines, PendingLines, TriggerNames, YesOrNo, Relation, Any}
 use Rattle.status_records.specs.Words.{IsStatusText}
 use Rattle.status_records.specs.ConffileFields.{IsConffileField, IsPendingField}
+use Rattle.status_records.specs.TriggerNames.{are_trigger_names}
 
 -- what the value of a relation field has to be, and of one that isn't looked at
 abbrev pub relation_kind : List ℕ → Kind
@@ -30,6 +31,8 @@ kind_of name =
     else if bytes_eq name (codes "removed-since") then Yes
     else if bytes_eq name (codes "conffiles") then ConffileLines
     else if bytes_eq name (codes "new-conffiles") then PendingLines
+    else if bytes_eq name (codes "triggers-pending") then TriggerNames
+    else if bytes_eq name (codes "triggers-awaited") then TriggerNames
     else control_kind name
 
 -- the value of a simple field, which stands on one line (Policy 5.1)
@@ -38,7 +41,7 @@ IsSimple IsValue f = (f.more ≡ []) × IsValue f.first
 
 -- Package has the name of a package (Policy 5.6.7), Status its three words, Version and Config-Version a version (Policy
 -- 5.6.12). Removed-Since, a field of this project's own, is `yes`, Essential `yes` or `no` (Policy 5.6.9). Conffiles and
--- New-Conffiles have a line for each conffile. Relations may go on over several lines (Policy 7.1). Other fields are taken
+-- New-Conffiles have a line for each conffile, Triggers-Pending and Triggers-Awaited names on one line. Relations may go on over several lines (Policy 7.1). Other fields are taken
 -- as they are.
 abbrev pub IsReadableAs : Kind → Field → Type 0
 IsReadableAs PackageName f = IsSimple (λ text. is_package_name text ≡ true) f
@@ -47,6 +50,7 @@ IsReadableAs VersionText f = IsSimple IsVersion f
 IsReadableAs Yes f = IsSimple (λ text. text ≡ codes "yes") f
 IsReadableAs ConffileLines f = IsConffileField f
 IsReadableAs PendingLines f = IsPendingField f
+IsReadableAs TriggerNames f = IsSimple (λ text. are_trigger_names text ≡ true) f
 IsReadableAs YesOrNo f = IsYesOrNo f
 IsReadableAs (Relation relation) f = IsRelation relation (value_of f)
 IsReadableAs Any f = Unit {0}

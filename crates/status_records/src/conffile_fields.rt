@@ -18,7 +18,7 @@ use std::alloc::{AllocError, Global};
 use std::str;
 use texts::{Bytes, Text};
 
-fn is_blank(b: u8) -> bool
+pub(crate) fn is_blank(b: u8) -> bool
     ensures { result ≡ is_blank b }
 {
     b == b' ' || b == b'\t'

@@ -7,8 +7,11 @@
 //! relation fields have to be such that they can be read, and those that are noted are (the type
 //! `Record`). A record has its parts as types: the version last configured, whether a removal has
 //! come since, its conffiles with their digests and flags and the digests that aren't settled yet,
-//! both in path order, and the other fields of the control file; what is written of it reads back
-//! as the same record.
+//! both in path order, the triggers that it is to process and the packages that it awaits, and the
+//! other fields of the control file; what is written of it reads back as the same record.
+//!
+//! The word of the state in the status file, `word`, tells of triggers too (specs/Words, the table
+//! `agrees`): a paragraph whose word and fields disagree is a faulty one.
 //!
 //! `standing_as`, `wanting`, `removed`, `configured`, `with_conffiles` and `unpacked` are how a
 //! record changes with what is done to its package, each part of it pinned (specs/Standings);
@@ -29,6 +32,8 @@ mod names;
 mod reading;
 mod record;
 mod standings;
+mod trigger_names;
+mod triggers;
 mod values;
 mod words;
 mod writing;
@@ -39,5 +44,7 @@ pub use entries::{ConffileEntry, PendingDigest};
 pub use names::Names;
 pub use reading::{Entry, StatusFault, entry_of, first_bad, line_in, read_text};
 pub use record::Record;
-pub use words::{Flag, State, Want};
+pub use trigger_names::TriggerNames;
+pub use triggers::Triggers;
+pub use words::{Flag, State, StateWord, Want};
 pub use writing::{add_line, paragraph_of, record_text, status_node};

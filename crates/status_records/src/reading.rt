@@ -1,5 +1,5 @@
 // Reading the status file's text.
-ghost use Rattle.std.specs.Prelude.{◌≡◌, ◌≢◌, ◌↔◌, ◌++◌, ◌∷◌, [], ℕ, List, true, None, Some, IfOk, IfErr, IfSome, IfNone, OnOk, IsTrue, MatchOption, codes, option_copied, is_some};
+ghost use Rattle.std.specs.Prelude.{◌≡◌, ◌≢◌, ◌⊎◌, ◌↔◌, ◌++◌, ◌∷◌, [], ℕ, List, true, None, Some, IfOk, IfErr, IfSome, IfNone, OnOk, IsTrue, MatchOption, codes, option_copied, is_some, not, false};
 ghost use Rattle.std.specs.List.{list_any, AllByRecursion};
 ghost use Rattle.std.specs.Option.{option_to_list};
 ghost use Rattle.std.specs.Str.{bytes_eq};
@@ -9,14 +9,15 @@ ghost use Rattle.texts.specs.PackageNames.{is_package_name};
 ghost use Rattle.version_order.specs.Versions.{IsVersion};
 ghost use Rattle.status_records.specs.declared.words.Want.{Want as AWant};
 ghost use Rattle.status_records.specs.declared.words.Flag.{Flag as AFlag};
-ghost use Rattle.status_records.specs.declared.words.State.{State as AState};
+ghost use Rattle.status_records.specs.declared.words.StateWord.{StateWord as AWord};
 ghost use Rattle.status_records.specs.declared.reading.StatusFault.TheVariants.{NoMemory};
-ghost use Rattle.status_records.specs.Words.{status_text};
+ghost use Rattle.status_records.specs.Words.{status_text, state_of, agrees, disagrees};
 ghost use Rattle.status_records.specs.Fields.{recorded_fields};
 ghost use Rattle.status_records.specs.Records.{AreApart, standing};
-ghost use Rattle.status_records.specs.Values.{IsReadable};
-ghost use Rattle.status_records.specs.Paragraphs.{field_in, line_of, Says, IsNamed, IsGone, earlier_version, conffile_lines, pending_lines, AreConffilesOf, ArePendingOf, IsEntry, SaysEntry, Enters};
-ghost use Rattle.status_records.specs.Damage.{IsMissing, IsTaken, IsFaultyWhole, IsBadField, HasLines, line_in};
+ghost use Rattle.status_records.specs.Values.{kind_of, IsReadable};
+ghost use Rattle.status_records.specs.declared.values.Kind.TheVariants as Kind;
+ghost use Rattle.status_records.specs.Paragraphs.{field_in, line_of, Says, IsNamed, IsGone, is_configured_in, earlier_version, conffile_lines, pending_lines, AreConffilesOf, ArePendingOf, IsEntry, SaysEntry, Enters};
+ghost use Rattle.status_records.specs.Damage.{IsMissing, IsTaken, AreAmiss, IsFaultyWhole, IsBadField, HasLines, line_in};
 ghost use Rattle.status_records.specs.Faults.{IsEntryFault, IsTableFault, IsTextFault, IsEndFault, IsSound};
 ghost use Rattle.status_records.specs.Status.{IsStatus};
 
@@ -24,8 +25,10 @@ use crate::conffile_lists::{ConffileEntries, PendingDigests};
 use crate::conffile_reading::{conffiles_of, lines_in, pending_digests_of};
 use crate::names::Names;
 use crate::record::{Record, recorded_fields};
+use crate::trigger_names::TriggerNames;
+use crate::triggers::Triggers;
 use crate::values::{Status, is_readable, one_line, read_status, read_version};
-use crate::words::State;
+use crate::words::{State, StateWord};
 use control_fields::{ControlFault, Field, Located, Paragraph, read_located};
 use std::alloc::{AllocError, AllocFailed, Global};
 use texts::{Text, package_name};
@@ -84,9 +87,9 @@ fn name_in(fields: &Paragraph) -> Option<&str>
 
 fn status_in(fields: &Paragraph) -> Option<Status>
     ensures some { IfSome result (λ s. Says (codes "status") fields.now (status_text s.want s.flag
-        s.state)) }
-    ensures none { IfNone result ((want : AWant) (flag : AFlag) (state : AState)
-        → Says (codes "status") fields.now (status_text want flag state) → ⊥) }
+        s.word)) }
+    ensures none { IfNone result ((want : AWant) (flag : AFlag) (word : AWord)
+        → Says (codes "status") fields.now (status_text want flag word) → ⊥) }
 {
     match value_in(fields, b"status") {
         Some(value) => read_status(value),
@@ -98,7 +101,7 @@ fn is_gone(fields: &Paragraph) -> bool
     ensures { IsTrue result ↔ IsGone fields.now }
 {
     match status_in(fields) {
-        Some(status) => status.state.is_not_installed(),
+        Some(status) => status.word.state().is_not_installed(),
         None => false,
     }
 }
@@ -133,10 +136,35 @@ fn is_taken(names: &Names, fields: &Paragraph) -> bool
     }
 }
 
+// Whether a word of a state disagrees with the triggers that stand beside it.
+fn is_amiss_beside(word: StateWord, fields: &Paragraph) -> bool
+    ensures { result ≡ disagrees word (is_some (field_in (codes "triggers-pending") fields.now))
+        (is_some (field_in (codes "triggers-awaited") fields.now)) }
+{
+    let pending = field_in(fields, b"triggers-pending").is_some();
+    let awaited = field_in(fields, b"triggers-awaited").is_some();
+    !word.state().is_not_installed() && !word.agrees(pending, awaited)
+}
+
+fn are_amiss(fields: &Paragraph) -> bool
+    ensures { IsTrue result ↔ AreAmiss fields.now }
+{
+    match status_in(fields) {
+        Some(status) => is_amiss_beside(status.word, fields),
+        None => false,
+    }
+}
+
+fn is_taken_or_amiss(names: &Names, fields: &Paragraph) -> bool
+    ensures { IsTrue result ↔ (IsTaken names.now fields.now ⊎ AreAmiss fields.now) }
+{
+    is_taken(names, fields) || are_amiss(fields)
+}
+
 fn is_faulty_whole(names: &Names, fields: &Paragraph) -> bool
     ensures { IsTrue result ↔ IsFaultyWhole names.now fields.now }
 {
-    is_missing(fields) || is_taken(names, fields)
+    is_missing(fields) || is_taken_or_amiss(names, fields)
 }
 
 /// The line of the first field whose value can't be read.
@@ -182,7 +210,13 @@ fn own_line_in<'a>(fields: &'a Paragraph, lower: &[u8]) -> Option<&'a [u8]>
     }
 }
 
-// Config-Version, but of an installed package.
+fn is_configured_in(state: State, fields: &Paragraph) -> bool
+    ensures { result ≡ is_configured_in state fields.now }
+{
+    state.is_installed() && field_in(fields, b"triggers-awaited").is_none()
+}
+
+// Config-Version, but of an installed package that awaits no triggers.
 fn earlier_version(
     alloc: Global,
     state: State,
@@ -191,7 +225,7 @@ fn earlier_version(
     requires { AllByRecursion IsReadable fields.now }
     ensures { IfOk result (λ version. version ≡ earlier_version state fields.now) }
 {
-    if state.is_installed() {
+    if is_configured_in(state, fields) {
         return Ok(None);
     }
     match own_line_in(fields, b"config-version") {
@@ -216,6 +250,35 @@ fn read_earlier(alloc: Global, state: State, fields: &Paragraph) -> Result<Earli
     })
 }
 
+// The names that the field of a name says, which is given in lower case.
+fn names_in(
+    alloc: Global,
+    fields: &Paragraph,
+    lower: &[u8],
+) -> Result<Option<TriggerNames>, AllocError>
+    requires readable { AllByRecursion IsReadable fields.now }
+    requires kind { kind_of lower.now ≡ Kind.TriggerNames }
+    ensures { IfOk result (λ names. names ≡ line_of (field_in lower.now fields.now)) }
+{
+    match own_line_in(fields, lower) {
+        Some(value) => TriggerNames::read(alloc, value),
+        None => Ok(None),
+    }
+}
+
+fn triggers_in(alloc: Global, fields: &Paragraph) -> Result<Triggers, AllocError>
+    requires { AllByRecursion IsReadable fields.now }
+    ensures pending { IfOk result (λ t. t.pending ≡ line_of (field_in (codes "triggers-pending")
+        fields.now)) }
+    ensures awaited { IfOk result (λ t. t.awaited ≡ line_of (field_in (codes "triggers-awaited")
+        fields.now)) }
+{
+    Ok(Triggers {
+        pending: names_in(alloc, fields, b"triggers-pending")?,
+        awaited: names_in(alloc, fields, b"triggers-awaited")?,
+    })
+}
+
 fn record_of(
     alloc: Global,
     fields: &Paragraph,
@@ -226,34 +289,42 @@ fn record_of(
     requires named { is_package_name name.now ≡ true }
     requires written { ∥ AreFields [] fields.now ∥₁ }
     requires readable { AllByRecursion IsReadable fields.now }
+    requires agree { agrees status.word (is_some (field_in (codes "triggers-pending") fields.now))
+        (is_some (field_in (codes "triggers-awaited") fields.now)) ≡ true }
     ensures name { IfOk result (λ r. r.name ≡ name.now) }
     ensures want { IfOk result (λ r. r.want ≡ status.want) }
     ensures flag { IfOk result (λ r. r.flag ≡ status.flag) }
-    ensures state { IfOk result (λ r. r.state ≡ status.state) }
+    ensures state { IfOk result (λ r. r.state ≡ state_of status.word) }
     ensures version { IfOk result (λ r. r.version ≡ version) }
-    ensures config { IfOk result (λ r. r.config_version ≡ earlier_version status.state fields.now) }
+    ensures config { IfOk result (λ r. r.config_version ≡ earlier_version (state_of status.word) fields.now) }
     ensures removed { IfOk result (λ r. r.removed_since ≡ is_some (field_in (codes "removed-since")
         fields.now)) }
     ensures conffiles { IfOk result (λ r. AreConffilesOf (conffile_lines fields.now) r.conffiles) }
     ensures pending { IfOk result (λ r. ArePendingOf (pending_lines fields.now) r.pending) }
+    ensures triggers_pending { IfOk result (λ r. r.triggers.pending
+        ≡ line_of (field_in (codes "triggers-pending") fields.now)) }
+    ensures triggers_awaited { IfOk result (λ r. r.triggers.awaited
+        ≡ line_of (field_in (codes "triggers-awaited") fields.now)) }
     ensures fields { IfOk result (λ r. r.fields ≡ recorded_fields fields.now) }
 {
+    let state = status.word.state();
     let Earlier {
         config_version,
         removed_since,
         conffiles,
         pending,
-    } = read_earlier(alloc, status.state, fields)?;
+    } = read_earlier(alloc, state, fields)?;
     Ok(Record {
         name: Text::from_str(alloc, name)?,
         want: status.want,
         flag: status.flag,
-        state: status.state,
+        state,
         version,
         config_version,
         removed_since,
         conffiles,
         pending,
+        triggers: triggers_in(alloc, fields)?,
         fields: recorded_fields(alloc, fields)?,
     })
 }
@@ -261,6 +332,7 @@ fn record_of(
 fn read_entry(alloc: Global, fields: &Paragraph) -> Result<Option<Entry>, AllocError>
     requires written { ∥ AreFields [] fields.now ∥₁ }
     requires readable { AllByRecursion IsReadable fields.now }
+    requires agree { AreAmiss fields.now → ⊥ }
     ensures some { IfOk result
         (λ o. IfSome o (λ e. SaysEntry fields.now e.name (option_to_list e.kept))) }
     ensures none { IfOk result (λ o. IfNone o (IsMissing fields.now)) }
@@ -272,7 +344,7 @@ fn read_entry(alloc: Global, fields: &Paragraph) -> Result<Option<Entry>, AllocE
         return Ok(None);
     };
     let package = Text::from_str(alloc, name)?;
-    if status.state.is_not_installed() {
+    if status.word.state().is_not_installed() {
         return Ok(Some(Entry {
             name: package,
             kept: None,

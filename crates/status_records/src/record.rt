@@ -6,11 +6,12 @@ ghost use Rattle.control_fields.specs.Names.{lower};
 ghost use Rattle.control_fields.specs.Spelling.{AreFields};
 ghost use Rattle.texts.specs.PackageNames.{is_package_name};
 ghost use Rattle.status_records.specs.Fields.{own_names, recorded_fields};
+ghost use Rattle.status_records.specs.Triggers.{is_configured, may_stand, no_triggers};
 ghost use Rattle.status_records.specs.Values.{IsReadableControl};
-ghost use Rattle.status_records.specs.Words.{is_installed};
 ghost use Rattle.status_records.specs.Writable.{IsWritable};
 
 use crate::conffile_lists::{ConffileEntries, PendingDigests};
+use crate::triggers::Triggers;
 use crate::words::{Flag, State, Want};
 use control_fields::Paragraph;
 use name_tables::Named;
@@ -27,15 +28,18 @@ pub struct Record {
     pub flag: Flag,
     pub state: State,
     pub version: Version,
-    /// The version last configured, where it is another one than that of an installed package.
+    /// The version last configured, where it is another one than that of an installed package; of one
+    /// that awaits triggers what dpkg has noted.
     pub config_version: Option<Version>,
     /// Whether a removal has reached the package's files since then.
     pub removed_since: bool,
     pub conffiles: ConffileEntries,
     pub pending: PendingDigests,
+    pub triggers: Triggers,
     pub fields: Paragraph,
     pub ghost writable: { ∥ IsWritable name fields ∥₁ },
-    pub ghost current: { is_installed state && is_some config_version ≡ false },
+    pub ghost current: { is_configured state triggers && is_some config_version ≡ false },
+    pub ghost beside: { may_stand state triggers ≡ true },
 }
 
 impl Named for Record {
@@ -56,6 +60,8 @@ fn is_own(name: &[u8]) -> bool
         || name.eq_ignore_ascii_case(b"removed-since")
         || name.eq_ignore_ascii_case(b"conffiles")
         || name.eq_ignore_ascii_case(b"new-conffiles")
+        || name.eq_ignore_ascii_case(b"triggers-pending")
+        || name.eq_ignore_ascii_case(b"triggers-awaited")
 }
 
 /// The fields of a control file or a status paragraph that a record keeps as they are.
@@ -105,6 +111,7 @@ impl Record {
         ensures removed { IfOk result (λ r. r.removed_since ≡ false) }
         ensures conffiles { IfOk result (λ r. r.conffiles ≡ []) }
         ensures pending { IfOk result (λ r. r.pending ≡ []) }
+        ensures triggers { IfOk result (λ r. r.triggers ≡ no_triggers) }
         ensures fields { IfOk result (λ r. r.fields ≡ recorded_fields control.now) }
     {
         Ok(Record {
@@ -117,6 +124,7 @@ impl Record {
             removed_since: false,
             conffiles: ConffileEntries::new(alloc),
             pending: PendingDigests::new(alloc),
+            triggers: Triggers::none(),
             fields: recorded_fields(alloc, control)?,
         })
     }
@@ -135,6 +143,7 @@ impl Record {
             removed_since: self.removed_since,
             conffiles: self.conffiles.copy()?,
             pending: self.pending.copy()?,
+            triggers: self.triggers.copy()?,
             fields: self.fields.copy()?,
         })
     }

@@ -4,13 +4,16 @@ ghost use Rattle.std.specs.List.{AllByRecursion};
 ghost use Rattle.control_fields.specs.Spelling.{AreFields};
 ghost use Rattle.texts.specs.PackageNames.{is_package_name};
 ghost use Rattle.status_records.specs.Configured.{last_configured};
+ghost use Rattle.status_records.specs.Paragraphs.{record_word};
+ghost use Rattle.status_records.specs.Triggers.{is_configured, no_triggers};
 ghost use Rattle.status_records.specs.Standings.{version_beside, standing_as, wanting, removed, configured, with_conffiles, last_of, removed_of, IsUnpackedOf};
 ghost use Rattle.status_records.specs.Values.{IsReadableControl};
 ghost use Rattle.status_records.specs.Words.{is_installed};
 
 use crate::conffile_lists::{ConffileEntries, PendingDigests};
 use crate::record::{Record, copied_version, recorded_fields};
-use crate::words::{Flag, State, Want};
+use crate::triggers::Triggers;
+use crate::words::{Flag, State, StateWord, Want};
 use control_fields::Paragraph;
 use host_core::ShipPath;
 use std::alloc::{AllocError, Global};
@@ -59,6 +62,22 @@ impl Record {
         self.conffiles.has(path)
     }
 
+    /// The word of its state, as the status file has it.
+    pub fn word(&self) -> StateWord
+        ensures { result ≡ record_word self.now }
+    {
+        let pending = self.triggers.pending.is_some();
+        let awaited = self.triggers.awaited.is_some();
+        self.state.word(pending, awaited)
+    }
+
+    /// Whether the package is installed and awaits no triggers.
+    pub fn is_configured(&self) -> bool
+        ensures { result ≡ is_configured self.now.state self.now.triggers }
+    {
+        self.state.is_installed() && !self.triggers.awaited.is_some()
+    }
+
     /// The version that was configured last; none where the package never was.
     pub fn last_configured(&self) -> Option<&Version>
         ensures { option_copied result ≡ last_configured self.now }
@@ -70,7 +89,7 @@ impl Record {
     }
 
     /// The same with another flag and state: a package that leaves the state installed keeps its
-    /// version as the one last configured.
+    /// version as the one last configured, and has no triggers to process.
     pub fn standing_as(&self, flag: Flag, state: State) -> Result<Record, AllocError>
         ensures { IfOk result (λ r. r ≡ standing_as flag state self.now) }
     {
@@ -84,6 +103,7 @@ impl Record {
             removed_since: self.removed_since,
             conffiles: self.conffiles.copy()?,
             pending: self.pending.copy()?,
+            triggers: self.triggers.beside(state)?,
             fields: self.fields.copy()?,
         })
     }
@@ -102,6 +122,7 @@ impl Record {
             removed_since: self.removed_since,
             conffiles: self.conffiles.copy()?,
             pending: self.pending.copy()?,
+            triggers: self.triggers.copy()?,
             fields: self.fields.copy()?,
         })
     }
@@ -120,6 +141,7 @@ impl Record {
             removed_since: true,
             conffiles: self.conffiles.copy()?,
             pending: self.pending.copy()?,
+            triggers: self.triggers.copy()?,
             fields: self.fields.copy()?,
         })
     }
@@ -139,6 +161,7 @@ impl Record {
             removed_since: false,
             conffiles: self.conffiles.copy()?,
             pending: self.pending.copy()?,
+            triggers: self.triggers.copy()?,
             fields: self.fields.copy()?,
         })
     }
@@ -161,6 +184,7 @@ impl Record {
             removed_since: self.removed_since,
             conffiles,
             pending,
+            triggers: self.triggers.copy()?,
             fields: self.fields.copy()?,
         })
     }
@@ -192,6 +216,7 @@ impl Record {
             removed_since: removed_of(old),
             conffiles,
             pending,
+            triggers: Triggers::none(),
             fields: recorded_fields(alloc, control)?,
         })
     }

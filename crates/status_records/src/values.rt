@@ -4,12 +4,13 @@ ghost use Rattle.control_fields.specs.Names.{lower};
 ghost use Rattle.version_order.specs.Versions.{IsVersion};
 ghost use Rattle.status_records.specs.declared.words.Want.{Want as AWant};
 ghost use Rattle.status_records.specs.declared.words.Flag.{Flag as AFlag};
-ghost use Rattle.status_records.specs.declared.words.State.{State as AState};
+ghost use Rattle.status_records.specs.declared.words.StateWord.{StateWord as AWord};
 ghost use Rattle.status_records.specs.Words.{want_word, flag_word, state_word, status_text, IsStatusText};
 ghost use Rattle.status_records.specs.Values.{kind_of, control_kind, relation_kind, IsReadableAs, IsReadable};
 
 use crate::conffile_fields::{is_conffile_field, is_pending_field};
-use crate::words::{Flag, State, Want};
+use crate::trigger_names::are_trigger_names;
+use crate::words::{Flag, StateWord, Want};
 use control_fields::Field;
 use relation_fields::RelationField;
 use std::alloc::{AllocError, Global};
@@ -21,7 +22,7 @@ use version_order::{Version, VersionFault};
 pub(crate) struct Status {
     pub(crate) want: Want,
     pub(crate) flag: Flag,
-    pub(crate) state: State,
+    pub(crate) word: StateWord,
 }
 
 fn after_blank(bytes: &[u8]) -> Option<&[u8]>
@@ -89,40 +90,46 @@ fn read_flag(bytes: &[u8]) -> Option<(Flag, &[u8])>
     None
 }
 
-fn is_state(bytes: &[u8], state: State) -> bool
-    ensures { IsTrue result ↔ (bytes.now ≡ state_word state) }
+fn is_word(bytes: &[u8], word: StateWord) -> bool
+    ensures { IsTrue result ↔ (bytes.now ≡ state_word word) }
 {
-    bytes == state.name().as_bytes()
+    bytes == word.name().as_bytes()
 }
 
-fn read_state(bytes: &[u8]) -> Option<State>
-    ensures some { IfSome result (λ state. bytes.now ≡ state_word state) }
-    ensures none { IfNone result ((state : AState) → bytes.now ≢ state_word state) }
+fn read_word(bytes: &[u8]) -> Option<StateWord>
+    ensures some { IfSome result (λ word. bytes.now ≡ state_word word) }
+    ensures none { IfNone result ((word : AWord) → bytes.now ≢ state_word word) }
 {
-    if is_state(bytes, State::NotInstalled) {
-        return Some(State::NotInstalled);
+    if is_word(bytes, StateWord::NotInstalled) {
+        return Some(StateWord::NotInstalled);
     }
-    if is_state(bytes, State::ConfigFiles) {
-        return Some(State::ConfigFiles);
+    if is_word(bytes, StateWord::ConfigFiles) {
+        return Some(StateWord::ConfigFiles);
     }
-    if is_state(bytes, State::HalfInstalled) {
-        return Some(State::HalfInstalled);
+    if is_word(bytes, StateWord::HalfInstalled) {
+        return Some(StateWord::HalfInstalled);
     }
-    if is_state(bytes, State::Unpacked) {
-        return Some(State::Unpacked);
+    if is_word(bytes, StateWord::Unpacked) {
+        return Some(StateWord::Unpacked);
     }
-    if is_state(bytes, State::HalfConfigured) {
-        return Some(State::HalfConfigured);
+    if is_word(bytes, StateWord::HalfConfigured) {
+        return Some(StateWord::HalfConfigured);
     }
-    if is_state(bytes, State::Installed) {
-        return Some(State::Installed);
+    if is_word(bytes, StateWord::TriggersAwaited) {
+        return Some(StateWord::TriggersAwaited);
+    }
+    if is_word(bytes, StateWord::TriggersPending) {
+        return Some(StateWord::TriggersPending);
+    }
+    if is_word(bytes, StateWord::Installed) {
+        return Some(StateWord::Installed);
     }
     None
 }
 
 /// The words of a Status, with one blank between two.
 pub(crate) fn read_status(bytes: &[u8]) -> Option<Status>
-    ensures some { IfSome result (λ s. bytes.now ≡ status_text s.want s.flag s.state) }
+    ensures some { IfSome result (λ s. bytes.now ≡ status_text s.want s.flag s.word) }
     ensures none { IfNone result (IsStatusText bytes.now → ⊥) }
 {
     let Some((want, behind_want)) = read_want(bytes) else {
@@ -131,8 +138,8 @@ pub(crate) fn read_status(bytes: &[u8]) -> Option<Status>
     let Some((flag, behind_flag)) = read_flag(behind_want) else {
         return None;
     };
-    match read_state(behind_flag) {
-        Some(state) => Some(Status { want, flag, state }),
+    match read_word(behind_flag) {
+        Some(word) => Some(Status { want, flag, word }),
         None => None,
     }
 }
@@ -158,6 +165,7 @@ pub(crate) enum Kind {
     Yes,
     ConffileLines,
     PendingLines,
+    TriggerNames,
     YesOrNo,
     Relation(RelationField),
     Any,
@@ -204,6 +212,12 @@ fn kind_of(name: &[u8]) -> Kind
     }
     if name.eq_ignore_ascii_case(b"new-conffiles") {
         return Kind::PendingLines;
+    }
+    if name.eq_ignore_ascii_case(b"triggers-pending") {
+        return Kind::TriggerNames;
+    }
+    if name.eq_ignore_ascii_case(b"triggers-awaited") {
+        return Kind::TriggerNames;
     }
     control_kind(name)
 }
@@ -255,6 +269,15 @@ fn is_yes(field: &Field) -> bool
     }
 }
 
+fn is_names_field(field: &Field) -> bool
+    ensures { IsTrue result ↔ IsReadableAs Kind.TriggerNames field.now }
+{
+    match one_line(field) {
+        Some(value) => are_trigger_names(value),
+        None => false,
+    }
+}
+
 fn is_relation(alloc: Global, relation: RelationField, field: &Field) -> Result<bool, AllocError>
     ensures { IfOk result (λ good. IsTrue good ↔ IsReadableAs (Kind.Relation relation) field.now) }
 {
@@ -273,6 +296,7 @@ pub(crate) fn is_readable(alloc: Global, field: &Field) -> Result<bool, AllocErr
         Kind::Yes => Ok(is_yes(field)),
         Kind::ConffileLines => is_conffile_field(alloc, field),
         Kind::PendingLines => is_pending_field(alloc, field),
+        Kind::TriggerNames => Ok(is_names_field(field)),
         Kind::YesOrNo => Ok(field.is_yes_or_no()),
         Kind::Relation(relation) => is_relation(alloc, relation, field),
         Kind::Any => Ok(true),

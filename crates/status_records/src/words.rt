@@ -1,6 +1,6 @@
 // The words of the field `Status`: want, flag and state.
 ghost use Rattle.std.specs.Prelude.{◌≡◌};
-ghost use Rattle.status_records.specs.Words.{want_word, flag_word, state_word, is_not_installed, is_installed};
+ghost use Rattle.status_records.specs.Words.{want_word, flag_word, state_word, word_of, state_of, agrees, is_not_installed, is_installed};
 
 /// What is wanted of a package.
 #[derive(Clone, Copy)]
@@ -58,17 +58,19 @@ pub enum State {
 }
 
 impl State {
-    /// The word in the status file.
-    pub fn name(self) -> &'static str
-        ensures { result.now ≡ state_word self }
+    /// The word of a package's state, by whether triggers are pending and awaited.
+    pub(crate) fn word(self, pending: bool, awaited: bool) -> StateWord
+        ensures { result ≡ word_of self pending awaited }
     {
         match self {
-            State::NotInstalled => "not-installed",
-            State::ConfigFiles => "config-files",
-            State::HalfInstalled => "half-installed",
-            State::Unpacked => "unpacked",
-            State::HalfConfigured => "half-configured",
-            State::Installed => "installed",
+            State::NotInstalled => StateWord::NotInstalled,
+            State::ConfigFiles => StateWord::ConfigFiles,
+            State::HalfInstalled => StateWord::HalfInstalled,
+            State::Unpacked => StateWord::Unpacked,
+            State::HalfConfigured => StateWord::HalfConfigured,
+            State::Installed if awaited => StateWord::TriggersAwaited,
+            State::Installed if pending => StateWord::TriggersPending,
+            State::Installed => StateWord::Installed,
         }
     }
 
@@ -97,6 +99,68 @@ impl State {
             | State::HalfInstalled
             | State::Unpacked
             | State::HalfConfigured => false,
+        }
+    }
+}
+
+/// The words of the states, as the status file has them: an installed package that is to process
+/// triggers, or awaits others that are, has one of its own.
+#[derive(Clone, Copy)]
+pub enum StateWord {
+    NotInstalled,
+    ConfigFiles,
+    HalfInstalled,
+    Unpacked,
+    HalfConfigured,
+    TriggersAwaited,
+    TriggersPending,
+    Installed,
+}
+
+impl StateWord {
+    /// The word in the status file.
+    pub fn name(self) -> &'static str
+        ensures { result.now ≡ state_word self }
+    {
+        match self {
+            StateWord::NotInstalled => "not-installed",
+            StateWord::ConfigFiles => "config-files",
+            StateWord::HalfInstalled => "half-installed",
+            StateWord::Unpacked => "unpacked",
+            StateWord::HalfConfigured => "half-configured",
+            StateWord::TriggersAwaited => "triggers-awaited",
+            StateWord::TriggersPending => "triggers-pending",
+            StateWord::Installed => "installed",
+        }
+    }
+
+    /// The state that it tells.
+    pub(crate) fn state(self) -> State
+        ensures { result ≡ state_of self }
+    {
+        match self {
+            StateWord::NotInstalled => State::NotInstalled,
+            StateWord::ConfigFiles => State::ConfigFiles,
+            StateWord::HalfInstalled => State::HalfInstalled,
+            StateWord::Unpacked => State::Unpacked,
+            StateWord::HalfConfigured => State::HalfConfigured,
+            StateWord::TriggersAwaited | StateWord::TriggersPending | StateWord::Installed => {
+                State::Installed
+            }
+        }
+    }
+
+    /// Whether triggers may be pending beside it, and be awaited.
+    pub(crate) fn agrees(self, pending: bool, awaited: bool) -> bool
+        ensures { result ≡ agrees self pending awaited }
+    {
+        match self {
+            StateWord::HalfInstalled | StateWord::Unpacked | StateWord::HalfConfigured => !pending,
+            StateWord::TriggersAwaited => awaited,
+            StateWord::TriggersPending => pending && !awaited,
+            StateWord::NotInstalled | StateWord::ConfigFiles | StateWord::Installed => {
+                !pending && !awaited
+            }
         }
     }
 }

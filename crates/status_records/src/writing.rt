@@ -1,5 +1,5 @@
 // Writing the status file.
-ghost use Rattle.std.specs.Prelude.{◌≡◌, ◌++◌, ◌∷◌, [], IfOk, OnOk, ℕ, List, IsTrue, IfSome, false, map, codes};
+ghost use Rattle.std.specs.Prelude.{◌≡◌, ◌++◌, ◌∷◌, [], IfOk, OnOk, ℕ, List, IsTrue, IfSome, true, false, map, codes};
 ghost use Rattle.std.specs.List.{AllByRecursion};
 ghost use Rattle.control_fields.specs.Names.{stands};
 ghost use Rattle.host_core.specs.Nodes.{own_access};
@@ -8,11 +8,14 @@ ghost use Rattle.version_order.specs.Versions.{IsVersion};
 ghost use Rattle.status_records.specs.Records.{AreApart, standing};
 ghost use Rattle.status_records.specs.ConffileFields.{conffile_line, pending_line};
 ghost use Rattle.status_records.specs.Words.{is_not_installed, status_text};
-ghost use Rattle.status_records.specs.Paragraphs.{line_field, first_fields, config_field, removed_field, lines_field, own_fields, paragraph_of, record_text, HasParts};
+ghost use Rattle.status_records.specs.Paragraphs.{line_field, first_fields, config_field, removed_field, lines_field, names_field, trigger_fields, record_word, own_fields, paragraph_of, record_text, HasParts};
 ghost use Rattle.status_records.specs.Status.{IsStatus};
+ghost use Rattle.status_records.specs.TriggerNames.{are_trigger_names};
 
 use crate::conffile_writing::{conffile_lines, pending_lines};
 use crate::record::Record;
+use crate::trigger_names::TriggerNames;
+use crate::triggers::Triggers;
 use control_fields::{Field, Lines, Paragraph, write_paragraph, write_paragraphs};
 use host_core::{Access, Content, Node};
 use std::alloc::{AllocError, Global};
@@ -21,14 +24,14 @@ use version_order::Version;
 
 fn status_text(alloc: Global, entry: &Record) -> Result<Vec<u8>, AllocError>
     ensures { IfOk result (λ text. text.items ≡ status_text entry.now.want entry.now.flag
-        entry.now.state) }
+        (record_word entry.now)) }
 {
     let mut text = Vec::new(alloc);
     text.extend_from_slice(entry.want.name().as_bytes())?;
     text.push(b' ')?;
     text.extend_from_slice(entry.flag.name().as_bytes())?;
     text.push(b' ')?;
-    text.extend_from_slice(entry.state.name().as_bytes())?;
+    text.extend_from_slice(entry.word().name().as_bytes())?;
     Ok(text)
 }
 
@@ -48,7 +51,7 @@ pub fn add_line(
 fn add_first_fields(alloc: Global, entry: &Record, fields: &mut Paragraph) -> Result<(), AllocError>
     requires { fields.old ≡ [] }
     ensures fields { OnOk result (fields.new ≡ first_fields entry.now.name
-        (status_text entry.now.want entry.now.flag entry.now.state) entry.now.version) }
+        (status_text entry.now.want entry.now.flag (record_word entry.now)) entry.now.version) }
     ensures version { OnOk result (IsVersion entry.now.version) }
 {
     let status = status_text(alloc, entry)?;
@@ -127,6 +130,38 @@ fn add_conffiles(alloc: Global, entry: &Record, fields: &mut Paragraph) -> Resul
     )
 }
 
+// Adds names of triggers or packages, where there are any.
+fn add_names(
+    alloc: Global,
+    name: &[u8],
+    names: &Option<TriggerNames>,
+    fields: &mut Paragraph,
+) -> Result<(), AllocError>
+    requires { stands name.now fields.old ≡ false }
+    ensures field { OnOk result (fields.new ≡ fields.old ++ names_field name.now names.now) }
+    ensures names { OnOk result (IfSome names.now (λ text. are_trigger_names text ≡ true)) }
+{
+    match names {
+        Some(names) => add_line(alloc, name, names.text(), fields),
+        None => Ok(()),
+    }
+}
+
+fn add_triggers(
+    alloc: Global,
+    triggers: &Triggers,
+    fields: &mut Paragraph,
+) -> Result<(), AllocError>
+    requires pending { stands (codes "Triggers-Pending") fields.old ≡ false }
+    requires awaited { stands (codes "Triggers-Awaited") fields.old ≡ false }
+    ensures fields { OnOk result (fields.new ≡ fields.old ++ trigger_fields triggers.now) }
+    ensures pending { OnOk result (IfSome triggers.now.pending (λ text. are_trigger_names text ≡ true)) }
+    ensures awaited { OnOk result (IfSome triggers.now.awaited (λ text. are_trigger_names text ≡ true)) }
+{
+    add_names(alloc, b"Triggers-Pending", &triggers.pending, fields)?;
+    add_names(alloc, b"Triggers-Awaited", &triggers.awaited, fields)
+}
+
 // Adds the fields of a record's own.
 fn add_own_fields(alloc: Global, entry: &Record, fields: &mut Paragraph) -> Result<(), AllocError>
     requires { fields.old ≡ [] }
@@ -138,7 +173,8 @@ fn add_own_fields(alloc: Global, entry: &Record, fields: &mut Paragraph) -> Resu
     add_first_fields(alloc, entry, fields)?;
     add_config(alloc, &entry.config_version, fields)?;
     add_removed(alloc, entry.removed_since, fields)?;
-    add_conffiles(alloc, entry, fields)
+    add_conffiles(alloc, entry, fields)?;
+    add_triggers(alloc, &entry.triggers, fields)
 }
 
 fn add_other_fields(entry: &Record, fields: &mut Paragraph) -> Result<(), AllocError>

@@ -9,11 +9,12 @@ use Rattle.undo_rows.specs.declared.rows.Owner.TheVariants.{Package as OfPackage
 use Rattle.undo_rows.specs.declared.failed.Failed.{Failed}
 use Rattle.undo_rows.specs.Transcripts.{Ended, Committed, Unwound}
 use Rattle.status_records.specs.Records.{record_in}
+use Rattle.status_records.specs.Triggers.{triggers_beside}
 use Rattle.status_records.specs.Words.{is_installed}
 use Rattle.status_records.specs.declared.record.Record.{Record}
 use Rattle.status_records.specs.declared.words.State.{State}
 use Rattle.status_records.specs.declared.words.State.TheVariants as state
-use Rattle.status_records.proofs.SameRecords.{same_record}
+use Rattle.status_records.proofs.SameRecords.{same_record, stays_beside}
 use Rattle.unpack_rows.specs.EndStates.{AreRecorded, end_record, others_end, others_forward, others_row, own_end, own_name}
 use Rattle.unpack_rows.specs.Failures.{has_failed}
 use Rattle.unpack_rows.specs.Kinds.{own_of}
@@ -97,5 +98,6 @@ half_already r e =
       removed_since = refl;
       conffiles = refl;
       pending = refl;
+      triggers = ap (λ (s : State). triggers_beside s r.triggers) same ∙ stays_beside r.state r.triggers r.beside;
       fields = refl;
     }

@@ -32,6 +32,7 @@ is_fresh p found r entries digests u told are = record {
     removed_is = u.removed_is;
     conffiles_are = u.conffiles_are ∙ are ∙ ap (λ (ds : List PendingDigest). committed_entries (entries_of found) ds p.flagged (is_shipped p.files)) (sym u.pending_are);
     pending_are = refl;
+    triggers_are = u.triggers_are;
     fields_are = u.fields_are;
   };
 }

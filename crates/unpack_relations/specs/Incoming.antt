@@ -11,6 +11,7 @@ pub record IsIncomingPackage (root : Option (List ℕ)) (tree : Tree) (p : Packa
   pub architecture : p.architecture ≡ counted_as root (architecture_of tree.control)
   pub version : p.version ≡ tree.version
   pub state : p.state ≡ NotInstalled
+  pub awaits : p.awaits ≡ false
   pub reinstreq : p.reinstreq ≡ false
   pub essential : p.essential ≡ is_essential tree.control
   pub configured : p.configured ≡ None

@@ -27,6 +27,7 @@ pub(crate) fn incoming_package(
         architecture: counted_as(alloc, root, &tree.control)?,
         version: tree.version.copy()?,
         state: PackageState::NotInstalled,
+        awaits: false,
         reinstreq: false,
         essential: is_essential(&tree.control),
         configured: None,

@@ -10,6 +10,7 @@ use Rattle.host_core.specs.Paths.{Path}
 use Rattle.host_core.specs.World.{World}
 use Rattle.diversions.specs.Ways.{place as place_of, Ways}
 use Rattle.status_records.specs.declared.record.Record.{Record}
+use Rattle.inquiries.specs.Read.{Sight}
 use Rattle.verification.specs.Differences.{conffile_of, difference_lines, known_digest, known_of}
 use Rattle.verification.specs.Sums.{sum_in, sums_at, sums_path}
 use Rattle.verification.specs.Tables.{AreSums, given}
@@ -56,16 +57,16 @@ one_failed : (b : Bool) (n m : ℕ) → n ≡ m + cond b 1 0 → n ≡ m + (0 + 
 one_failed b n m e = omega (arith, e)
 
 -- one look
-pub adds_one : (ways : Ways) (r : Record) (path at : Path) (sums : List Sum) (known : Option (List ℕ)) (s t : State) (found : Option Difference) (x y : List ℕ) → at ≡ place_of ways r.name path
-    → known ≡ known_of (conffile_of r.conffiles path) (given sums path) → (IsTrue s.honest → AreSums (sums_at (s.world (sums_path r.name))) sums) → Reads s t → IsTold at known s t found
-    → y ≡ x ++ difference_lines path r.name found → AddsLooks ways ((r, path) ∷ []) s t x y
-adds_one ways r path at sums known s t found x y place is are reads told more = record {
+pub adds_one : (ways : Ways) (sight : Sight) (r : Record) (path at : Path) (sums : List Sum) (known : Option (List ℕ)) (s t : State) (found : Option Difference) (x y : List ℕ) → at ≡ place_of ways r.name path
+    → known ≡ known_of (conffile_of r.conffiles path) (given sums path) → (IsTrue s.honest → AreSums (sums_at (sight s.world (sums_path r.name))) sums) → Reads s t → IsTold at known s t found
+    → y ≡ x ++ difference_lines path r.name found → AddsLooks ways sight ((r, path) ∷ []) s t x y
+adds_one ways sight r path at sums known s t found x y place is are reads told more = record {
   looks = record { at = (r, path); failed = told.failed } ∷ [];
   each = refl;
   failed = one_failed told.failed (faults t) (faults s) told.count;
   told = λ h.
-      let lines : List (List ℕ) = sums_at (t.world (sums_path r.name)) in
-      let same : given sums path ≡ sum_in lines path = are (reads.honest h) path ∙ ap (λ (w : World). sum_in (sums_at (w (sums_path r.name))) path) (sym reads.world) in
+      let lines : List (List ℕ) = sums_at (sight t.world (sums_path r.name)) in
+      let same : given sums path ≡ sum_in lines path = are (reads.honest h) path ∙ ap (λ (w : World). sum_in (sums_at (sight w (sums_path r.name))) path) (sym reads.world) in
       let right : known ≡ known_digest r.conffiles lines path = is ∙ ap (known_of (conffile_of r.conffiles path)) same in
       let difference : found ≡ told_by told.failed (t.world (place_of ways r.name path)) (known_digest r.conffiles lines path) =
       told.told h ∙ ap (λ (p : Path). told_by told.failed (t.world p) known) place ∙ ap (told_by told.failed (t.world (place_of ways r.name path))) right in

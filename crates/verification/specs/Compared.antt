@@ -11,7 +11,7 @@ use Rattle.package_tree.specs.declared.shipped.Shipped.{Shipped}
 use Rattle.status_records.specs.Records.{record_in}
 use Rattle.status_records.specs.declared.record.Record.{Record}
 use Rattle.shown_lines.specs.Lines.{line}
-use Rattle.inquiries.specs.Read.{HasFollowed}
+use Rattle.inquiries.specs.Read.{HasFollowed, Sight}
 use Rattle.verification.specs.Looks.{Look}
 use Rattle.verification.specs.Shipped.{looked_paths, shipped_lines}
 use Rattle.verification.specs.Verified.{cut_lines, has_files, unknown_lines}
@@ -51,7 +51,8 @@ pub record IsCompared (p : Package) (old new : State) (text : List ℕ) : Type 0
   pub table : List Record
   pub lists : List PackageList
   pub ways : Ways
-  pub read : Needs new (λ w. HasFollowed table lists ways w × AreWhole w (looked_paths p.files) ways.aliases)
+  pub sight : Sight
+  pub read : Needs new (λ w. HasFollowed table lists ways sight w × AreWhole w (looked_paths p.files) ways.aliases)
   pub looks : List (Look Shipped)
   pub each : map (λ l. l.at) looks ≡ compared_files (record_in table p.name) p
   pub failed : faults new ≡ faults old + count_by (λ l. l.failed) looks

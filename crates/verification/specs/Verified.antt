@@ -10,13 +10,14 @@ use Rattle.diversions.specs.Ways.{place, Ways}
 use Rattle.file_lists.specs.Owners.{AreLists, paths_of}
 use Rattle.file_lists.specs.declared.paths.PackageList.{PackageList}
 use Rattle.status_records.specs.Records.{record_in}
+use Rattle.status_records.specs.Paragraphs.{record_word}
 use Rattle.status_records.specs.Words.{flag_word, state_word}
 use Rattle.status_records.specs.declared.record.Record.{Record}
 use Rattle.status_records.specs.declared.words.State.TheVariants.{NotInstalled, ConfigFiles, HalfInstalled, Unpacked, HalfConfigured, Installed}
 use Rattle.status_records.specs.declared.words.State.{State as APackageState}
 use Rattle.shown_lines.specs.Lines.{line}
 use Rattle.queries.specs.Records.{is_settled}
-use Rattle.inquiries.specs.Read.{HasFollowed}
+use Rattle.inquiries.specs.Read.{HasFollowed, Sight}
 use Rattle.verification.specs.Looks.{AddsEach, Look}
 use Rattle.verification.specs.Sums.{sums_at, sums_path}
 use Rattle.verification.specs.Differences.{difference_at, difference_lines, known_digest}
@@ -37,7 +38,7 @@ unknown_lines table name = if is_some (record_in table name) then [] else line (
 
 -- `cut PKG STATE FLAG`, of a package with which work was cut off
 abbrev pub cut_lines : Record → List ℕ
-cut_lines r = if is_settled r.flag r.state then [] else line (codes "cut " ++ (r.name ++ (codes " " ++ (state_word r.state ++ (codes " " ++ flag_word r.flag)))))
+cut_lines r = if is_settled r.flag r.state then [] else line (codes "cut " ++ (r.name ++ (codes " " ++ (state_word (record_word r) ++ (codes " " ++ flag_word r.flag)))))
 
 -- the states in which a package has its files
 abbrev pub has_files : APackageState → Bool
@@ -61,21 +62,21 @@ abbrev pub told_by : Bool → Option Node → Option (List ℕ) → Option Diffe
 told_by true _ known = Some Unread
 told_by false node known = difference_at node known
 
--- its line, if it has one: what stands at the path's place is compared with what is known of the path
-abbrev pub look_lines : Ways → World → Look Listing → List ℕ
-look_lines ways w l =
+-- its line, if it has one: what stands at the path's place is compared with what is known of the path, by `md5sums` as it is seen
+abbrev pub look_lines : Ways → Sight → World → Look Listing → List ℕ
+look_lines ways sight w l =
     let r = l.at.0 in
     let path = l.at.1 in
-    difference_lines path r.name (told_by l.failed (w (place ways r.name path)) (known_digest r.conffiles (sums_at (w (sums_path r.name))) path))
+    difference_lines path r.name (told_by l.failed (w (place ways r.name path)) (known_digest r.conffiles (sums_at (sight w (sums_path r.name))) path))
 
 -- names without a record, packages with which work was cut off, and then each path that differs
-abbrev pub verified_text : List (List ℕ) → List Record → Ways → World → List (Look Listing) → List ℕ
-verified_text names table ways w looks =
-    flat_map (unknown_lines table) names ++ (flat_map cut_lines (wanted names table) ++ flat_map (look_lines ways w) looks)
+abbrev pub verified_text : List (List ℕ) → List Record → Ways → Sight → World → List (Look Listing) → List ℕ
+verified_text names table ways sight w looks =
+    flat_map (unknown_lines table) names ++ (flat_map cut_lines (wanted names table) ++ flat_map (look_lines ways sight w) looks)
 
 -- at each of these listed paths one look was taken, and text was added by what the looks told
-abbrev pub AddsLooks : Ways → List Listing → State → State → List ℕ → List ℕ → Type 0
-AddsLooks ways = AddsEach (look_lines ways)
+abbrev pub AddsLooks : Ways → Sight → List Listing → State → State → List ℕ → List ℕ → Type 0
+AddsLooks ways sight = AddsEach (look_lines ways sight)
 
 -- The text that is told: of the records, lists and diversions that stand there, and the aliases of the root, with one look at each listed
 -- path of the packages that are verified. The device failed as often as a look did.
@@ -83,9 +84,10 @@ pub record IsVerified (names : List (List ℕ)) (old new : State) (text : List �
   pub table : List Record
   pub lists : List PackageList
   pub ways : Ways
-  pub read : Needs new (HasFollowed table lists ways)
+  pub sight : Sight
+  pub read : Needs new (HasFollowed table lists ways sight)
   pub order : AreLists lists
   pub looks : List (Look Listing)
   pub each : map (λ l. l.at) looks ≡ flat_map (listings_of lists) (wanted names table)
   pub failed : faults new ≡ faults old + count_by (λ l. l.failed) looks
-  pub told : Needs new (λ w. text ≡ verified_text names table ways w looks)
+  pub told : Needs new (λ w. text ≡ verified_text names table ways sight w looks)

@@ -3,9 +3,10 @@ ghost use Rattle.std.specs.Prelude.{◌≡◌, ◌≢◌, ◌↔◌, [], IfOk, I
 ghost use Rattle.std.specs.Str.{bytes_eq};
 ghost use Rattle.host_core.specs.Host.{Needs, Reads, Silent};
 ghost use Rattle.status_records.specs.Records.{record_in};
-ghost use Rattle.inquiries.specs.Read.{HasFollowed, all_parts};
+ghost use Rattle.host_overlay.specs.Seen.{seen};
+ghost use Rattle.inquiries.specs.Read.{FindsAll, HasFollowed};
 ghost use Rattle.opening.specs.Followed.{AreWhole};
-ghost use Rattle.opening.specs.Parts.{Finds, fault_in};
+ghost use Rattle.opening.specs.Parts.{fault_in};
 ghost use Rattle.verification.specs.Compared.{IsCompared, compared_files, heading_lines, is_compared, recorded_lines, standing_lines, state_line, version_line};
 ghost use Rattle.verification.specs.Counting.{CountsLooks, CountsVerified};
 ghost use Rattle.verification.specs.Looks.{AddsEach};
@@ -17,8 +18,7 @@ use crate::shipped::add_files;
 use crate::verifying::{Verified, cut_lines, told, unknown_lines};
 use administration::AdministrationFault;
 use host_core::{Host, HostFault};
-use inquiries::read_followed;
-use opening::Opened;
+use inquiries::{SeenAll, read_followed};
 use package_tree::{Package, Shipped};
 use shown_lines::line;
 use status_db::NotedDatabase;
@@ -115,23 +115,23 @@ fn compared_files<'a>(database: &NotedDatabase, incoming: &'a Package) -> &'a [S
 fn compare_files<H: Host>(
     alloc: Global,
     host: &mut H,
-    all: &Opened,
+    all: &SeenAll,
     incoming: &Package,
 ) -> Result<Verified, HostFault>
     ensures added { IfOk result (λ v. AddsEach
-        (shipped_lines all.now.diversions.ways incoming.now.name)
-        (compared_files (record_in all.now.database.records incoming.now.name) incoming.now)
+        (shipped_lines all.now.opened.diversions.ways incoming.now.name)
+        (compared_files (record_in all.now.opened.database.records incoming.now.name) incoming.now)
         (H.state host.old) (H.state host.new)
-        (heading_lines all.now.database.records incoming.now) v.text) }
+        (heading_lines all.now.opened.database.records incoming.now) v.text) }
     ensures differs { IfOk result (λ v. IsTrue v.differs ↔ (v.text ≢ [])) }
     ensures reads { Reads (H.state host.old) (H.state host.new) }
     ensures silent { Silent (H.state host.old) (H.state host.new) }
     ensures counts { CountsLooks (H.state host.old) (H.state host.new) result }
 {
-    let mut lines = heading_lines(alloc, &all.database, incoming)?;
-    let files = compared_files(&all.database, incoming);
+    let mut lines = heading_lines(alloc, &all.opened.database, incoming)?;
+    let files = compared_files(&all.opened.database, incoming);
     let name = &incoming.name;
-    match add_files(alloc, host, &all.diversions, name, files, &mut lines) {
+    match add_files(alloc, host, &all.opened.diversions, name, files, &mut lines) {
         Ok(()) => Ok(told(lines)),
         Err(fault) => Err(fault),
     }
@@ -141,11 +141,12 @@ fn compare_files<H: Host>(
 fn compare_read<H: Host>(
     alloc: Global,
     host: &mut H,
-    all: &mut Opened,
+    all: &mut SeenAll,
     incoming: &Package,
 ) -> Result<Verified, HostFault>
     requires { Needs (H.state host.old)
-        (HasFollowed all.old.database.records all.old.lists.lists all.old.diversions.ways) }
+        (HasFollowed all.old.opened.database.records all.old.opened.lists.lists
+        all.old.opened.diversions.ways (seen all.old.shown)) }
     ensures told { IfOk result
         (λ v. IsCompared incoming.now (H.state host.old) (H.state host.new) v.text) }
     ensures differs { IfOk result (λ v. IsTrue v.differs ↔ (v.text ≢ [])) }
@@ -153,7 +154,12 @@ fn compare_read<H: Host>(
     ensures silent { Silent (H.state host.old) (H.state host.new) }
     ensures counts { CountsLooks (H.state host.old) (H.state host.new) result }
 {
-    follow_files(alloc, host, incoming.files.as_slice(), &mut all.diversions)?;
+    follow_files(
+        alloc,
+        host,
+        incoming.files.as_slice(),
+        &mut all.opened.diversions,
+    )?;
     compare_files(alloc, host, all, incoming)
 }
 
@@ -168,7 +174,7 @@ pub fn verify_tree<H: Host>(
         (λ v. IsCompared incoming.now (H.state host.old) (H.state host.new) v.text) }
     ensures differs { IfOk result (λ v. IsTrue v.differs ↔ (v.text ≢ [])) }
     ensures finds { IsTrue (H.state host.new).honest
-        → Finds all_parts (H.state host.old).world (fault_in result) }
+        → FindsAll (H.state host.old).world (fault_in result) }
     ensures reads { Reads (H.state host.old) (H.state host.new) }
     ensures silent { Silent (H.state host.old) (H.state host.new) }
     ensures counts { CountsVerified (H.state host.old) (H.state host.new) result }

@@ -4,6 +4,7 @@ ghost use Rattle.std.specs.List.{list_any};
 ghost use Rattle.std.specs.Str.{bytes_eq};
 ghost use Rattle.hex.specs.Hex.{encode_lower};
 ghost use Rattle.host_core.specs.Host.{Needs, Reads, Silent};
+ghost use Rattle.host_overlay.specs.Seen.{seen};
 ghost use Rattle.verification.specs.Counting.{CountsLooks};
 ghost use Rattle.verification.specs.Differences.{conffile_of, is_current, known_of};
 ghost use Rattle.verification.specs.Sums.{sums_at, sums_path};
@@ -14,9 +15,8 @@ use crate::difference::add_difference;
 use crate::looking::find_difference;
 use crate::sums::{Sums, read_sums};
 use conffiles::Digest;
-use diversions::Diversions;
 use host_core::{Host, HostFault, RootPath};
-use opening::Opened;
+use inquiries::SeenAll;
 use status_records::{ConffileEntry, Record, State};
 use std::alloc::Global;
 use texts::Text;
@@ -47,21 +47,21 @@ fn known_digest(entry: &Record, sums: &Sums, path: &RootPath) -> Option<Digest>
 fn add_path<H: Host>(
     alloc: Global,
     host: &mut H,
-    diversions: &Diversions,
+    all: &SeenAll,
     entry: &Record,
     sums: &Sums,
     path: &RootPath,
     lines: &mut String,
 ) -> Result<(), HostFault>
     requires { Needs (H.state host.old)
-        (λ w. AreSums (sums_at (w (sums_path entry.now.name))) sums.now) }
-    ensures added { OnOk result (AddsLooks diversions.now.ways ((entry.now, path.now) ∷ [])
+        (λ w. AreSums (sums_at (seen all.now.shown w (sums_path entry.now.name))) sums.now) }
+    ensures added { OnOk result (AddsLooks all.now.opened.diversions.ways (seen all.now.shown) ((entry.now, path.now) ∷ [])
         (H.state host.old) (H.state host.new) (string_bytes lines.old) (string_bytes lines.new)) }
     ensures reads { Reads (H.state host.old) (H.state host.new) }
     ensures silent { Silent (H.state host.old) (H.state host.new) }
     ensures counts { CountsLooks (H.state host.old) (H.state host.new) result }
 {
-    let place = diversions.place(&entry.name, path)?;
+    let place = all.opened.diversions.place(&entry.name, path)?;
     let known = known_digest(entry, sums, path);
     let difference = find_difference(host, &place, known)?;
     Ok(add_difference(alloc, lines, path, &entry.name, difference)?)
@@ -70,15 +70,15 @@ fn add_path<H: Host>(
 fn add_paths<H: Host>(
     alloc: Global,
     host: &mut H,
-    diversions: &Diversions,
+    all: &SeenAll,
     entry: &Record,
     sums: &Sums,
     paths: &[RootPath],
     lines: &mut String,
 ) -> Result<(), HostFault>
     requires { Needs (H.state host.old)
-        (λ w. AreSums (sums_at (w (sums_path entry.now.name))) sums.now) }
-    ensures added { OnOk result (AddsLooks diversions.now.ways
+        (λ w. AreSums (sums_at (seen all.now.shown w (sums_path entry.now.name))) sums.now) }
+    ensures added { OnOk result (AddsLooks all.now.opened.diversions.ways (seen all.now.shown)
         (map (λ path. (entry.now, path)) paths.now) (H.state host.old) (H.state host.new)
         (string_bytes lines.old) (string_bytes lines.new)) }
     ensures reads { Reads (H.state host.old) (H.state host.new) }
@@ -86,7 +86,7 @@ fn add_paths<H: Host>(
     ensures counts { CountsLooks (H.state host.old) (H.state host.new) result }
 {
     for path in paths {
-        add_path(alloc, host, diversions, entry, sums, path, lines)?;
+        add_path(alloc, host, all, entry, sums, path, lines)?;
     }
     Ok(())
 }
@@ -107,12 +107,12 @@ pub(crate) fn has_files(state: State) -> bool
 fn add_package<H: Host>(
     alloc: Global,
     host: &mut H,
-    all: &Opened,
+    all: &SeenAll,
     entry: &Record,
     lines: &mut String,
 ) -> Result<(), HostFault>
-    ensures added { OnOk result (AddsLooks all.now.diversions.ways
-        (listings_of all.now.lists.lists entry.now) (H.state host.old) (H.state host.new)
+    ensures added { OnOk result (AddsLooks all.now.opened.diversions.ways (seen all.now.shown)
+        (listings_of all.now.opened.lists.lists entry.now) (H.state host.old) (H.state host.new)
         (string_bytes lines.old) (string_bytes lines.new)) }
     ensures reads { Reads (H.state host.old) (H.state host.new) }
     ensures silent { Silent (H.state host.old) (H.state host.new) }
@@ -121,9 +121,9 @@ fn add_package<H: Host>(
     if !has_files(entry.state) {
         return Ok(());
     }
-    let sums = read_sums(alloc, host, &entry.name)?;
-    let paths = all.lists.list_of(&entry.name);
-    add_paths(alloc, host, &all.diversions, entry, &sums, paths, lines)
+    let sums = read_sums(alloc, host, &all.shown, &entry.name)?;
+    let paths = all.opened.lists.list_of(&entry.name);
+    add_paths(alloc, host, all, entry, &sums, paths, lines)
 }
 
 fn is_named(names: &[Text], name: &Text) -> bool
@@ -143,18 +143,18 @@ pub(crate) fn is_wanted(names: &[Text], name: &Text) -> bool
 pub(crate) fn add_packages<H: Host>(
     alloc: Global,
     host: &mut H,
-    all: &Opened,
+    all: &SeenAll,
     names: &[Text],
     lines: &mut String,
 ) -> Result<(), HostFault>
-    ensures added { OnOk result (AddsLooks all.now.diversions.ways
-        (flat_map (listings_of all.now.lists.lists) (wanted names.now all.now.database.records))
+    ensures added { OnOk result (AddsLooks all.now.opened.diversions.ways (seen all.now.shown)
+        (flat_map (listings_of all.now.opened.lists.lists) (wanted names.now all.now.opened.database.records))
         (H.state host.old) (H.state host.new) (string_bytes lines.old) (string_bytes lines.new)) }
     ensures reads { Reads (H.state host.old) (H.state host.new) }
     ensures silent { Silent (H.state host.old) (H.state host.new) }
     ensures counts { CountsLooks (H.state host.old) (H.state host.new) result }
 {
-    let records = all.database.records();
+    let records = all.opened.database.records();
     for entry in records {
         if is_wanted(names, &entry.name) {
             add_package(alloc, host, all, entry, lines)?;

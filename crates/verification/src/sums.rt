@@ -3,6 +3,7 @@ ghost use Rattle.std.specs.Prelude.{◌≡◌, ◌∷◌, [], List, true, false,
 ghost use Rattle.hex.specs.Hex.{encode_lower};
 ghost use Rattle.host_core.specs.Looks.{Looks};
 ghost use Rattle.host_core.specs.Paths.{Path};
+ghost use Rattle.host_overlay.specs.Seen.{seen};
 ghost use Rattle.texts.specs.PackageNames.{is_package_name};
 ghost use Rattle.conffiles.specs.Digests.{is_digest_text};
 ghost use Rattle.diversions.specs.Lines.{lines_in};
@@ -13,6 +14,7 @@ ghost use Rattle.verification.specs.declared.sums.Sum.{Sum as ASum};
 use conffiles::Digest;
 use diversions::cut_line;
 use host_core::{Host, HostFault, Node, RootPath};
+use host_overlay::SeenNames;
 use name_tables::{NameTable, Named, find};
 use std::alloc::{AllocError, Global};
 use std::marker::Model;
@@ -155,13 +157,14 @@ fn sums_path(alloc: Global, name: &Text) -> Result<RootPath, AllocError>
 pub(crate) fn read_sums<H: Host>(
     alloc: Global,
     host: &mut H,
+    shown: &SeenNames,
     name: &Text,
 ) -> Result<Sums, HostFault>
     requires { is_package_name name.now ≡ true }
-    ensures looks { Looks result (λ sums w. AreSums (sums_at (w (sums_path name.now))) sums)
+    ensures looks { Looks result (λ sums w. AreSums (sums_at (seen shown.now w (sums_path name.now))) sums)
         (H.state host.old) (H.state host.new) }
 {
     let path = sums_path(alloc, name)?;
-    let node = host.node(&path)?;
+    let node = shown.node(host, &path)?;
     Ok(sums_at(alloc, &node)?)
 }

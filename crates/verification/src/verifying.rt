@@ -1,16 +1,16 @@
 // The verification of packages.
 ghost use Rattle.std.specs.Prelude.{◌≡◌, ◌≢◌, ◌++◌, ◌↔◌, [], IfOk, IsTrue, OnOk, flat_map, string_bytes};
 ghost use Rattle.host_core.specs.Host.{Reads, Silent};
-ghost use Rattle.inquiries.specs.Read.{all_parts};
-ghost use Rattle.opening.specs.Parts.{Finds, fault_in};
+ghost use Rattle.host_overlay.specs.Seen.{seen};
+ghost use Rattle.inquiries.specs.Read.{FindsAll};
+ghost use Rattle.opening.specs.Parts.{fault_in};
 ghost use Rattle.verification.specs.Counting.{CountsLooks, CountsVerified};
 ghost use Rattle.verification.specs.Verified.{AddsLooks, IsVerified, cut_lines, listings_of, unknown_lines, wanted};
 
 use crate::packages::{add_packages, is_wanted};
 use administration::AdministrationFault;
 use host_core::{Host, HostFault};
-use inquiries::read_followed;
-use opening::Opened;
+use inquiries::{SeenAll, read_followed};
 use queries::is_settled;
 use shown_lines::line;
 use status_db::NotedDatabase;
@@ -65,7 +65,7 @@ pub(crate) fn cut_lines(alloc: Global, entry: &Record) -> Result<String, AllocEr
         return Ok(String::new(alloc));
     }
     let name = entry.name.as_str();
-    let state = entry.state.name();
+    let state = entry.word().name();
     let flag = entry.flag.name();
     let content = format!(in alloc; "cut {name} {state} {flag}")?;
     line(alloc, content.as_str())
@@ -120,20 +120,20 @@ pub(crate) fn told(lines: String) -> Verified
 fn verify_read<H: Host>(
     alloc: Global,
     host: &mut H,
-    all: &Opened,
+    all: &SeenAll,
     names: &[Text],
 ) -> Result<Verified, HostFault>
-    ensures added { IfOk result (λ v. AddsLooks all.now.diversions.ways
-        (flat_map (listings_of all.now.lists.lists) (wanted names.now all.now.database.records))
+    ensures added { IfOk result (λ v. AddsLooks all.now.opened.diversions.ways (seen all.now.shown)
+        (flat_map (listings_of all.now.opened.lists.lists) (wanted names.now all.now.opened.database.records))
         (H.state host.old) (H.state host.new)
-        (flat_map (unknown_lines all.now.database.records) names.now
-        ++ flat_map cut_lines (wanted names.now all.now.database.records)) v.text) }
+        (flat_map (unknown_lines all.now.opened.database.records) names.now
+        ++ flat_map cut_lines (wanted names.now all.now.opened.database.records)) v.text) }
     ensures differs { IfOk result (λ v. IsTrue v.differs ↔ (v.text ≢ [])) }
     ensures reads { Reads (H.state host.old) (H.state host.new) }
     ensures silent { Silent (H.state host.old) (H.state host.new) }
     ensures counts { CountsLooks (H.state host.old) (H.state host.new) result }
 {
-    let mut lines = record_lines(alloc, &all.database, names)?;
+    let mut lines = record_lines(alloc, &all.opened.database, names)?;
     match add_packages(alloc, host, all, names, &mut lines) {
         Ok(()) => Ok(told(lines)),
         Err(fault) => Err(fault),
@@ -151,13 +151,13 @@ pub fn verify<H: Host>(
         (λ v. IsVerified names.now (H.state host.old) (H.state host.new) v.text) }
     ensures differs { IfOk result (λ v. IsTrue v.differs ↔ (v.text ≢ [])) }
     ensures finds { IsTrue (H.state host.new).honest
-        → Finds all_parts (H.state host.old).world (fault_in result) }
+        → FindsAll (H.state host.old).world (fault_in result) }
     ensures reads { Reads (H.state host.old) (H.state host.new) }
     ensures silent { Silent (H.state host.old) (H.state host.new) }
     ensures counts { CountsVerified (H.state host.old) (H.state host.new) result }
 {
     let all = read_followed(alloc, host)?;
-    all.lists.law();
+    all.opened.lists.law();
     match verify_read(alloc, host, &all, names) {
         Ok(verified) => Ok(verified),
         Err(fault) => Err(AdministrationFault::from(fault)),

@@ -3,6 +3,7 @@ ghost use Rattle.std.specs.Prelude.{◌≡◌, ⊤, IsTrue, Some, option_map};
 ghost use Rattle.host_memory.specs.Memory.{memory_state};
 
 mod access_rows;
+mod adoption_rows;
 mod architecture_rows;
 mod configure_rows;
 mod deconfiguring_rows;
@@ -11,12 +12,14 @@ mod diversion_rows;
 mod install_rows;
 mod memory_rows;
 mod name_rows;
+mod override_rows;
 mod query_rows;
 mod rehearsal_rows;
 mod removal_rows;
 mod script_rows;
 mod shown_rows;
 mod tree_rows;
+mod trigger_rows;
 mod twice_rows;
 mod unpack_relation_rows;
 mod upgrade_rows;
@@ -58,7 +61,7 @@ fn put(alloc: Global, host: &mut MemoryHost, path: &str, text: &str) -> Result<(
     Ok(())
 }
 
-// The files of the tree `user` belong to a user, those of any other to root.
+// The files of the tree `user` belong to a user, those of any other to root; those of two trees lend its rights.
 fn access_in(tree: &str) -> Access {
     match tree {
         "user" => Access {
@@ -66,6 +69,7 @@ fn access_in(tree: &str) -> Access {
             user: 1000,
             group: 1001,
         },
+        "setuid" | "newer" => Access::own(0o4755),
         _ => Access::own(0o755),
     }
 }

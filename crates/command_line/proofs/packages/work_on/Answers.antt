@@ -24,7 +24,7 @@ returns-in_ok-ended-in-Ok-clause-done g c =
         opens = c.in-Ok.ensures.opens;
         opening = c.in-Ok.ensures.any_moment;
         opened = c.in-Ok.ensures.opened;
-        followed = c.in-Ok.ensures.followed;
+        taken_up = c.in-Ok.ensures.taken_up;
       };
       end = g.S.Opened.Host.state c.into_host.result;
       given = c.close_root.ensures.given;

@@ -9,14 +9,14 @@ use Rattle.unit_reports.proofs.Counting.{counts_from}
 use Rattle.dpkg_session.proofs.Growth.{answered_from, looked_moments, package_called, package_moments, package_unit}
 use Rattle.dpkg_session.proofs.units.unit_of_package.Goals as goal
 
-pub unit_of_followed-requires-clause-order : goal.unit_of_followed-requires-clause-order
-unit_of_followed-requires-clause-order g c = λ h.
+pub unit_of_overridden-requires-clause-order : goal.unit_of_overridden-requires-clause-order
+unit_of_overridden-requires-clause-order g c = λ h.
     let looked = c.follow_tree.ensures in
     subst (λ (a : Administration). IsInOrder a.database a.lists.lists (g.H.Host.state c.follow_tree.new.host).world) (sym looked.same)
     (subst (λ (w : World). IsInOrder c.args.administration.now.database c.args.administration.now.lists.lists w) (sym looked.reads.world) (c.requires.order (looked.reads.honest h)))
 
-pub unit_of_followed-requires-clause-indexed : goal.unit_of_followed-requires-clause-indexed
-unit_of_followed-requires-clause-indexed g c = subst (λ (a : Administration). IfSome a.packages (ArePackagesOf a.database.records)) (sym c.follow_tree.ensures.same) c.requires.indexed
+pub unit_of_overridden-requires-clause-indexed : goal.unit_of_overridden-requires-clause-indexed
+unit_of_overridden-requires-clause-indexed g c = subst (λ (a : Administration). IfSome a.packages (ArePackagesOf a.database.records)) (sym c.follow_tree.ensures.same) c.requires.indexed
 
 pub returns-in-Ok-clause-unit : goal.returns-in-Ok-clause-unit
 returns-in-Ok-clause-unit g c =
@@ -24,11 +24,11 @@ returns-in-Ok-clause-unit g c =
     let (added, same, read) = c.in-Ok.ensures.added in
     let s = g.H.Host.state c.args.host.now in
     let m = g.H.Host.state c.follow_tree.new.host in
-    let t = g.H.Host.state c.unit_of_followed.new.host in
-    elim c.unit_of_followed.ensures.unit [
+    let t = g.H.Host.state c.unit_of_overridden.new.host in
+    elim c.unit_of_overridden.ensures.unit [
       | inl broken ↦ inl broken
       | inr is ↦ inr (package_unit s m looked.reads looked.silent c.args.auto_deconfigure c.args.incoming (held_by c.args.administration.now c.args.diversions.now) (held_by c.follow_tree.new.administration c.follow_tree.new.diversions) added same read
-          c.unit_of_followed.result t c.unit_of_followed.ensures.any_moment.honest (held_by c.unit_of_followed.new.administration c.follow_tree.new.diversions) is)
+          c.unit_of_overridden.result t c.unit_of_overridden.ensures.any_moment.honest (held_by c.unit_of_overridden.new.administration c.follow_tree.new.diversions) is)
     ]
 
 pub returns-in-Ok-clause-told : goal.returns-in-Ok-clause-told
@@ -37,9 +37,9 @@ returns-in-Ok-clause-told g c =
     let (added, same, read) = c.in-Ok.ensures.added in
     let s = g.H.Host.state c.args.host.now in
     let m = g.H.Host.state c.follow_tree.new.host in
-    let t = g.H.Host.state c.unit_of_followed.new.host in
+    let t = g.H.Host.state c.unit_of_overridden.new.host in
     package_called s m looked.reads looked.silent c.args.auto_deconfigure c.args.incoming (held_by c.args.administration.now c.args.diversions.now) (held_by c.follow_tree.new.administration c.follow_tree.new.diversions) added same read
-    c.unit_of_followed.result t c.unit_of_followed.ensures.any_moment.honest c.unit_of_followed.ensures.told
+    c.unit_of_overridden.result t c.unit_of_overridden.ensures.any_moment.honest c.unit_of_overridden.ensures.told
 
 pub returns-in-Ok-clause-any_moment : goal.returns-in-Ok-clause-any_moment
 returns-in-Ok-clause-any_moment g c =
@@ -47,20 +47,20 @@ returns-in-Ok-clause-any_moment g c =
     let (added, same, read) = c.in-Ok.ensures.added in
     let s = g.H.Host.state c.args.host.now in
     let m = g.H.Host.state c.follow_tree.new.host in
-    let t = g.H.Host.state c.unit_of_followed.new.host in
+    let t = g.H.Host.state c.unit_of_overridden.new.host in
     package_moments s m looked.reads looked.silent c.args.auto_deconfigure c.args.incoming (held_by c.args.administration.now c.args.diversions.now) (held_by c.follow_tree.new.administration c.follow_tree.new.diversions) added same read
-    c.unit_of_followed.result t c.unit_of_followed.ensures.any_moment.honest c.in-Ok.ensures.counts c.unit_of_followed.ensures.any_moment
+    c.unit_of_overridden.result t c.unit_of_overridden.ensures.any_moment.honest c.in-Ok.ensures.counts c.unit_of_overridden.ensures.any_moment
 
 pub returns-in-Ok-clause-answered : goal.returns-in-Ok-clause-answered
 returns-in-Ok-clause-answered g c =
-    elim c.unit_of_followed.ensures.answered [
+    elim c.unit_of_overridden.ensures.answered [
       | inl broken ↦ inl broken
-      | inr is ↦ inr (answered_from (g.H.Host.state c.args.host.now) (g.H.Host.state c.follow_tree.new.host) (g.H.Host.state c.unit_of_followed.new.host) c.follow_tree.ensures.reads is)
+      | inr is ↦ inr (answered_from (g.H.Host.state c.args.host.now) (g.H.Host.state c.follow_tree.new.host) (g.H.Host.state c.unit_of_overridden.new.host) c.follow_tree.ensures.reads is)
     ]
 
 pub returns-in-Ok-clause-counts : goal.returns-in-Ok-clause-counts
 returns-in-Ok-clause-counts g c =
-    counts_from c.unit_of_followed.result.reply (g.H.Host.state c.args.host.now) (g.H.Host.state c.follow_tree.new.host) (g.H.Host.state c.unit_of_followed.new.host) c.in-Ok.ensures.counts c.unit_of_followed.ensures.counts
+    counts_from c.unit_of_overridden.result.reply (g.H.Host.state c.args.host.now) (g.H.Host.state c.follow_tree.new.host) (g.H.Host.state c.unit_of_overridden.new.host) c.in-Ok.ensures.counts c.unit_of_overridden.ensures.counts
 
 pub returns-in-Err-clause-told : goal.returns-in-Err-clause-told
 returns-in-Err-clause-told g c = inl (record { silent = c.follow_tree.ensures.silent; told = c.broken.ensures.told ∙ c.new.ensures.items })

@@ -1,19 +1,18 @@
-use Rattle.std.proofs.Common.{sym, subst}
+use Rattle.std.proofs.Common.{inl, sym, subst}
+use Rattle.host_core.specs.World.{World}
 use Rattle.host_core.proofs.Moments.{reads_then}
-use Rattle.diversions.specs.Lines.{HasDiversions}
-use Rattle.file_lists.specs.Lists.{HasLists}
-use Rattle.opening.specs.Parts.{names_of}
+use Rattle.opening.specs.Parts.{IsTable, names_of}
+use Rattle.inquiries.proofs.PartByPart.{rest_found}
 use Rattle.inquiries.proofs.reading.read_rest.Goals as goal
 
-pub returns-in_err-diversions-clause-reads : goal.returns-in_err-diversions-clause-reads
-returns-in_err-diversions-clause-reads g c = reads_then _ _ _ c.read_lists.ensures.reads c.open.ensures.reads
+pub read_behind-requires-clause-table : goal.read_behind-requires-clause-table
+read_behind-requires-clause-table g c = λ h. subst (λ (w : World). IsTable w c.args.database.records) (sym c.read_lists.ensures.reads.world) (c.requires (c.read_lists.ensures.silent.honest h))
 
-pub returns-clause-held : goal.returns-clause-held
-returns-clause-held g c = λ h.
-    let same = sym c.open.ensures.reads.world in (
-      subst (λ w. HasLists w (names_of c.args.database.now.records) c.in_ok-lists.lists.lists) same (c.in_ok-lists.ensures.lists (c.open.ensures.silent.honest h)),
-      subst (λ w. HasDiversions w c.in_ok-diversions.diversions.ways.entries) same (c.in_ok-diversions.ensures.entries h),
-    )
+pub returns-in-Ok-clause-finds : goal.returns-in-Ok-clause-finds
+returns-in-Ok-clause-finds g c = λ h. rest_found c.read_behind.result (names_of c.args.database.records) (g.H.Host.state c.args.host.now).world (g.H.Host.state c.read_lists.new.host).world c.read_lists.ensures.reads.world (c.in-Ok.ensures.finds (c.read_behind.ensures.silent.honest h)) (c.read_behind.ensures.finds h)
 
-pub returns-clause-reads : goal.returns-clause-reads
-returns-clause-reads g c = reads_then _ _ _ c.read_lists.ensures.reads c.open.ensures.reads
+pub returns-in-Ok-clause-reads : goal.returns-in-Ok-clause-reads
+returns-in-Ok-clause-reads g c = reads_then _ _ _ c.read_lists.ensures.reads c.read_behind.ensures.reads
+
+pub returns-in-Err-clause-finds : goal.returns-in-Err-clause-finds
+returns-in-Err-clause-finds g c = λ h. inl (c.in-Err.ensures.finds h)

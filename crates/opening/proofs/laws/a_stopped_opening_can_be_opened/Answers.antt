@@ -1,4 +1,4 @@
-use Rattle.opening.proofs.Reopened.{diversions_stopped, lists_stopped, names_found, records_stopped, undamaged_found, undamaged_stopped}
+use Rattle.opening.proofs.Reopened.{diversions_stopped, lists_stopped, names_found, partly_stopped, records_stopped, undamaged_found, undamaged_stopped}
 use Rattle.opening.proofs.laws.a_stopped_opening_can_be_opened.Goals as goal
 
 pub returns-clause-undamaged : goal.returns-clause-undamaged
@@ -18,3 +18,6 @@ returns-clause-lists c = lists_stopped
 
 pub returns-clause-diversions : goal.returns-clause-diversions
 returns-clause-diversions c = diversions_stopped
+
+pub returns-clause-taken_up : goal.returns-clause-taken_up
+returns-clause-taken_up c = partly_stopped

@@ -27,6 +27,7 @@ returns c = record {
   architecture = c.in_ok-counted_as.ensures;
   version = c.in_ok-copy-2.ensures;
   state = c.package_state.ensures;
+  awaits = c.is_some.ensures;
   reinstreq = c.is_reinstreq.ensures;
   essential = c.is_essential.ensures;
   configured = c.in_ok-configured_of.ensures;

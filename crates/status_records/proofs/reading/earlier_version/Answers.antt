@@ -8,4 +8,4 @@ pub returns-in-Some : goal.returns-in-Some
 returns-in-Some c =
     let fs = c.args.fields.now in
     subst (λ (b : Bool). IfOk c.read_version.result (λ version. version ≡ cond b None (line_of (field_in (codes "config-version") fs))))
-    (sym (sym c.is_installed.ensures ∙ c.if-is_installed.false)) (version_read c.read_version.result fs c.in-Some.value.now c.requires c.in-Some.ensures c.read_version.ensures)
+    (sym (sym c.is_configured_in.ensures ∙ c.if-is_configured_in.false)) (version_read c.read_version.result fs c.in-Some.value.now c.requires c.in-Some.ensures c.read_version.ensures)

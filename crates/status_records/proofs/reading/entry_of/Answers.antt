@@ -22,7 +22,7 @@ pub returns-in-Some-clause-fault : goal.returns-in-Some-clause-fault
 returns-in-Some-clause-fault c = inr (λ whole. true≢false (sym (c.is_faulty_whole.ensures.1 whole) ∙ c.if-is_faulty_whole.false), rw c.in-Some.is at c.in_ok-line.ensures)
 
 pub read_entry-requires : goal.read_entry-requires
-read_entry-requires c = record { written = c.requires.written; readable = rw c.in_default.is at c.in_ok-line.ensures }
+read_entry-requires c = record { written = c.requires.written; readable = rw c.in_default.is at c.in_ok-line.ensures; agree = λ amiss. true≢false (sym (c.is_faulty_whole.ensures.1 (inr (inr amiss))) ∙ c.if-is_faulty_whole.false) }
 
 pub returns-in_err-entry-clause-entry : goal.returns-in_err-entry-clause-entry
 returns-in_err-entry-clause-entry c = IfOk-from_err c.from_residual-in_err-entry.result _ c.from_residual-in_err-entry.ensures.0

@@ -1,9 +1,5 @@
-use Rattle.std.proofs.Common.{◌&&◌, ℕ, List, Option, ap, ◌∙◌, codes}
-use Rattle.std.specs.Prelude.{is_some}
-use Rattle.status_records.specs.Words.{is_installed}
-use Rattle.status_records.specs.Paragraphs.{field_in, line_of}
-use Rattle.status_records.specs.Standings.{one_version}
 use Rattle.status_records.proofs.Kept.{writable_others}
+use Rattle.status_records.proofs.Missing.{current_in, stands_beside}
 use Rattle.status_records.proofs.reading.record_of.Goals as goal
 
 pub invariant_of-result-4-clause-writable : goal.invariant_of-result-4-clause-writable
@@ -11,5 +7,8 @@ invariant_of-result-4-clause-writable c = writable_others c.in_ok-from_str.field
 
 pub invariant_of-result-4-clause-current : goal.invariant_of-result-4-clause-current
 invariant_of-result-4-clause-current c =
-    let installed = is_installed c.args.status.state in
-    ap (λ (v : Option (List ℕ)). installed && is_some v) c.in_ok-config_version.ensures.config ∙ one_version installed (line_of (field_in (codes "config-version") c.args.fields.now))
+    current_in c.state-state.result c.in_ok-triggers_in.field-0 c.in_ok-config_version.field-0.config_version c.args.fields.now c.in_ok-config_version.ensures.config c.in_ok-triggers_in.ensures.awaited
+
+pub invariant_of-result-4-clause-beside : goal.invariant_of-result-4-clause-beside
+invariant_of-result-4-clause-beside c =
+    stands_beside c.args.status.word c.state-state.result c.in_ok-triggers_in.field-0 c.args.fields.now c.state-state.ensures c.in_ok-triggers_in.ensures.pending c.in_ok-triggers_in.ensures.awaited c.requires.agree

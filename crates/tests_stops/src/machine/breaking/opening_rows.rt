@@ -1,5 +1,6 @@
-// The opening of a root whose directories are missing, that has notes to merge, or names with an architecture, broken off: the
-// records stay, and the next opening makes what is missing, merges what is noted and brings the names to those without.
+// The opening of a root whose directories are missing, that has notes to merge, names with an architecture, or conffiles that dpkg
+// left unsettled, broken off: the records stay, and the next opening makes what is missing, merges what is noted, brings the names to
+// those without, and takes up the conffiles.
 use super::{
     ALONE, Found, Moment, OPENED, OPENING, Row, SCRIPT, STATUS, decline_each_step,
     fail_at_each_read, fail_at_each_step, lose_at_each_step, stop_at_each_step,
@@ -124,7 +125,48 @@ const CLEARED: Row = Row {
     again: ALONE,
 };
 
-const ROWS: &[Row] = &[RECORDS_ALONE, EMPTY, NOTED, NAMED, CLEARED];
+const BY_DPKG: &str =
+    "Package: alpha\nStatus: install ok unpacked\nVersion: 1.0\nConffiles:\n /etc/a.conf newconffile\n\nPackage: bravo\nStatus: install ok half-configured\nVersion: 1.0\nConffiles:\n /etc/b.conf 814fa5ca98406a903e22b43d9b610105\n";
+
+const TAKEN_UP: &str =
+    "Package: alpha\nStatus: install ok unpacked\nVersion: 1.0\nConffiles:\n /etc/a.conf newconffile\nNew-Conffiles:\n /etc/a.conf 9cd599a3523898e6a12e13ec787da50a\n\nPackage: bravo\nStatus: install ok half-configured\nVersion: 1.0\nConffiles:\n /etc/b.conf 814fa5ca98406a903e22b43d9b610105\nNew-Conffiles:\n /etc/b.conf 9cd599a3523898e6a12e13ec787da50a\n";
+
+// A note that was begun and not finished stays at its temporary name until one of its number is written; it isn't read.
+const BEGUN: Found = (
+    "/var/lib/dpkg/updates",
+    &["directory:", "directory: 0001.dpkg-inst"],
+);
+
+// Two packages that dpkg unpacked, with a file beside a conffile of each.
+const ADOPTED: Row = Row {
+    files: &[
+        (STATUS, BY_DPKG),
+        ("/var/lib/dpkg/info/alpha.list", "/.\n/etc\n/etc/a.conf\n"),
+        ("/var/lib/dpkg/info/bravo.list", "/.\n/etc\n/etc/b.conf\n"),
+        ("/etc/a.conf.dpkg-new", "new\n"),
+        ("/etc/b.conf", "old\n"),
+        ("/etc/b.conf.dpkg-new", "new\n"),
+    ],
+    trees: &[],
+    endings: &[],
+    line: OPENING,
+    found: &[(STATUS, &[TAKEN_UP]), BEGUN],
+    moments: &[Moment {
+        stands: &[(STATUS, TAKEN_UP)],
+        again: OPENED,
+    }],
+    left: &[
+        (STATUS, &[TAKEN_UP]),
+        BEGUN,
+        (
+            "/etc",
+            &["directory: a.conf.dpkg-new b.conf b.conf.dpkg-new"],
+        ),
+    ],
+    again: ALONE,
+};
+
+const ROWS: &[Row] = &[RECORDS_ALONE, EMPTY, NOTED, NAMED, CLEARED, ADOPTED];
 
 #[test]
 fn stops(rt: HostRuntime) -> Result<(), Fail> {

@@ -374,10 +374,20 @@ fn unsettled(alloc: Global, recorded: &str, digest: &str) -> Result<String, Allo
     )
 }
 
+// The same as dpkg says it.
+fn unsettled_by_dpkg(alloc: Global, recorded: &str) -> Result<String, AllocError> {
+    format!(in alloc;
+        "write /var/lib/dpkg/status Package: zulu\nStatus: install ok unpacked\nVersion: 2\nConfig-Version: 1\nConffiles:\n /etc/z.conf {recorded}\n"
+    )
+}
+
 // The answers, and what they are to be.
-fn settle(alloc: Global, row: &SettledRow) -> Result<(String, String), AllocError> {
+fn settle(alloc: Global, row: &SettledRow, by_dpkg: bool) -> Result<(String, String), AllocError> {
     let ((recorded, current, (shipped, digest)), flag, (names, holds)) = *row;
-    let status = unsettled(alloc, recorded, digest)?;
+    let status = match by_dpkg {
+        true => unsettled_by_dpkg(alloc, recorded)?,
+        false => unsettled(alloc, recorded, digest)?,
+    };
     let file = match current {
         "" => String::from_str(alloc, "write /etc/motd")?,
         text => format!(in alloc; "write /etc/z.conf {text}")?,
@@ -398,10 +408,12 @@ fn settle(alloc: Global, row: &SettledRow) -> Result<(String, String), AllocErro
     Ok((told, wanted))
 }
 
-// Stops the test where a conffile isn't settled as the row says.
+// Stops the test where a conffile isn't settled as the row says, be it unpacked by the program or by dpkg.
 fn check_settled(rt: &(impl Abort + AllocGlobal), row: &SettledRow) -> Result<(), Fail> {
-    let (told, wanted) = settle(rt.alloc(), row)?;
-    assert_eq!(rt; told.as_str(), wanted.as_str());
+    for by_dpkg in [false, true] {
+        let (told, wanted) = settle(rt.alloc(), row, by_dpkg)?;
+        assert_eq!(rt; told.as_str(), wanted.as_str());
+    }
     Ok(())
 }
 

@@ -29,6 +29,9 @@ const OTHER: &str = "write /var/lib/dpkg/info/alpha.list /.\n/opt\n";
 
 const SCRIPT: &str = "write /var/lib/dpkg/info/alpha:amd64.postrm #!/bin/sh\n";
 
+const SUMS: &str =
+    "write /var/lib/dpkg/info/alpha:amd64.md5sums 00000000000000000000000000000000  opt/a\n";
+
 const OF_BRAVO: &str = "write /var/lib/dpkg/info/bravo.list /.\n/opt\n/opt/b\n";
 
 const FILE: &str = "write /opt/a a";
@@ -37,7 +40,7 @@ const READ: &str = "read /var/lib/dpkg/info";
 
 const CONFIGURE: &str = "dpkg_cli configure";
 
-// A question reads no such name. A command brings each to that without the architecture.
+// A question reads either name. A command brings each to that without the architecture.
 const BROUGHT: NameRow = (
     &[RECORDS, FORMAT, LONG, SCRIPT, OF_BRAVO, FILE],
     &[
@@ -49,9 +52,8 @@ const BROUGHT: NameRow = (
         READ,
         "read /opt",
     ],
-    "|damaged /var/lib/dpkg/info/alpha:amd64.list 0
-expected: a file of a package whose name has no architecture
-|2
+    "alpha: /opt/a
+||0
 ||0
 directory: alpha.list alpha.postrm bravo.list
 alpha: /opt/a
@@ -63,6 +65,88 @@ done
 ||0
 directory: bravo.list
 directory:
+",
+);
+
+// Questions see what a command would make of the names, and change nothing.
+const ASKED: NameRow = (
+    &[RECORDS, FORMAT, LONG, SUMS, SCRIPT, OF_BRAVO, FILE],
+    &[
+        "dpkg_cli listfiles alpha",
+        "dpkg_cli listfiles bravo",
+        "dpkg_cli search /opt/a",
+        "dpkg_cli audit",
+        "dpkg_cli verify",
+        READ,
+    ],
+    "/.
+/opt
+/opt/a
+||0
+/.
+/opt
+/opt/b
+||0
+alpha: /opt/a
+||0
+||0
+bytes /opt/a alpha
+missing /opt/b bravo
+||1
+directory: alpha:amd64.list alpha:amd64.md5sums alpha:amd64.postrm bravo.list format
+",
+);
+
+// Where both names stand, and without the format.
+const ASKED_BESIDE: NameRow = (
+    &[RECORDS, FORMAT, LONG, SHORT, OF_BRAVO],
+    &["dpkg_cli search /opt/a", READ],
+    "alpha: /opt/a
+||0
+directory: alpha.list alpha:amd64.list bravo.list format
+",
+);
+
+const ASKED_LEFT: NameRow = (
+    &[RECORDS, LONG, OTHER],
+    &["dpkg_cli listfiles alpha", "dpkg_cli search /opt/a", READ],
+    "/.
+/opt
+||0
+||1
+directory: alpha.list alpha:amd64.list
+",
+);
+
+// What a command is refused for.
+const ASKED_CLASH: NameRow = (
+    &[RECORDS, FORMAT, LONG, OTHER],
+    &[
+        "dpkg_cli search /opt/a",
+        "dpkg_cli verify",
+        "dpkg_cli list",
+        READ,
+    ],
+    "|damaged /var/lib/dpkg/info/alpha:amd64.list 0
+expected: a file of a package whose name has no architecture
+|2
+|damaged /var/lib/dpkg/info/alpha:amd64.list 0
+expected: a file of a package whose name has no architecture
+|2
+alpha 1 installed
+bravo 1 installed
+||0
+directory: alpha.list alpha:amd64.list format
+",
+);
+
+const ASKED_UNKNOWN: NameRow = (
+    &[RECORDS, "write /var/lib/dpkg/info/format 2\n", LONG],
+    &["dpkg_cli audit", READ],
+    "|damaged /var/lib/dpkg/info/format 0
+expected: a file of a package whose name has no architecture
+|2
+directory: alpha:amd64.list format
 ",
 );
 
@@ -151,6 +235,11 @@ directory: alpha:arm64.list
 
 const ROWS: &[NameRow] = &[
     BROUGHT,
+    ASKED,
+    ASKED_BESIDE,
+    ASKED_LEFT,
+    ASKED_CLASH,
+    ASKED_UNKNOWN,
     GIVEN,
     LEFT_BESIDE,
     CLASH,

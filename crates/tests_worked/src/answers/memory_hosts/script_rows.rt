@@ -338,7 +338,7 @@ fn line_without_colon_is_damage(rt: HostRuntime) -> Result<(), Fail> {
 // Status files of one record, and the line of the first value that can't be read.
 const DAMAGES: &[(&str, u64)] = &[
     (
-        "Package: alpha\nStatus: install ok triggers-pending\nVersion: 1\n",
+        "Package: alpha\nStatus: install ok triggered\nVersion: 1\n",
         2,
     ),
     (

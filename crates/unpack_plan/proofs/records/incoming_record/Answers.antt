@@ -9,4 +9,4 @@ of_package-requires-clause-readable c =
 pub returns : goal.returns
 returns c =
     let e = c.in_ok-record.ensures in
-    record { name_is = e.name; want_is = e.want; flag_is = e.flag; state_is = e.state; version_is = e.version; config_is = e.config; removed_is = e.removed; conffiles_are = e.conffiles; pending_are = e.pending; fields_are = e.fields }
+    record { name_is = e.name; want_is = e.want; flag_is = e.flag; state_is = e.state; version_is = e.version; config_is = e.config; removed_is = e.removed; conffiles_are = e.conffiles; pending_are = e.pending; triggers_are = e.triggers; fields_are = e.fields }

@@ -13,6 +13,7 @@ returns c =
       architecture = c.in_ok-counted_as.ensures;
       version = c.in_ok-copy-2.ensures;
       state = refl;
+      awaits = refl;
       reinstreq = refl;
       essential = c.is_essential.ensures;
       configured = refl;

@@ -1,7 +1,7 @@
-use Rattle.std.proofs.Common.{◌+◌, ℕ, ◌∙◌, ap}
+use Rattle.std.proofs.Common.{inl, ◌+◌, ℕ, ◌∙◌, ap}
 use Rattle.std.specs.Prelude.{count_by}
 use Rattle.host_core.proofs.Moments.{reads_then, silent_then}
-use Rattle.inquiries.specs.Read.{all_parts}
+use Rattle.inquiries.specs.Read.{records_parts}
 use Rattle.opening.proofs.Finding.{host_damage}
 use Rattle.package_tree.specs.declared.shipped.Shipped.{Shipped}
 use Rattle.verification.specs.Looks.{Look}
@@ -16,6 +16,7 @@ returns-in-Ok-clause-told g c =
       table = told.table;
       lists = told.lists;
       ways = told.ways;
+      sight = told.sight;
       read = told.read;
       looks = told.looks;
       each = told.each;
@@ -33,7 +34,7 @@ pub returns-clause-reads : goal.returns-clause-reads
 returns-clause-reads g c = reads_then _ _ _ c.read_followed.ensures.reads c.compare_read.ensures.reads
 
 pub returns-clause-finds : goal.returns-clause-finds
-returns-clause-finds g c = λ h. host_damage all_parts (g.H.Host.state c.args.host.now).world c.in-Err.fault c.from.result c.from.ensures
+returns-clause-finds g c = λ h. inl (host_damage records_parts (g.H.Host.state c.args.host.now).world c.in-Err.fault c.from.result c.from.ensures)
 
 pub returns-clause-counts : goal.returns-clause-counts
 returns-clause-counts g c = verified_passed the_row.Denot c.in-Err.fault c.from.result (g.H.Host.state c.args.host.now) (g.H.Host.state c.read_followed.new.host) (g.H.Host.state c.compare_read.new.host) c.in_ok-all.ensures.counts c.in-Err.ensures.counts c.from.ensures

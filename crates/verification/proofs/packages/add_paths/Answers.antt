@@ -2,6 +2,7 @@ use Rattle.std.proofs.Common.{◌≡◌, ◌+◌, ◌<◌, ◌++◌, ◌∷◌, 
 use Rattle.std.proofs.lemmas.List.{map-append, take_more}
 use Rattle.host_core.proofs.Moments.{reads_then, silent_then}
 use Rattle.host_core.specs.Paths.{Path}
+use Rattle.host_overlay.specs.Seen.{seen}
 use Rattle.verification.specs.Verified.{Listing, look_lines}
 use Rattle.verification.proofs.Adding.{adds_of, adds_then}
 use Rattle.verification.proofs.Counted.{counts_passed}
@@ -25,7 +26,7 @@ loop-path-preserved g c =
     let same : listed (take i paths) ++ (r, path) ∷ [] ≡ listed (take (i + 1) paths) =
     sym (map-append (λ (p : Path). (r, p)) (take i paths) (path ∷ [])) ∙ ap listed (ap (λ (p : Path). take i paths ++ p ∷ []) c.path-item.is ∙ sym (take_more paths i path lt)) in
     record {
-      added = adds_of (look_lines c.args.diversions.now.ways) _ _ _ _ _ _ same (adds_then (look_lines c.args.diversions.now.ways) (listed (take i paths)) ((r, path) ∷ []) _ _ _ _ _ _ before.added c.add_path.ensures.reads c.in_ok-add_path.ensures.added);
+      added = adds_of (look_lines c.args.all.now.opened.diversions.ways (seen c.args.all.now.shown)) _ _ _ _ _ _ same (adds_then (look_lines c.args.all.now.opened.diversions.ways (seen c.args.all.now.shown)) (listed (take i paths)) ((r, path) ∷ []) _ _ _ _ _ _ before.added c.add_path.ensures.reads c.in_ok-add_path.ensures.added);
       reads = reads_then _ _ _ before.reads c.add_path.ensures.reads;
       silent = silent_then _ _ _ before.silent c.add_path.ensures.silent;
     }

@@ -2,9 +2,8 @@ use Rattle.std.proofs.Common.{◌≡◌, List, ap, map, subst, sym, ◌∙◌}
 use Rattle.dependency_check.specs.Waiting.{Waiting}
 use Rattle.recorded_packages.specs.Packages.{ArePackagesOf}
 use Rattle.relation_index.specs.declared.package.Package.{Package}
-use Rattle.status_records.specs.Words.{is_installed}
 use Rattle.status_records.specs.declared.record.Record.{Record}
-use Rattle.configure_run.specs.Starting.{IsBegun, waits}
+use Rattle.configure_run.specs.Starting.{IsBegun, satisfies, waits}
 use Rattle.configure_run.proofs.Numbers.{begun_even, named_apart}
 use Rattle.configure_run.proofs.queue.Queue.of.Goals as goal
 use Rattle.configure_run.proofs.queue.Queue.of.Goals.{In_ok-queue}
@@ -15,7 +14,7 @@ begun c =
     let packages : c.in_ok-queue.queue.packages ≡ c.args.packages = ap (λ (q : Waiting). q.packages) is in
     record {
       packages = subst (ArePackagesOf c.args.database.now.records) (sym {A = List Package} packages) c.requires;
-      installed = ap (λ (q : Waiting). q.installed) is ∙ c.as_slice.ensures.value ∙ c.in_ok-installed.ensures ∙ ap (map (λ (r : Record). is_installed r.state)) c.records.ensures;
+      installed = ap (λ (q : Waiting). q.installed) is ∙ c.as_slice.ensures.value ∙ c.in_ok-installed.ensures ∙ ap (map satisfies) c.records.ensures;
       waiting = ap (λ (q : Waiting). q.waiting) is ∙ c.as_slice-2.ensures.value ∙ c.in_ok-waiting.ensures ∙ ap (map (waits c.args.names.now)) c.records-2.ensures;
     }
 

@@ -16,5 +16,6 @@ returns c = record {
   removed_is = c.removed_of.ensures;
   conffiles_are = c.conffiles.view_is;
   pending_are = c.pending.view_is;
+  triggers_are = c.none.ensures;
   fields_are = c.in_ok-recorded_fields.ensures;
 }

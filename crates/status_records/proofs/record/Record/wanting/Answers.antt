@@ -13,5 +13,6 @@ returns c = same_record _ _ record {
   removed_since = refl;
   conffiles = c.in_ok-copy-3.ensures;
   pending = c.in_ok-copy-4.ensures;
-  fields = c.in_ok-copy-5.ensures;
+  triggers = c.in_ok-copy-5.ensures;
+  fields = c.in_ok-copy-6.ensures;
 }

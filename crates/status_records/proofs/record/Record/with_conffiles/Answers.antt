@@ -13,5 +13,6 @@ returns c = same_record _ _ record {
   removed_since = refl;
   conffiles = c.conffiles.view_is;
   pending = c.pending.view_is;
-  fields = c.in_ok-copy-3.ensures;
+  triggers = c.in_ok-copy-3.ensures;
+  fields = c.in_ok-copy-4.ensures;
 }

@@ -1,0 +1,3 @@
+pub mod Pending
+pub mod Taken
+pub mod Putting

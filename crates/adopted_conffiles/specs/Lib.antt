@@ -1,0 +1,3 @@
+pub mod Digested
+pub mod Adopted
+pub mod Adopting

@@ -1,0 +1,6 @@
+mod Cutting
+mod Digits
+mod Entries
+mod Texts
+mod Firsts
+mod Giving
