@@ -19,7 +19,7 @@ use Rattle.control_fields.specs.declared.field.Field.{Field}
 use Rattle.control_fields.proofs.OnlyOne.{reads_one_once, no_fault_of_one}
 use Rattle.administration.specs.Scripts.{script_of, file_of}
 use Rattle.stated_relations.specs.Stated.{States}
-use Rattle.package_tree.specs.ControlFile.{key_of, relation_order, HasValue, HasNoBad, HasNoBadRelation, HasBadValue}
+use Rattle.package_tree.specs.ControlFile.{key_of, relation_order, IsControlText, HasValue, HasNoBad, HasNoBadRelation, HasBadValue}
 use Rattle.package_tree.specs.Conffiles.{HasNoEntry, IsFirstEntry, IsOdd}
 use Rattle.package_tree.specs.ConffileFaults.{AreNamed, IsAstray}
 use Rattle.package_tree.proofs.Firsts.{no_bad_path}
@@ -28,6 +28,7 @@ use Rattle.package_tree.specs.OtherFiles.{names_of, control_member}
 use Rattle.package_tree.specs.Owners.{root_at}
 use Rattle.package_tree.specs.ShipMap.{paths_of}
 use Rattle.package_tree.specs.declared.conffile_lines.Entry.{Entry}
+use Rattle.package_tree.specs.declared.control_file.ControlFile.{ControlFile}
 use Rattle.package_tree.specs.declared.conffile_lines.Entry.TheVariants.{Plain, Flagged}
 use Rattle.package_tree.specs.declared.other_file.OtherFile.{OtherFile}
 use Rattle.package_tree.specs.declared.shipped.Shipped.{Shipped}
@@ -190,3 +191,22 @@ others_once w p q s t =
     (λ x has. (let at = stored_at w p.others x s.others.nodes has in t.others.whole x at.0 at.1))
     (λ x has. (let at = stored_at w q.others x t.others.nodes has in s.others.whole x at.0 at.1)))
     s.others.nodes t.others.nodes
+
+-- a control file that is read alone
+
+pub alone_control : (w : World) (p : Package) (text : List ℕ) (file : ControlFile) → IsTreeOf w p → HasControl w text → IsControlText text file.paragraph file.name file.version → file.paragraph ≡ p.control
+alone_control w p text file t there is = one_control w p t text file.paragraph there is.reads
+
+pub alone_name : (w : World) (p : Package) (text : List ℕ) (file : ControlFile) → IsTreeOf w p → HasControl w text → IsControlText text file.paragraph file.name file.version → file.name ≡ p.name
+alone_name w p text file t there is =
+    one_value field.Package p.control file.name p.name (subst (λ (l : List Field). HasValue field.Package l file.name) (alone_control w p text file t there is) is.fields.named) t.control.fields.named
+
+pub alone_version : (w : World) (p : Package) (text : List ℕ) (file : ControlFile) → IsTreeOf w p → HasControl w text → IsControlText text file.paragraph file.name file.version → file.version ≡ p.version
+alone_version w p text file t there is =
+    one_value field.Version p.control file.version p.version (subst (λ (l : List Field). HasValue field.Version l file.version) (alone_control w p text file t there is) is.fields.versioned) t.control.fields.versioned
+
+pub alone_relations : (w : World) (p : Package) (text : List ℕ) (file : ControlFile) → IsTreeOf w p → HasControl w text → IsControlText text file.paragraph file.name file.version → ∥ States file.paragraph file.relations ∥₁ → file.relations ≡ p.relations
+alone_relations w p text file t there is stated =
+    ∥∥₁_elim stated (hlevel props) (λ one.
+    ∥∥₁_elim t.relations (hlevel props) (λ other.
+    stated_once p.control file.relations p.relations (subst (λ (fields : List Field). States fields file.relations) (alone_control w p text file t there is) one) other))

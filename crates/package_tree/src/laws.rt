@@ -1,9 +1,12 @@
 // Laws of trees.
-ghost use Rattle.std.specs.Prelude.{◌≡◌};
+ghost use Rattle.std.specs.Prelude.{◌≡◌, ℕ, List};
 ghost use Rattle.host_core.specs.World.{World};
 ghost use Rattle.host_core.specs.declared.call.Script.{Script};
 ghost use Rattle.administration.specs.Scripts.{script_of, file_of};
-ghost use Rattle.package_tree.specs.Tree.{IsTreeOf, IsTreeFault};
+ghost use Rattle.stated_relations.specs.Stated.{States};
+ghost use Rattle.package_tree.specs.ControlFile.{IsControlText};
+ghost use Rattle.package_tree.specs.Tree.{HasControl, IsTreeOf, IsTreeFault};
+ghost use Rattle.package_tree.specs.declared.control_file.ControlFile.{ControlFile as AControlFile};
 ghost use Rattle.package_tree.specs.declared.package.Package.{Package as APackage};
 ghost use Rattle.package_tree.specs.declared.fault.TreeFault.{TreeFault as AFault};
 
@@ -30,4 +33,21 @@ pub fn trees_are_of_one_package()
         → p.others ≡ q.others }
     ensures no_fault { (w : World) (p : APackage) (fault : AFault) → IsTreeOf w p
         → IsTreeFault w fault → ⊥ }
+{}
+
+/// The control file that is read of a tree alone is that of its package.
+pub fn trees_have_their_control_files()
+    ensures control { (w : World) (p : APackage) (text : List ℕ) (file : AControlFile)
+        → IsTreeOf w p → HasControl w text
+        → IsControlText text file.paragraph file.name file.version → file.paragraph ≡ p.control }
+    ensures name { (w : World) (p : APackage) (text : List ℕ) (file : AControlFile)
+        → IsTreeOf w p → HasControl w text
+        → IsControlText text file.paragraph file.name file.version → file.name ≡ p.name }
+    ensures version { (w : World) (p : APackage) (text : List ℕ) (file : AControlFile)
+        → IsTreeOf w p → HasControl w text
+        → IsControlText text file.paragraph file.name file.version → file.version ≡ p.version }
+    ensures relations { (w : World) (p : APackage) (text : List ℕ) (file : AControlFile)
+        → IsTreeOf w p → HasControl w text
+        → IsControlText text file.paragraph file.name file.version
+        → ∥ States file.paragraph file.relations ∥₁ → file.relations ≡ p.relations }
 {}

@@ -19,6 +19,9 @@
 //! ships to user and group 0 and changes nothing else (`owned_by_root`); a tree that reads as a
 //! package is that of one package, with the relations that its control file states (`relations`),
 //! and has no fault (`trees_are_of_one_package`).
+//!
+//! `read_control_file` gives the control file alone (`read`), which is that of the package for which
+//! the tree stands, if it stands for one (`trees_have_their_control_files`).
 #![tactic(auto)]
 
 mod collecting;
@@ -40,13 +43,14 @@ mod ship_paths;
 mod shipped;
 mod walk;
 
+pub use control_file::ControlFile;
 pub use fault::{FieldName, LineName, TreeFault};
-pub use laws::trees_are_of_one_package;
+pub use laws::{trees_are_of_one_package, trees_have_their_control_files};
 pub use line_text::LineText;
 pub use other_file::OtherFile;
 pub use other_files::OtherFiles;
 pub use package::Package;
-pub use reading::read_tree;
+pub use reading::{read_control_file, read_tree};
 pub use ship_map::ShipMap;
 pub use ship_paths::ShipPaths;
 pub use shipped::Shipped;

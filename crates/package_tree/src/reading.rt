@@ -288,7 +288,8 @@ fn control_text<H: Host>(alloc: Global, host: &mut H) -> Result<Content, TreeFau
     }
 }
 
-fn read_control_file<H: Host>(alloc: Global, host: &mut H) -> Result<ControlFile, TreeFault>
+/// Reads the control file alone of the tree that the host was opened on. What else is wrong with the tree isn't looked for.
+pub fn read_control_file<H: Host>(alloc: Global, host: &mut H) -> Result<ControlFile, TreeFault>
     ensures read { Tells result
         (λ file w. (text : List ℕ) × HasControl w text
         × IsControlText text file.paragraph file.name file.version)
