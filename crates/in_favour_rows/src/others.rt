@@ -34,9 +34,10 @@ fn other_package<H: Host>(
         incoming.now.version w entry.now) (H.state host.old) (H.state host.new) }
 {
     let stored = look_for_scripts(alloc, host, &entry.record.name)?;
+    let row = row_of(alloc, incoming, stored, &entry.record.name, &entry.role)?;
     Ok(OtherPackage {
         record: entry.record.copy()?,
-        row: row_of(alloc, incoming, stored, &entry.record.name, &entry.role)?,
+        row,
     })
 }
 
