@@ -1,2 +1,4 @@
+pub mod Clauses
 pub mod Needs
 pub mod Rounds
+pub mod Taking

@@ -9,6 +9,13 @@
 //! round. Each tree is in one round, once (`each_tree_is_taken_once`).
 #![tactic(auto)]
 
+mod laws;
+mod meeters;
+mod met_already;
+mod needs;
 mod rounds;
+mod stage;
+mod taking;
 
+pub use laws::each_tree_is_taken_once;
 pub use rounds::rounds_of;
