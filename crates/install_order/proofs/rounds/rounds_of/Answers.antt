@@ -1,4 +1,4 @@
-use Rattle.std.proofs.Common.{subst, sym, ◌∙◌}
+use Rattle.std.proofs.Common.{subst, sym, refl, ◌∙◌}
 use Rattle.install_order.specs.Clauses.{AreNeeds}
 use Rattle.install_order.specs.declared.stage.Stage.TheVariants.{Unpack, Configure}
 use Rattle.install_order.proofs.RoundLaws.{rounds_within}
@@ -6,7 +6,7 @@ use Rattle.install_order.proofs.TakingLaws.{at_first, at_more, at_end, fewer_lef
 use Rattle.install_order.proofs.rounds.rounds_of.Goals as goal
 
 pub loop-alloc-init : goal.loop-alloc-init
-loop-alloc-init c = at_first c.args.recorded.now c.args.trees.now _ c.in_ok-taking.taking.rounds.items c.in_ok-taking.taking.earlier.items c.in_ok-taking.taking.left.items c.len.ensures c.in_ok-taking.ensures.rounds c.in_ok-taking.ensures.earlier c.in_ok-taking.ensures.left
+loop-alloc-init c = at_first c.args.recorded.now c.args.trees.now _ c.in_ok-taking.taking.rounds.items c.in_ok-taking.taking.earlier.items c.in_ok-taking.taking.left.items refl c.in_ok-taking.ensures.rounds c.in_ok-taking.ensures.earlier c.in_ok-taking.ensures.left
 
 pub loop-alloc-preserved : goal.loop-alloc-preserved
 loop-alloc-preserved c =
