@@ -1,17 +1,16 @@
 -- The needs of trees as clauses over their numbers.
-use Rattle.std.proofs.Common.{◌≡◌, ℕ, ◌+◌, ◌<◌, ◌≤◌, Bool, true, false, cond, ◌&&◌, List, [], ◌∷◌, ◌++◌, Option, Some, None, length, get_or, map, take, subst, sym, refl, ap, ◌∙◌, inl, inr, ⊎_elim, ◌⊎◌, arith}
+use Rattle.std.proofs.Common.{◌≡◌, ℕ, ◌+◌, ◌<◌, ◌≤◌, Bool, true, false, ◌&&◌, List, [], ◌∷◌, ◌++◌, Option, Some, None, length, get_or, map, take, subst, sym, refl, ap, ◌∙◌, inl, inr, ⊎_elim, ◌⊎◌, arith}
 use Rattle.std.specs.Prelude.{IsTrue, ◌↔◌, ◌==◌}
 use Rattle.std.specs.List.{Contains, list_any}
 use Rattle.std.proofs.lemmas.Bool.{cases_lt, false≢true, and_parts, and_from, both_ways, eqb-false}
-use Rattle.std.proofs.lemmas.List.{get_or_default, get_or_read, get_or-map}
+use Rattle.std.proofs.lemmas.List.{get_or_default, get_or_past, get_or-map}
 use Rattle.std.proofs.lemmas.List.Elements.{All-contains, Contains-append_left, Contains-push, Contains-push_cases, Contains-get_or}
 use Rattle.dependency_check.proofs.MeetingLaws.{those_is, those_from, one_of, any_of}
 use Rattle.dependency_check.proofs.UnpackLaws.{beforehand_is}
-use Rattle.dependency_sets.proofs.ListingLaws.{IsMarkedBelow, marked_more}
 use Rattle.dependency_sets.proofs.RemovalLaws.{in_more, more_in, last_in}
 use Rattle.dependency_sets.specs.Sets.{IsMet, IsSupplied}
 use Rattle.dependency_sets.specs.declared.clause.Clause.{Clause}
-use Rattle.install_order.specs.Clauses.{architecture_in, meets_as, MeetsAs, stated_by, stated_for, is_enough, IsMetAlready, NeedsFor, IsClauseOf, HasTaken, HasStated, AreNeeds}
+use Rattle.install_order.specs.Clauses.{architecture_in, meets_as, meets_at, stated_by, stated_for, is_enough, IsMetAlready, NeedsFor, IsClauseOf, HasTaken, HasStated, AreNeeds}
 use Rattle.install_order.specs.Needs.{IsTree, Meets, IsMetBySome, IsLeftTo, tree_meets}
 use Rattle.install_order.specs.declared.stage.Stage.{Stage}
 use Rattle.install_order.specs.declared.stage.Stage.TheVariants.{Unpack, Configure}
@@ -23,30 +22,19 @@ use Rattle.relation_index.specs.declared.package.Package.{Package}
 
 -- which trees meet a clause
 
-abbrev pub meets_of : List Alternative → List (Option ControlFile) → List (Option (List ℕ)) → ℕ → Bool
-meets_of clause trees architectures x = meets_as clause (get_or trees x None) (get_or architectures x None)
-
-pub meeters_all : (clause : List Alternative) (trees : List (Option ControlFile)) (architectures : List (Option (List ℕ))) (n : ℕ) (list : List ℕ) → n ≡ length trees → IsMarkedBelow (meets_of clause trees architectures) n list → (x : ℕ) → Contains list x ↔ MeetsAs trees architectures clause x
-meeters_all clause trees architectures n list e h x = (
-  λ c. let w = h.within x c in (omega (arith, w.0, e), w.1),
-  λ w. h.all x (omega (arith, w.0, e)) w.1,
-)
-
-pub meeters_more : (clause : List Alternative) (trees : List (Option ControlFile)) (architectures : List (Option (List ℕ))) (n : ℕ) (o : Option ControlFile) (a : Option (List ℕ)) (list new : List ℕ) → n < length trees → length architectures ≡ length trees → o ≡ get_or trees n o → a ≡ get_or architectures n a → new ≡ cond (meets_as clause o a) (list ++ n ∷ []) list → IsMarkedBelow (meets_of clause trees architectures) n list → IsMarkedBelow (meets_of clause trees architectures) (n + 1) new
-meeters_more clause trees architectures n o a list new lt same eo ea e h = marked_more (meets_of clause trees architectures) n list new h
-    (subst (λ (p : Option ControlFile). new ≡ cond (meets_as clause p (get_or architectures n None)) (list ++ n ∷ []) list) (get_or_read trees n o lt eo None)
-    (subst (λ (b : Option (List ℕ)). new ≡ cond (meets_as clause o b) (list ++ n ∷ []) list) (get_or_read architectures n a (omega (arith, same, lt)) ea None) e))
-
 meets_from : (recorded : List Package) (trees : List (Option ControlFile)) (clause : List Alternative) (x : ℕ) (o : Option ControlFile) → x < length trees → get_or trees x None ≡ o → IsTrue (meets_as clause o (architecture_in (first_architecture recorded) o)) → Meets recorded trees clause x
 meets_from recorded trees clause x None lt e t = absurd (false≢true t)
 meets_from recorded trees clause x (Some tree) lt e t = (tree, (lt, e), t)
 
-pub meets_as_is : (recorded : List Package) (trees : List (Option ControlFile)) (architectures : List (Option (List ℕ))) (clause : List Alternative) → architectures ≡ map (architecture_in (first_architecture recorded)) trees → (x : ℕ) → MeetsAs trees architectures clause x ↔ Meets recorded trees clause x
-meets_as_is recorded trees architectures clause e x =
+pub meets_at_is : (recorded : List Package) (trees : List (Option ControlFile)) (architectures : List (Option (List ℕ))) (clause : List Alternative) → architectures ≡ map (architecture_in (first_architecture recorded)) trees → (x : ℕ) → IsTrue (meets_at trees architectures clause x) ↔ Meets recorded trees clause x
+meets_at_is recorded trees architectures clause e x =
     let at : x < length trees → get_or architectures x None ≡ architecture_in (first_architecture recorded) (get_or trees x None) = λ lt. ap (λ (l : List (Option (List ℕ))). get_or l x None) e ∙ get_or-map (architecture_in (first_architecture recorded)) trees x None None lt in
     (
-      λ w. meets_from recorded trees clause x (get_or trees x None) w.0 refl (subst (λ (a : Option (List ℕ)). IsTrue (meets_as clause (get_or trees x None) a)) (at w.0) w.1),
-      λ w. (w.1.0, subst (λ (a : Option (List ℕ)). IsTrue (meets_as clause (get_or trees x None) a)) (sym (at w.1.0)) (subst (λ (o : Option ControlFile). IsTrue (meets_as clause o (architecture_in (first_architecture recorded) o))) (sym w.1.1) w.2)),
+      λ t. ⊎_elim
+          (λ (lt : x < length trees). meets_from recorded trees clause x (get_or trees x None) lt refl (subst (λ (a : Option (List ℕ)). IsTrue (meets_as clause (get_or trees x None) a)) (at lt) t))
+          (λ (past : length trees ≤ x). absurd (false≢true (subst (λ (o : Option ControlFile). IsTrue (meets_as clause o (get_or architectures x None))) (get_or_past trees x None past) t)))
+          (cases_lt x (length trees)),
+      λ w. subst (λ (a : Option (List ℕ)). IsTrue (meets_as clause (get_or trees x None) a)) (sym (at w.1.0)) (subst (λ (o : Option ControlFile). IsTrue (meets_as clause o (architecture_in (first_architecture recorded) o))) (sym w.1.1) w.2),
     )
 
 -- whether recorded packages are enough
@@ -76,15 +64,15 @@ IsLeft stage recorded trees clause = IsLeftTo recorded trees clause (IsMetAlread
 pub taken_met : (stage : Stage) (recorded : List Package) (trees : List (Option ControlFile)) (owner : ℕ) (clause : List Alternative) (list : List Clause) (met : Bool) → (IsTrue met ↔ IsMetAlready stage recorded clause) → met ≡ true → HasTaken stage recorded trees owner clause list list
 taken_met stage recorded trees owner clause list met is' t = inl (refl, λ left. left.1 (is'.0 t))
 
-pub taken_unmet : (stage : Stage) (recorded : List Package) (trees : List (Option ControlFile)) (architectures : List (Option (List ℕ))) (owner : ℕ) (clause : List Alternative) (list : List Clause) (numbers slice : List ℕ) → architectures ≡ map (architecture_in (first_architecture recorded)) trees → ((x : ℕ) → Contains numbers x ↔ MeetsAs trees architectures clause x) → slice ≡ numbers → length slice ≡ 0 → HasTaken stage recorded trees owner clause list list
+pub taken_unmet : (stage : Stage) (recorded : List Package) (trees : List (Option ControlFile)) (architectures : List (Option (List ℕ))) (owner : ℕ) (clause : List Alternative) (list : List Clause) (numbers slice : List ℕ) → architectures ≡ map (architecture_in (first_architecture recorded)) trees → ((x : ℕ) → Contains numbers x ↔ IsTrue (meets_at trees architectures clause x)) → slice ≡ numbers → length slice ≡ 0 → HasTaken stage recorded trees owner clause list list
 taken_unmet stage recorded trees architectures owner clause list numbers slice e are es none = inl (refl, λ left.
-    let c = (are left.0.0).1 ((meets_as_is recorded trees architectures clause e left.0.0).1 left.0.1) in
+    let c = (are left.0.0).1 ((meets_at_is recorded trees architectures clause e left.0.0).1 left.0.1) in
     let c' = subst (λ (l : List ℕ). Contains l left.0.0) (sym es) c in
     omega (arith, c'.1, none))
 
-pub taken_left : (stage : Stage) (recorded : List Package) (trees : List (Option ControlFile)) (architectures : List (Option (List ℕ))) (owner : ℕ) (clause : List Alternative) (list new : List Clause) (numbers slice : List ℕ) (met : Bool) → architectures ≡ map (architecture_in (first_architecture recorded)) trees → (IsTrue met ↔ IsMetAlready stage recorded clause) → met ≡ false → ((x : ℕ) → Contains numbers x ↔ MeetsAs trees architectures clause x) → slice ≡ numbers → 0 < length slice → new ≡ list ++ record { owner = owner; meeters = numbers } ∷ [] → HasTaken stage recorded trees owner clause list new
+pub taken_left : (stage : Stage) (recorded : List Package) (trees : List (Option ControlFile)) (architectures : List (Option (List ℕ))) (owner : ℕ) (clause : List Alternative) (list new : List Clause) (numbers slice : List ℕ) (met : Bool) → architectures ≡ map (architecture_in (first_architecture recorded)) trees → (IsTrue met ↔ IsMetAlready stage recorded clause) → met ≡ false → ((x : ℕ) → Contains numbers x ↔ IsTrue (meets_at trees architectures clause x)) → slice ≡ numbers → 0 < length slice → new ≡ list ++ record { owner = owner; meeters = numbers } ∷ [] → HasTaken stage recorded trees owner clause list new
 taken_left stage recorded trees architectures owner clause list new numbers slice met e is' f are es some en =
-    let all : (y : ℕ) → Contains numbers y ↔ Meets recorded trees clause y = λ y. (λ c. (meets_as_is recorded trees architectures clause e y).0 ((are y).0 c), λ m. (are y).1 ((meets_as_is recorded trees architectures clause e y).1 m)) in
+    let all : (y : ℕ) → Contains numbers y ↔ Meets recorded trees clause y = λ y. (λ c. (meets_at_is recorded trees architectures clause e y).0 ((are y).0 c), λ m. (are y).1 ((meets_at_is recorded trees architectures clause e y).1 m)) in
     let c = subst (λ (l : List ℕ). Contains l (get_or slice 0 0)) es (Contains-get_or slice 0 0 some) in
     inr (record { owner = owner; meeters = numbers }, en, ((get_or slice 0 0, (all (get_or slice 0 0)).0 c), λ m. both_ways met f (is'.1 m)), (refl, all))
 

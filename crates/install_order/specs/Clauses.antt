@@ -24,9 +24,9 @@ abbrev pub meets_as : List Alternative → Option ControlFile → Option (List �
 meets_as clause None architecture = false
 meets_as clause (Some tree) architecture = clause_admits clause tree.name architecture tree.version tree.relations.provides
 
--- the tree of this number does
-abbrev pub MeetsAs : List (Option ControlFile) → List (Option (List ℕ)) → List Alternative → ℕ → Type 0
-MeetsAs trees architectures clause x = (x < length trees) × IsTrue (meets_as clause (slice_index_or trees x None) (slice_index_or architectures x None))
+-- the tree of this number does; none past the end does
+abbrev pub meets_at : List (Option ControlFile) → List (Option (List ℕ)) → List Alternative → ℕ → Bool
+meets_at trees architectures clause x = meets_as clause (slice_index_or trees x None) (slice_index_or architectures x None)
 
 -- what a tree states of others before its unpack, and before it is configured
 abbrev pub stated_for : Stage → ControlFile → List (List Alternative)

@@ -1,3 +1,4 @@
+pub mod Bearers
 pub mod Clauses
 pub mod Needs
 pub mod Rounds

@@ -9,8 +9,9 @@
 //! round. Each tree is in one round, once (`each_tree_is_taken_once`).
 #![tactic(auto)]
 
+mod bearers;
+mod index;
 mod laws;
-mod meeters;
 mod met_already;
 mod needs;
 mod rounds;

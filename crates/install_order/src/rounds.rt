@@ -3,7 +3,7 @@ ghost use Rattle.std.specs.Prelude.{IfOk, ℕ, ◌<◌, length};
 ghost use Rattle.std.specs.List.{All};
 ghost use Rattle.install_order.specs.Rounds.{AreRounds};
 
-use crate::meeters::{architectures_in, first_architecture};
+use crate::bearers::Bearers;
 use crate::needs::needs_of;
 use crate::stage::Stage;
 use crate::taking::{Taking, has_one};
@@ -21,11 +21,9 @@ pub fn rounds_of(
     ensures rounds { IfOk result (λ rounds. AreRounds recorded.now trees.now rounds.items) }
     ensures within { IfOk result (λ rounds. All (All (λ x. x < length trees.now)) rounds.items) }
 {
-    let root = first_architecture(recorded.as_slice());
-    let counted = architectures_in(alloc, root, trees)?;
-    let architectures = counted.as_slice();
-    let before = needs_of(alloc, Stage::Unpack, recorded, trees, architectures)?;
-    let beside = needs_of(alloc, Stage::Configure, recorded, trees, architectures)?;
+    let bearers = Bearers::of(alloc, recorded, trees)?;
+    let before = needs_of(alloc, Stage::Unpack, recorded, trees, &bearers)?;
+    let beside = needs_of(alloc, Stage::Configure, recorded, trees, &bearers)?;
     let mut taking = Taking::new(alloc, trees.len())?;
     while has_one(taking.left.as_slice()) {
         taking.take(alloc, before.as_slice(), beside.as_slice())?;

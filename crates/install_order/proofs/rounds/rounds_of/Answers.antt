@@ -12,24 +12,24 @@ pub loop-alloc-preserved : goal.loop-alloc-preserved
 loop-alloc-preserved c =
     let t = c.loop-alloc.taking in
     let u = c.take.new.self in
-    at_more c.args.recorded.now c.args.trees.now c.as_slice-in-loop-alloc-2.result.now c.as_slice-in-loop-alloc-3.result.now t.rounds.items u.rounds.items t.earlier.items t.left.items u.earlier.items u.left.items
-    (subst (AreNeeds Unpack c.args.recorded.now c.args.trees.now) (sym c.as_slice-in-loop-alloc-2.ensures.value) c.in_ok-before.ensures)
-    (subst (AreNeeds Configure c.args.recorded.now c.args.trees.now) (sym c.as_slice-in-loop-alloc-3.ensures.value) c.in_ok-beside.ensures)
+    at_more c.args.recorded.now c.args.trees.now c.as_slice-in-loop-alloc.result.now c.as_slice-in-loop-alloc-2.result.now t.rounds.items u.rounds.items t.earlier.items t.left.items u.earlier.items u.left.items
+    (subst (AreNeeds Unpack c.args.recorded.now c.args.trees.now) (sym c.as_slice-in-loop-alloc.ensures.value) c.in_ok-before.ensures)
+    (subst (AreNeeds Configure c.args.recorded.now c.args.trees.now) (sym c.as_slice-in-loop-alloc-2.ensures.value) c.in_ok-beside.ensures)
     c.in_ok-take.ensures c.loop-alloc.invariant
 
 pub loop-alloc-smaller : goal.loop-alloc-smaller
 loop-alloc-smaller c =
     let t = c.loop-alloc.taking in
     let u = c.take.new.self in
-    fewer_left c.as_slice-in-loop-alloc-2.result.now c.as_slice-in-loop-alloc-3.result.now t.rounds.items u.rounds.items t.earlier.items t.left.items u.earlier.items u.left.items c.in_ok-take.ensures
+    fewer_left c.as_slice-in-loop-alloc.result.now c.as_slice-in-loop-alloc-2.result.now t.rounds.items u.rounds.items t.earlier.items t.left.items u.earlier.items u.left.items c.in_ok-take.ensures
 
 pub returns-clause-rounds : goal.returns-clause-rounds
 returns-clause-rounds c =
     let t = c.loop-alloc.taking in
-    at_end c.args.recorded.now c.args.trees.now t.rounds.items t.earlier.items t.left.items c.as_slice-in-loop-alloc.result.now c.as_slice-in-loop-alloc.ensures.value (sym c.has_one.ensures ∙ c.loop-alloc-test.false) c.loop-alloc.invariant
+    at_end c.args.recorded.now c.args.trees.now t.rounds.items t.earlier.items t.left.items c.as_slice.result.now c.as_slice.ensures.value (sym c.has_one.ensures ∙ c.loop-alloc-test.false) c.loop-alloc.invariant
 
 pub returns-clause-within : goal.returns-clause-within
 returns-clause-within c =
     let t = c.loop-alloc.taking in
     rounds_within c.args.recorded.now c.args.trees.now t.rounds.items
-    (at_end c.args.recorded.now c.args.trees.now t.rounds.items t.earlier.items t.left.items c.as_slice-in-loop-alloc.result.now c.as_slice-in-loop-alloc.ensures.value (sym c.has_one.ensures ∙ c.loop-alloc-test.false) c.loop-alloc.invariant)
+    (at_end c.args.recorded.now c.args.trees.now t.rounds.items t.earlier.items t.left.items c.as_slice.result.now c.as_slice.ensures.value (sym c.has_one.ensures ∙ c.loop-alloc-test.false) c.loop-alloc.invariant)
