@@ -1,10 +1,10 @@
 -- The index of the names that trees bear, and what it finds.
-use Rattle.std.proofs.Common.{◌≡◌, ℕ, ◌<◌, ◌≤◌, ◌+◌, Bool, true, false, cond, ◌||◌, ◌&&◌, List, Option, Some, None, [], ◌∷◌, ◌++◌, length, get_or, set, take, subst, sym, refl, ap, ◌∙◌, inl, inr, ⊎_elim, ◌⊎◌, arith}
+use Rattle.std.proofs.Common.{◌≡◌, ℕ, ◌<◌, ◌≤◌, ◌+◌, Bool, true, false, cond, ◌||◌, ◌&&◌, List, Option, Some, None, [], ◌∷◌, ◌++◌, length, get_or, set, take, subst, sym, refl, ap, ◌∙◌, inr, ⊎_elim, ◌⊎◌, arith}
 use Rattle.std.specs.Prelude.{IsTrue, ◌↔◌}
 use Rattle.std.specs.List.{Contains, list_any}
 use Rattle.std.specs.Str.{bytes_eq}
 use Rattle.std.proofs.lemmas.Bool.{cases_lt, cases_Bool, false≢true, or_cases, or_left, or_right, and_parts, cond-true, cond-false}
-use Rattle.std.proofs.lemmas.List.{get_or_past, get_or_read, get_or-take, length-take-le, length-set, length-map}
+use Rattle.std.proofs.lemmas.List.{get_or_past, get_or_read, get_or-take, length-take-le, length-set}
 use Rattle.std.proofs.lemmas.List.Elements.{Contains-append_left, Contains-push, Contains-push_cases}
 use Rattle.std.proofs.lemmas.List.Folds.{list_any_more, list_any_at, Any-from_list_any}
 use Rattle.std.proofs.lemmas.Slice.Eq.{bytes_eq-Decides}
@@ -41,19 +41,10 @@ bearing_entered slots slots' rows rows' tree own entries x eo ee first g rest na
     subst (λ (n : List ℕ). IsEntered slots' rows' n x) (sym (alike name w.1.name w.4)) (rest w.1 (subst (λ (l : List Provided). Contains l w.1) (sym ee) (w.0, w.2, w.3))))
     (or_cases (bytes_eq name tree.name) (list_any (λ e. bytes_eq name e.name) tree.relations.provides) t)
 
-none_some : (o : Option ℕ) (b : ℕ) → o ≡ None → o ≡ Some b → ⊥
-none_some o b e f = cc
-
-pub index_none : (slots : List ℕ → Option ℕ) (rows : List (List ℕ)) → ((name : List ℕ) → slots name ≡ None) → IsIndex [] slots rows
-index_none slots rows none = record {
-  within = λ name s e. absurd (none_some (slots name) s (none name) e);
-  entered = λ x name lt t. absurd (omega (arith, lt));
-}
-
 pub index_more : (trees : List (Option ControlFile)) (slots slots' : List ℕ → Option ℕ) (rows rows' : List (List ℕ)) (i : ℕ) (o : Option ControlFile) → i < length trees → o ≡ get_or trees i o → IsIndex (take i trees) slots rows → Grows slots rows slots' rows' → ((name : List ℕ) → IsTrue (bears name o) → IsEntered slots' rows' name i) → IsIndex (take (i + 1) trees) slots' rows'
 index_more trees slots slots' rows rows' i o lt at h g here = record {
   within = g.within h.within;
-  entered = λ x name l t. 
+  entered = λ x name l t.
       let t' : IsTrue (bears name (get_or trees x None)) = subst (λ (p : Option ControlFile). IsTrue (bears name p)) (get_or-take (i + 1) trees x None (omega (arith, l, length-take-le (i + 1) trees (omega arith)))) t in
       ⊎_elim
       (λ (l' : x < i). g.kept name x (h.entered x name (subst (λ (n : ℕ). x < n) (sym (length-take-le i trees (omega arith))) l')
@@ -65,9 +56,6 @@ index_more trees slots slots' rows rows' i o lt at h g here = record {
 }
 
 -- pushing
-
-pub pushed_none : (test : ℕ → Bool) (list : List ℕ) → HasPushed test [] list list
-pushed_none test list = record { kept = λ x c. c; pushed = λ x c t. absurd (omega (arith, c.1)); no_more = λ x c. inl c }
 
 pub pushed_more : (test : ℕ → Bool) (numbers : List ℕ) (i n : ℕ) (old mid new : List ℕ) → i < length numbers → n ≡ get_or numbers i 0 → new ≡ cond (test n) (mid ++ n ∷ []) mid → HasPushed test (take i numbers) old mid → HasPushed test (take (i + 1) numbers) old new
 pushed_more test numbers i n old mid new lt at e h = ⊎_elim
@@ -119,15 +107,8 @@ as_more clause i a (Some p) of' lt at =
     list_any_more (λ b. admits b p.name of' p.version p.relations.provides) clause i a lt
     ∙ ap (λ (b : Alternative). meets_as (take i clause) (Some p) of' || admits b p.name of' p.version p.relations.provides) (sym at)
 
-as_none : (o : Option ControlFile) (of' : Option (List ℕ)) → meets_as [] o of' ≡ false
-as_none None of' = refl
-as_none (Some p) of' = refl
-
 abbrev pub AreFound : List (Option ControlFile) → List (Option (List ℕ)) → List Alternative → List ℕ → Type 0
 AreFound trees architectures clause list = (x : ℕ) → Contains list x ↔ IsTrue (meets_at trees architectures clause x)
-
-pub found_none : (trees : List (Option ControlFile)) (architectures : List (Option (List ℕ))) (list : List ℕ) → list ≡ [] → AreFound trees architectures [] list
-found_none trees architectures list e = subst (AreFound trees architectures []) (sym e) (λ x. (λ c. absurd (omega (arith, c.1)), λ t. absurd (false≢true (sym (as_none (get_or trees x None) (get_or architectures x None)) ∙ t))))
 
 pub found_more : (trees : List (Option ControlFile)) (architectures : List (Option (List ℕ))) (slots : List ℕ → Option ℕ) (rows : List (List ℕ)) (clause : List Alternative) (i : ℕ) (a : Alternative) (name : List ℕ) (row old new : List ℕ) (slice : List (Option (List ℕ))) → slice ≡ architectures → i < length clause → a ≡ get_or clause i a → name ≡ a.name → IsIndex trees slots rows → ((s : ℕ) → slots name ≡ Some s → row ≡ row_at rows s) → HasPushed (admits_at trees slice a) row old new → AreFound trees architectures (take i clause) old → AreFound trees architectures (take (i + 1) clause) new
 found_more trees architectures slots rows clause i a name row old new slice es lt at is index row_is pushed' h x =

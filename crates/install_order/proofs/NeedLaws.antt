@@ -1,5 +1,5 @@
 -- The needs of trees as clauses over their numbers.
-use Rattle.std.proofs.Common.{◌≡◌, ℕ, ◌+◌, ◌<◌, ◌≤◌, Bool, true, false, ◌&&◌, List, [], ◌∷◌, ◌++◌, Option, Some, None, length, get_or, map, take, subst, sym, refl, ap, ◌∙◌, inl, inr, ⊎_elim, ◌⊎◌, arith}
+use Rattle.std.proofs.Common.{◌≡◌, ℕ, ◌+◌, ◌<◌, ◌≤◌, Bool, false, List, [], ◌∷◌, ◌++◌, Option, Some, None, length, get_or, map, take, subst, sym, refl, ap, ◌∙◌, inl, inr, ⊎_elim, ◌⊎◌, arith}
 use Rattle.std.specs.Prelude.{IsTrue, ◌↔◌, ◌==◌}
 use Rattle.std.specs.List.{Contains, list_any}
 use Rattle.std.proofs.lemmas.Bool.{cases_lt, false≢true, and_parts, and_from, both_ways, eqb-false}
@@ -11,7 +11,7 @@ use Rattle.dependency_sets.proofs.RemovalLaws.{in_more, more_in, last_in}
 use Rattle.dependency_sets.specs.Sets.{IsMet, IsSupplied}
 use Rattle.dependency_sets.specs.declared.clause.Clause.{Clause}
 use Rattle.install_order.specs.Clauses.{architecture_in, meets_as, meets_at, stated_by, stated_for, is_enough, IsMetAlready, NeedsFor, IsClauseOf, HasTaken, HasStated, AreNeeds}
-use Rattle.install_order.specs.Needs.{IsTree, Meets, IsMetBySome, IsLeftTo, tree_meets}
+use Rattle.install_order.specs.Needs.{Meets, IsMetBySome, IsLeftTo}
 use Rattle.install_order.specs.declared.stage.Stage.{Stage}
 use Rattle.install_order.specs.declared.stage.Stage.TheVariants.{Unpack, Configure}
 use Rattle.package_tree.specs.declared.control_file.ControlFile.{ControlFile}
@@ -28,8 +28,7 @@ meets_from recorded trees clause x (Some tree) lt e t = (tree, (lt, e), t)
 
 pub meets_at_is : (recorded : List Package) (trees : List (Option ControlFile)) (architectures : List (Option (List ℕ))) (clause : List Alternative) → architectures ≡ map (architecture_in (first_architecture recorded)) trees → (x : ℕ) → IsTrue (meets_at trees architectures clause x) ↔ Meets recorded trees clause x
 meets_at_is recorded trees architectures clause e x =
-    let at : x < length trees → get_or architectures x None ≡ architecture_in (first_architecture recorded) (get_or trees x None) = λ lt. ap (λ (l : List (Option (List ℕ))). get_or l x None) e ∙ get_or-map (architecture_in (first_architecture recorded)) trees x None None lt in
-    (
+    let at : x < length trees → get_or architectures x None ≡ architecture_in (first_architecture recorded) (get_or trees x None) = λ lt. ap (λ (l : List (Option (List ℕ))). get_or l x None) e ∙ get_or-map (architecture_in (first_architecture recorded)) trees x None None lt in (
       λ t. ⊎_elim
           (λ (lt : x < length trees). meets_from recorded trees clause x (get_or trees x None) lt refl (subst (λ (a : Option (List ℕ)). IsTrue (meets_as clause (get_or trees x None) a)) (at lt) t))
           (λ (past : length trees ≤ x). absurd (false≢true (subst (λ (o : Option ControlFile). IsTrue (meets_as clause o (get_or architectures x None))) (get_or_past trees x None past) t)))
@@ -61,15 +60,6 @@ already_is Configure recorded list clause numbers slice met are el es e = (
 abbrev pub IsLeft : Stage → List Package → List (Option ControlFile) → List Alternative → Type 0
 IsLeft stage recorded trees clause = IsLeftTo recorded trees clause (IsMetAlready stage recorded clause)
 
-pub taken_met : (stage : Stage) (recorded : List Package) (trees : List (Option ControlFile)) (owner : ℕ) (clause : List Alternative) (list : List Clause) (met : Bool) → (IsTrue met ↔ IsMetAlready stage recorded clause) → met ≡ true → HasTaken stage recorded trees owner clause list list
-taken_met stage recorded trees owner clause list met is' t = inl (refl, λ left. left.1 (is'.0 t))
-
-pub taken_unmet : (stage : Stage) (recorded : List Package) (trees : List (Option ControlFile)) (architectures : List (Option (List ℕ))) (owner : ℕ) (clause : List Alternative) (list : List Clause) (numbers slice : List ℕ) → architectures ≡ map (architecture_in (first_architecture recorded)) trees → ((x : ℕ) → Contains numbers x ↔ IsTrue (meets_at trees architectures clause x)) → slice ≡ numbers → length slice ≡ 0 → HasTaken stage recorded trees owner clause list list
-taken_unmet stage recorded trees architectures owner clause list numbers slice e are es none = inl (refl, λ left.
-    let c = (are left.0.0).1 ((meets_at_is recorded trees architectures clause e left.0.0).1 left.0.1) in
-    let c' = subst (λ (l : List ℕ). Contains l left.0.0) (sym es) c in
-    omega (arith, c'.1, none))
-
 pub taken_left : (stage : Stage) (recorded : List Package) (trees : List (Option ControlFile)) (architectures : List (Option (List ℕ))) (owner : ℕ) (clause : List Alternative) (list new : List Clause) (numbers slice : List ℕ) (met : Bool) → architectures ≡ map (architecture_in (first_architecture recorded)) trees → (IsTrue met ↔ IsMetAlready stage recorded clause) → met ≡ false → ((x : ℕ) → Contains numbers x ↔ IsTrue (meets_at trees architectures clause x)) → slice ≡ numbers → 0 < length slice → new ≡ list ++ record { owner = owner; meeters = numbers } ∷ [] → HasTaken stage recorded trees owner clause list new
 taken_left stage recorded trees architectures owner clause list new numbers slice met e is' f are es some en =
     let all : (y : ℕ) → Contains numbers y ↔ Meets recorded trees clause y = λ y. (λ c. (meets_at_is recorded trees architectures clause e y).0 ((are y).0 c), λ m. (are y).1 ((meets_at_is recorded trees architectures clause e y).1 m)) in
@@ -83,13 +73,6 @@ some_in numbers empty e f = let other = eqb-false (length numbers) 0 (sym e ∙ 
 
 nothing_in : {X : Type 0} (x : X) → Contains {X = X} [] x → ⊥
 nothing_in {X} x c = omega (arith, c.1)
-
-pub stated_none : (stage : Stage) (recorded : List Package) (trees : List (Option ControlFile)) (owner : ℕ) (list : List Clause) → HasStated stage recorded trees owner [] list list
-stated_none stage recorded trees owner list = record {
-  kept = λ c h. h;
-  added = λ clause h left. absurd (nothing_in clause h);
-  no_more = λ c h. inl h;
-}
 
 stated_same : (stage : Stage) (recorded : List Package) (trees : List (Option ControlFile)) (owner : ℕ) (stated : List (List Alternative)) (i : ℕ) (one : List Alternative) (old mid : List Clause) → i < length stated → one ≡ get_or stated i one → (IsLeft stage recorded trees one → ⊥) → HasStated stage recorded trees owner (take i stated) old mid → HasStated stage recorded trees owner (take (i + 1) stated) old mid
 stated_same stage recorded trees owner stated i one old mid lt at not' h = record {
@@ -124,12 +107,6 @@ pub record AreNeedsBelow (n : ℕ) (stage : Stage) (recorded : List Package) (tr
   pub stated : (c : Clause) → Contains list c → (clause : List Alternative) × NeedsFor stage recorded trees c.owner clause × IsClauseOf recorded trees c.owner clause c
   pub all : (x : ℕ) (clause : List Alternative) → x < n → NeedsFor stage recorded trees x clause → (c : Clause) × Contains list c × IsClauseOf recorded trees x clause c
 
-pub needs_none : (stage : Stage) (recorded : List Package) (trees : List (Option ControlFile)) (list : List Clause) → list ≡ [] → AreNeedsBelow 0 stage recorded trees list
-needs_none stage recorded trees list e = subst (AreNeedsBelow 0 stage recorded trees) (sym e) (record {
-  stated = λ c k. absurd (nothing_in c k);
-  all = λ x clause lt s. absurd (omega (arith, lt));
-})
-
 stated_in : (stage : Stage) (o : Option ControlFile) (clause : List Alternative) → Contains (stated_by stage o) clause → (tree : ControlFile) × (o ≡ Some tree) × Contains (stated_for stage tree) clause
 stated_in stage None clause c = absurd (nothing_in clause c)
 stated_in stage (Some tree) clause c = (tree, refl, c)
@@ -150,12 +127,6 @@ needs_more n stage recorded trees o mid new lt at k h = record {
       let w = k.added clause (subst (λ (q : Option ControlFile). Contains (stated_by stage q) clause) (sym one) s.2) s.3 in
       (w.0, w.1, subst (λ (m : ℕ). IsClauseOf recorded trees m clause w.0) (sym same) w.2))
       (cases_lt x n);
-}
-
-pub needs_all : (n : ℕ) (stage : Stage) (recorded : List Package) (trees : List (Option ControlFile)) (list : List Clause) → n ≡ length trees → AreNeedsBelow n stage recorded trees list → AreNeeds stage recorded trees list
-needs_all n stage recorded trees list e h = record {
-  stated = h.stated;
-  all = λ x clause s. h.all x clause (omega (arith, s.1.0, e)) s;
 }
 
 -- a tree's clauses are met where its needs are

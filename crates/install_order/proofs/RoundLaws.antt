@@ -1,12 +1,11 @@
 -- What follows from being rounds.
-use Rattle.std.proofs.Common.{◌≡◌, ℕ, ◌+◌, ◌-◌, ◌<◌, ◌≤◌, Bool, true, false, ◌&&◌, not, List, [], ◌∷◌, ◌++◌, Option, length, length-append, get_or, subst, sym, refl, ap, ◌∙◌, inl, inr, ⊎_elim, ◌⊎◌, arith}
-use Rattle.std.specs.Prelude.{IsTrue, ◌↔◌, ◌≢◌, nat_eq, nat_lt}
+use Rattle.std.proofs.Common.{◌≡◌, ℕ, ◌+◌, ◌-◌, ◌<◌, ◌≤◌, Bool, true, false, not, List, [], ◌∷◌, ◌++◌, Option, length, length-append, get_or, subst, sym, refl, inl, inr, ⊎_elim, ◌⊎◌, arith}
+use Rattle.std.specs.Prelude.{IsTrue, ◌≢◌, nat_eq, nat_lt}
 use Rattle.std.specs.List.{All, AllPairs, Contains, concat}
-use Rattle.std.proofs.lemmas.Bool.{cases_Bool, cases_lt, cases_eq, both_ways, false≢true, and_parts, and_from, not-true, not_from_false, eqb-true, eq-eqb, lt-ltb, ltb-true}
-use Rattle.std.proofs.lemmas.List.{get_or_append_left, get_or-append_right, get_or_default}
+use Rattle.std.proofs.lemmas.Bool.{cases_Bool, cases_lt, both_ways, and_parts, and_from, not-true, not_from_false, eqb-true, eq-eqb, lt-ltb, ltb-true}
+use Rattle.std.proofs.lemmas.List.{get_or_append_left, get_or-append_right}
 use Rattle.std.proofs.lemmas.List.Elements.{All-nil, All-cons, Contains-get_or, Contains-append_left, Contains-append_right, Contains-append_cases}
 use Rattle.dependency_sets.proofs.RemovalLaws.{met_from_any, any_from_met}
-use Rattle.dependency_sets.specs.Choices.{IsListing}
 use Rattle.dependency_sets.specs.Sets.{but, or_in}
 use Rattle.install_order.specs.Rounds.{among, IsNext, AreRoundsFrom, AreRounds}
 use Rattle.install_order.specs.Taking.{IsRoundOf}
@@ -40,8 +39,12 @@ but_not left round x t =
 -- a round before others
 pub round_before : (recorded : List Package) (trees : List (Option ControlFile)) (earlier left : ℕ → Bool) (round : List ℕ) (rounds : List (List ℕ)) → IsRoundOf (IsNext recorded trees earlier left) left round → AreRoundsFrom recorded trees (or_in earlier (among round)) (but left (among round)) rounds → AreRoundsFrom recorded trees earlier left (round ∷ rounds)
 round_before recorded trees earlier left round rounds (some, inl listing) h = inl (some, listing, h)
-round_before recorded trees earlier left round rounds (some, inr last) h = inr (some, last.0, last.1,
-    no_round recorded trees (or_in earlier (among round)) (but left (among round)) rounds (λ x t. let w = but_not left round x t in w.1 ((last.1.1 x).1 w.0)) h)
+round_before recorded trees earlier left round rounds (some, inr last) h = inr (
+  some,
+  last.0,
+  last.1,
+  no_round recorded trees (or_in earlier (among round)) (but left (among round)) rounds (λ x t. let w = but_not left round x t in w.1 ((last.1.1 x).1 w.0)) h,
+)
 
 -- each of those left is in a round
 pub all_in : (recorded : List Package) (trees : List (Option ControlFile)) (rounds : List (List ℕ)) (earlier left : ℕ → Bool) → AreRoundsFrom recorded trees earlier left rounds → (x : ℕ) → IsTrue (left x) → Contains (concat rounds) x

@@ -1,9 +1,9 @@
 -- The round that is taken, and what it leaves.
 use Rattle.std.proofs.Common.{◌≡◌, ℕ, ◌+◌, ◌<◌, ◌≤◌, zero, suc, Bool, true, false, cond, ◌||◌, ◌&&◌, not, List, [], ◌∷◌, ◌++◌, Option, length, length-set, length-append, get_or, set, take, append_assoc, subst, sym, refl, ap, ◌∙◌, inl, inr, ⊎_elim, ◌⊎◌, arith}
 use Rattle.std.specs.Prelude.{IsTrue, ◌↔◌, replicate, nat_lt}
-use Rattle.std.specs.List.{All, Contains, count_by, list_any}
+use Rattle.std.specs.List.{Contains, count_by, list_any}
 use Rattle.std.proofs.lemmas.Bool.{cases_Bool, cases_lt, cases_eq, both_ways, false≢true, false_from_ne_true, and_parts, and_right, not_from_true, or_right, cond-true, cond-false, lt-ltb, le-ltb}
-use Rattle.std.proofs.lemmas.List.{get_or_past, get_or-set_same, get_or-set_other, set_past, get_or-replicate, length-replicate, get_or_append_left, take_more, append-nil}
+use Rattle.std.proofs.lemmas.List.{get_or_past, get_or-set_same, get_or-set_other, get_or-replicate, length-replicate, get_or_append_left, take_more, append-nil}
 use Rattle.std.proofs.lemmas.List.Elements.{All-more, All-contains}
 use Rattle.std.proofs.lemmas.List.Folds.{list_any_at}
 use Rattle.std.proofs.lemmas.List.Sums.{sum_by-cons}
@@ -17,7 +17,7 @@ use Rattle.install_order.specs.Rounds.{among, IsNext, AreRoundsFrom, AreRounds}
 use Rattle.install_order.specs.Taking.{IsNextBy, IsRoundOf, AreMarked, HasTakenRound}
 use Rattle.install_order.specs.declared.stage.Stage.TheVariants.{Unpack, Configure}
 use Rattle.install_order.proofs.NeedLaws.{needs_are}
-use Rattle.install_order.proofs.RoundLaws.{among_in, in_among, round_before, rounds_within}
+use Rattle.install_order.proofs.RoundLaws.{among_in, in_among, round_before}
 use Rattle.package_tree.specs.declared.control_file.ControlFile.{ControlFile}
 use Rattle.relation_index.specs.declared.package.Package.{Package}
 
@@ -30,9 +30,6 @@ and_all true = refl
 and_all false = refl
 
 -- marks
-
-pub marked_none : (value : Bool) (old : List Bool) → AreMarked value [] old old
-marked_none value old = record { len = refl; marked = λ x lt c. absurd (omega (arith, c.1)); others = λ x not'. refl }
 
 pub marked_more : (value : Bool) (numbers : List ℕ) (i n : ℕ) (old mid new : List Bool) → i < length numbers → n ≡ get_or numbers i 0 → new ≡ set mid n value → AreMarked value (take i numbers) old mid → AreMarked value (take (i + 1) numbers) old new
 marked_more value numbers i n old mid new lt at e h = subst (AreMarked value (take (i + 1) numbers) old) (sym e) (record {
@@ -56,14 +53,11 @@ has_not m n = ⊎_elim (λ within. get_or-set_same m n false false within) (λ p
 abbrev pub IsSupplying : List Clause → (ℕ → Bool) → (ℕ → Bool) → List Bool → Type 0
 IsSupplying clauses earlier left waiting = (x : ℕ) → IsTrue (has waiting x) ↔ (IsTrue (left x) × IsSupplied clauses earlier x)
 
-pub supplying_none : (earlier : ℕ → Bool) (left waiting : List Bool) → waiting ≡ left → IsSupplying [] earlier (has left) waiting
-supplying_none earlier left waiting e = subst (IsSupplying [] earlier (has left)) (sym e) (λ x. (λ t. (t, λ k d lt own. absurd (omega (arith, lt))), λ w. w.0))
-
 pub supplying_more : (clauses : List Clause) (earlier left : ℕ → Bool) (i : ℕ) (c : Clause) (waiting new : List Bool) → i < length clauses → c ≡ get_or clauses i c → new ≡ cond (list_any earlier c.meeters) waiting (set waiting c.owner false) → IsSupplying (take i clauses) earlier left waiting → IsSupplying (take (i + 1) clauses) earlier left new
 supplying_more clauses earlier left i c waiting new lt at e h =
     let fewer : (x : ℕ) → IsSupplied (take (i + 1) clauses) earlier x → IsSupplied (take i clauses) earlier x = λ x s k d below own.
-        let r : get_or (take (i + 1) clauses) k d ≡ get_or (take i clauses) k d = ap (λ (l : List Clause). get_or l k d) (take_more clauses i c lt) ∙ get_or_append_left (take i clauses) (get_or clauses i c ∷ []) d k below in
-        subst (λ (q : Clause). q.owner ≡ x → IsMet q earlier) r (s k d (omega (arith, ap length (take_more clauses i c lt), length-append (take i clauses) (get_or clauses i c ∷ []))) ) own in
+    let r : get_or (take (i + 1) clauses) k d ≡ get_or (take i clauses) k d = ap (λ (l : List Clause). get_or l k d) (take_more clauses i c lt) ∙ get_or_append_left (take i clauses) (get_or clauses i c ∷ []) d k below in
+    subst (λ (q : Clause). q.owner ≡ x → IsMet q earlier) r (s k d (omega (arith, ap length (take_more clauses i c lt), length-append (take i clauses) (get_or clauses i c ∷ [])))) own in
     let here : (x : ℕ) → IsSupplied (take (i + 1) clauses) earlier x → c.owner ≡ x → IsMet c earlier = λ x s. All-contains (λ (q : Clause). q.owner ≡ x → IsMet q earlier) (take (i + 1) clauses) c s (subst (Contains (take (i + 1) clauses)) (sym at) (last_in clauses i c lt)) in
     let both : (x : ℕ) → IsSupplied (take i clauses) earlier x → (c.owner ≡ x → IsMet c earlier) → IsSupplied (take (i + 1) clauses) earlier x = λ x s one. All-more (λ (q : Clause). q.owner ≡ x → IsMet q earlier) clauses i c lt s (subst (λ (q : Clause). q.owner ≡ x → IsMet q earlier) at one) in
     ⊎_elim
@@ -152,9 +146,9 @@ pub at_first : (recorded : List Package) (trees : List (Option ControlFile)) (n 
 at_first recorded trees n rounds earlier left en er ee el =
     let none : (x : ℕ) → has (replicate n false) x ≡ false = λ x. ⊎_elim (λ l. get_or-replicate n x false false l) (λ l. get_or_past (replicate n false) x false (subst (λ (m : ℕ). m ≤ x) (sym (length-replicate n false)) l)) (cases_lt x n) in
     let all : (x : ℕ) → has (replicate n true) x ≡ nat_lt x (length trees) = λ x. ⊎_elim
-        (λ (l : x < n). get_or-replicate n x true false l ∙ sym (lt-ltb x (length trees) (subst (λ (m : ℕ). x < m) en l)))
-        (λ (l : n ≤ x). get_or_past (replicate n true) x false (subst (λ (m : ℕ). m ≤ x) (sym (length-replicate n true)) l) ∙ sym (le-ltb x (length trees) (subst (λ (m : ℕ). m ≤ x) en l)))
-        (cases_lt x n) in
+    (λ (l : x < n). get_or-replicate n x true false l ∙ sym (lt-ltb x (length trees) (subst (λ (m : ℕ). x < m) en l)))
+    (λ (l : n ≤ x). get_or_past (replicate n true) x false (subst (λ (m : ℕ). m ≤ x) (sym (length-replicate n true)) l) ∙ sym (le-ltb x (length trees) (subst (λ (m : ℕ). m ≤ x) en l)))
+    (cases_lt x n) in
     let e1 : has earlier ≡ (λ (x : ℕ). false) = ap has ee ∙ (λ i x. none x i) in
     let e2 : has left ≡ (λ (x : ℕ). nat_lt x (length trees)) = ap has el ∙ (λ i x. all x i) in
     record {

@@ -1,5 +1,5 @@
 -- What trees need of each other, as clauses over their numbers.
-use Rattle.std.specs.Prelude.{◌≡◌, ◌⊎◌, ◌↔◌, ◌&&◌, ℕ, Bool, false, List, [], ◌∷◌, ◌++◌, Option, Some, None, IsTrue, ◌<◌, length, slice_index_or}
+use Rattle.std.specs.Prelude.{◌≡◌, ◌⊎◌, ◌↔◌, ◌&&◌, ℕ, Bool, false, List, [], ◌∷◌, ◌++◌, Option, Some, None, slice_index_or}
 use Rattle.std.specs.List.{Contains}
 use Rattle.dependency_check.specs.Queues.{IsMetBy}
 use Rattle.dependency_check.specs.Unpack.{IsMetBeforehand, meets_beforehand}

@@ -103,7 +103,9 @@ pub(crate) fn needs_of(
     let mut list = Vec::new(alloc);
     for owner in 0..trees.len() {
         let tree = &trees[owner];
-        push_needs_of(alloc, &mut list, stage, recorded, trees, bearers, owner, tree)?;
+        push_needs_of(
+            alloc, &mut list, stage, recorded, trees, bearers, owner, tree,
+        )?;
     }
     Ok(list)
 }

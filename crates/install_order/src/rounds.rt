@@ -12,7 +12,8 @@ use package_tree::ControlFile;
 use relation_index::Packages;
 use std::alloc::{AllocError, Global};
 
-/// The rounds of these trees, by their numbers as they are given, in a root of these packages. One that couldn't be read is none.
+/// The rounds of these trees, by their numbers as they are given, in a root of these packages. One
+/// that couldn't be read is none.
 pub fn rounds_of(
     alloc: Global,
     recorded: &Packages,

@@ -1,5 +1,5 @@
-use Rattle.std.proofs.Common.{◌∙◌, sym, arith}
-use Rattle.install_order.proofs.BearerLaws.{admits_past, admits_read}
+use Rattle.std.proofs.Common.{◌∙◌, arith}
+use Rattle.install_order.proofs.BearerLaws.{admits_read}
 use Rattle.install_order.proofs.bearers.admits_at.Goals as goal
 
 pub returns : goal.returns

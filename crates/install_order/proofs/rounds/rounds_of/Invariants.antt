@@ -1,4 +1,3 @@
-use Rattle.std.proofs.Common.{ℕ}
 use Rattle.std.specs.List.{count_by}
 use Rattle.install_order.proofs.TakingLaws.{IsAt}
 use Rattle.install_order.proofs.rounds.rounds_of.Given as goal

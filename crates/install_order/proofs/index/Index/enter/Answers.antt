@@ -1,4 +1,3 @@
-use Rattle.std.proofs.Common.{◌<◌, length}
 use Rattle.std.specs.BTreeMap.{get_by_text}
 use Rattle.relation_index.proofs.BearingLaws.{grows_then}
 use Rattle.install_order.proofs.BearerLaws.{row_grows, row_has}
