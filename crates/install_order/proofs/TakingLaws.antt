@@ -72,8 +72,8 @@ supplying_more clauses earlier left i c waiting new lt at e h =
 
 -- what can be configured beside those that can be unpacked
 
-pub next_is : (before then' : List Clause) (earlier left waiting : ℕ → Bool) → ((x : ℕ) → IsTrue (waiting x) ↔ (IsTrue (left x) × IsSupplied before earlier x)) → (x : ℕ) → IsConfigurable then' earlier waiting x ↔ IsNextBy before then' earlier left x
-next_is before then' earlier left waiting w x = (
+pub next_is : (before beside : List Clause) (earlier left waiting : ℕ → Bool) → ((x : ℕ) → IsTrue (waiting x) ↔ (IsTrue (left x) × IsSupplied before earlier x)) → (x : ℕ) → IsConfigurable beside earlier waiting x ↔ IsNextBy before beside earlier left x
+next_is before beside earlier left waiting w x = (
   λ u. (u.0, (λ y s. ((w y).0 (u.1.0 y s)).0, λ y s. (((w y).0 (u.1.0 y s)).1, u.1.1 y s)), u.2),
   λ u. (u.0, (λ y s. (w y).1 (u.1.0 y s, (u.1.1 y s).0), λ y s. (u.1.1 y s).1), u.2),
 )
@@ -109,10 +109,10 @@ round_of_left Next members slice left round e are none some listing = (
 
 -- rounds
 
-pub next_by_is : (recorded : List Package) (trees : List (Option ControlFile)) (before then' : List Clause) → AreNeeds Unpack recorded trees before → AreNeeds Configure recorded trees then' → (earlier left : ℕ → Bool) (x : ℕ) → IsNextBy before then' earlier left x ↔ IsNext recorded trees earlier left x
-next_by_is recorded trees before then' b t earlier left x = (
-  λ u. (u.0, (u.1.0, λ y s. ((needs_are Unpack recorded trees before b earlier y).0 (u.1.1 y s).0, (needs_are Configure recorded trees then' t (or_in earlier u.0) y).0 (u.1.1 y s).1)), u.2),
-  λ u. (u.0, (u.1.0, λ y s. ((needs_are Unpack recorded trees before b earlier y).1 (u.1.1 y s).0, (needs_are Configure recorded trees then' t (or_in earlier u.0) y).1 (u.1.1 y s).1)), u.2),
+pub next_by_is : (recorded : List Package) (trees : List (Option ControlFile)) (before beside : List Clause) → AreNeeds Unpack recorded trees before → AreNeeds Configure recorded trees beside → (earlier left : ℕ → Bool) (x : ℕ) → IsNextBy before beside earlier left x ↔ IsNext recorded trees earlier left x
+next_by_is recorded trees before beside b t earlier left x = (
+  λ u. (u.0, (u.1.0, λ y s. ((needs_are Unpack recorded trees before b earlier y).0 (u.1.1 y s).0, (needs_are Configure recorded trees beside t (or_in earlier u.0) y).0 (u.1.1 y s).1)), u.2),
+  λ u. (u.0, (u.1.0, λ y s. ((needs_are Unpack recorded trees before b earlier y).1 (u.1.1 y s).0, (needs_are Configure recorded trees beside t (or_in earlier u.0) y).1 (u.1.1 y s).1)), u.2),
 )
 
 round_same : (P Q : ℕ → Type 0) (left : ℕ → Bool) (round : List ℕ) → ((x : ℕ) → P x ↔ Q x) → IsRoundOf P left round → IsRoundOf Q left round
@@ -158,13 +158,13 @@ at_first recorded trees n rounds earlier left en er ee el =
       len = ap length ee ∙ length-replicate n false ∙ sym (ap length el ∙ length-replicate n true);
     }
 
-pub at_more : (recorded : List Package) (trees : List (Option ControlFile)) (before then' : List Clause) (rounds rounds' : List (List ℕ)) (earlier left earlier' left' : List Bool) → AreNeeds Unpack recorded trees before → AreNeeds Configure recorded trees then' → HasTakenRound (IsNextBy before then' (has earlier) (has left)) rounds earlier left rounds' earlier' left' → IsAt recorded trees rounds earlier left → IsAt recorded trees rounds' earlier' left'
-at_more recorded trees before then' rounds rounds' earlier left earlier' left' b t taken at =
-    let members = of_left (IsNextBy before then' (has earlier) (has left)) left taken.round (λ x u. u.1.0 x u.2) taken.is_next in
+pub at_more : (recorded : List Package) (trees : List (Option ControlFile)) (before beside : List Clause) (rounds rounds' : List (List ℕ)) (earlier left earlier' left' : List Bool) → AreNeeds Unpack recorded trees before → AreNeeds Configure recorded trees beside → HasTakenRound (IsNextBy before beside (has earlier) (has left)) rounds earlier left rounds' earlier' left' → IsAt recorded trees rounds earlier left → IsAt recorded trees rounds' earlier' left'
+at_more recorded trees before beside rounds rounds' earlier left earlier' left' b t taken at =
+    let members = of_left (IsNextBy before beside (has earlier) (has left)) left taken.round (λ x u. u.1.0 x u.2) taken.is_next in
     let in_left : (x : ℕ) → Contains taken.round x → x < length left = λ x c. in_range left x (members x c) in
     let e1 : has earlier' ≡ or_in (has earlier) (among taken.round) = λ i x. earlier_then earlier earlier' taken.round (λ y c. subst (λ (n : ℕ). y < n) (sym at.len) (in_left y c)) taken.in_earlier x i in
     let e2 : has left' ≡ but (has left) (among taken.round) = λ i x. left_then left left' taken.round in_left taken.not_left x i in
-    let is' = round_same (IsNextBy before then' (has earlier) (has left)) (IsNext recorded trees (has earlier) (has left)) (has left) taken.round (next_by_is recorded trees before then' b t (has earlier) (has left)) taken.is_next in
+    let is' = round_same (IsNextBy before beside (has earlier) (has left)) (IsNext recorded trees (has earlier) (has left)) (has left) taken.round (next_by_is recorded trees before beside b t (has earlier) (has left)) taken.is_next in
     record {
       so_far = λ rest h.
           let h' = subst (λ (f : ℕ → Bool). AreRoundsFrom recorded trees f (but (has left) (among taken.round)) rest) e1 (subst (λ (f : ℕ → Bool). AreRoundsFrom recorded trees (has earlier') f rest) e2 h) in
@@ -202,9 +202,9 @@ fewer (false ∷ m) (true ∷ n) e h y t f = absurd (false≢true (h 0 refl))
 fewer (false ∷ m) (false ∷ n) e h zero t f = absurd (false≢true t)
 fewer (false ∷ m) (false ∷ n) e h (suc y) t f = let r = fewer m n (omega (arith, e)) (λ x s. h (suc x) s) y t f in omega (arith, r, counted m, counted n)
 
-pub fewer_left : (before then' : List Clause) (rounds rounds' : List (List ℕ)) (earlier left earlier' left' : List Bool) → HasTakenRound (IsNextBy before then' (has earlier) (has left)) rounds earlier left rounds' earlier' left' → count_by (λ b. b) left' < count_by (λ b. b) left
-fewer_left before then' rounds rounds' earlier left earlier' left' taken =
-    let members = of_left (IsNextBy before then' (has earlier) (has left)) left taken.round (λ x u. u.1.0 x u.2) taken.is_next in
+pub fewer_left : (before beside : List Clause) (rounds rounds' : List (List ℕ)) (earlier left earlier' left' : List Bool) → HasTakenRound (IsNextBy before beside (has earlier) (has left)) rounds earlier left rounds' earlier' left' → count_by (λ b. b) left' < count_by (λ b. b) left
+fewer_left before beside rounds rounds' earlier left earlier' left' taken =
+    let members = of_left (IsNextBy before beside (has earlier) (has left)) left taken.round (λ x u. u.1.0 x u.2) taken.is_next in
     let then_is = left_then left left' taken.round (λ x c. in_range left x (members x c)) taken.not_left in
     let one = taken.is_next.0 in
     let c = among_in taken.round one.0 one.1 in

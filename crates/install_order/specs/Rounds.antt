@@ -1,6 +1,6 @@
 -- The rounds in which trees are installed (Policy 7.2): those of a round are unpacked, one after another, and then configured.
-use Rattle.std.specs.Prelude.{◌≡◌, ◌⊎◌, ℕ, Bool, true, false, List, [], ◌∷◌, Option, IsTrue, length, nat_eq, nat_lt}
-use Rattle.std.specs.List.{list_any, Contains}
+use Rattle.std.specs.Prelude.{◌≡◌, ◌⊎◌, ℕ, Bool, false, List, [], ◌∷◌, Option, IsTrue, length, nat_eq, nat_lt}
+use Rattle.std.specs.List.{list_any}
 use Rattle.dependency_sets.specs.Choices.{IsListing}
 use Rattle.dependency_sets.specs.Largest.{IsInUnion}
 use Rattle.dependency_sets.specs.Sets.{but, or_in}

@@ -9,7 +9,7 @@ use Rattle.install_order.specs.Rounds.{among}
 
 -- in a set of those left, the clauses of which are met by earlier ones, or for the configuration by the set
 abbrev pub IsNextBy : List Clause → List Clause → (ℕ → Bool) → (ℕ → Bool) → ℕ → Type 0
-IsNextBy before then' earlier left x = IsInUnion (λ S y. IsSupplied before earlier y × IsSupplied then' (or_in earlier S) y) left x
+IsNextBy before beside earlier left x = IsInUnion (λ S y. IsSupplied before earlier y × IsSupplied beside (or_in earlier S) y) left x
 
 -- all of these, or where there are none all that are left
 abbrev pub IsRoundOf : (ℕ → Type 0) → (ℕ → Bool) → List ℕ → Type 0

@@ -6,7 +6,8 @@
 //! `rounds_of` gives the rounds (`AreRounds`): round after round the largest set of trees each of
 //! which has what its unpack needs by what is recorded or by trees of earlier rounds, and what it
 //! needs to be configured by these and its own round; where no tree can be, those left are the last
-//! round. Each tree is in one round, once (`each_tree_is_taken_once`).
+//! round. Needs that no tree meets don't count. Each tree is in one round, once
+//! (`each_tree_is_taken_once`).
 #![tactic(auto)]
 
 mod bearers;

@@ -7,7 +7,7 @@ use relation_fields::Clause;
 
 /// The step before which a need has to be met.
 #[derive(Clone, Copy)]
-pub enum Stage {
+pub(crate) enum Stage {
     Unpack,
     Configure,
 }
