@@ -1,5 +1,5 @@
 -- The index of the names that trees bear, and what it finds.
-use Rattle.std.proofs.Common.{◌≡◌, ℕ, ◌<◌, ◌≤◌, ◌+◌, Bool, true, false, cond, ◌||◌, ◌&&◌, List, Option, Some, None, [], ◌∷◌, ◌++◌, length, get_or, set, take, subst, sym, refl, ap, ◌∙◌, inr, ⊎_elim, ◌⊎◌, arith}
+use Rattle.std.proofs.Common.{◌≡◌, ℕ, ◌<◌, ◌≤◌, ◌+◌, Bool, true, false, cond, ◌||◌, ◌&&◌, List, Option, Some, None, [], ◌∷◌, ◌++◌, length, get_or, set, take, subst, sym, refl, ap, ◌∙◌, inr, ⊎_elim, arith}
 use Rattle.std.specs.Prelude.{IsTrue, ◌↔◌}
 use Rattle.std.specs.List.{Contains, list_any}
 use Rattle.std.specs.Str.{bytes_eq}

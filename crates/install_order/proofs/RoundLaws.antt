@@ -1,5 +1,5 @@
 -- What follows from being rounds.
-use Rattle.std.proofs.Common.{◌≡◌, ℕ, ◌+◌, ◌-◌, ◌<◌, ◌≤◌, Bool, true, false, not, List, [], ◌∷◌, ◌++◌, Option, length, length-append, get_or, subst, sym, refl, inl, inr, ⊎_elim, ◌⊎◌, arith}
+use Rattle.std.proofs.Common.{◌≡◌, ℕ, ◌-◌, ◌<◌, ◌≤◌, Bool, true, false, not, List, [], ◌∷◌, ◌++◌, Option, length, length-append, get_or, subst, sym, refl, inl, inr, ⊎_elim, arith}
 use Rattle.std.specs.Prelude.{IsTrue, ◌≢◌, nat_eq, nat_lt}
 use Rattle.std.specs.List.{All, AllPairs, Contains, concat}
 use Rattle.std.proofs.lemmas.Bool.{cases_Bool, cases_lt, both_ways, and_parts, and_from, not-true, not_from_false, eqb-true, eq-eqb, lt-ltb, ltb-true}
