@@ -1,0 +1,4 @@
+pub mod BearerLaws
+pub mod NeedLaws
+pub mod RoundLaws
+pub mod TakingLaws

@@ -1,0 +1,5 @@
+pub mod Bearers
+pub mod Clauses
+pub mod Needs
+pub mod Rounds
+pub mod Taking
