@@ -77,7 +77,7 @@ pub record HaveGoneOn {Hosts Opened : Type 0} (of : Ghosts Hosts Opened) (old ne
   pub faults : of.faults old ≤ of.faults new
   pub below : of.below new ≡ of.below old
 
--- these trees were read for the first of some words, each word once, and the others are left
-pub record AreReadFor (a : Around) (owners : TreeOwners) (words : List (List ℕ)) (cs : List Candidate) (left : List (List ℕ)) : Type 0 where
+-- behind earlier words these trees were read for the first of some words, each word once, and the others are left
+pub record AreReadFor (a : Around) (owners : TreeOwners) (earlier words : List (List ℕ)) (cs : List Candidate) (left : List (List ℕ)) : Type 0 where
   pub labels : words ≡ map (λ (c : Candidate). c.label) cs ++ left
-  pub read : AreReadOnce a owners [] cs
+  pub read : AreReadOnce a owners earlier cs

@@ -62,6 +62,8 @@ mod dry_hosts;
 mod ending;
 mod fault;
 mod hosts;
+mod installing;
+mod ordering;
 mod packages;
 mod printing;
 mod questions;
