@@ -1,11 +1,11 @@
 // Trees are installed, round after round.
-ghost use Rattle.std.specs.Prelude.{◌≡◌, ◌++◌, ◌+◌, ◌≤◌, [], List, IfOk, OnErr, OnOk, false, is_some, length, map, vec_capacity, vec_len};
+ghost use Rattle.std.specs.Prelude.{◌≡◌, ◌++◌, ◌∷◌, ◌+◌, ◌<◌, ◌≤◌, [], List, IfOk, None, OnErr, OnOk, false, true, is_some, length, map, vec_capacity, vec_len};
 ghost use Rattle.std.specs.List.{flat_map};
 ghost use Rattle.std.specs.Vec.Iter.{into_iter_items};
 ghost use Rattle.dpkg_session.specs.declared.installing.Installed.{Installed as AnInstalled};
 ghost use Rattle.unit_reports.specs.Held.{held_by};
 ghost use Rattle.command_line.specs.Printing.{AreRoundsTold, AreTold, last_of_round, last_of_rounds, units_of_round};
-ghost use Rattle.command_line.specs.Reading.{HaveGoneOn, words_before};
+ghost use Rattle.command_line.specs.Reading.{HaveGoneOn, IsRoundBefore, words_before};
 ghost use Rattle.command_line.specs.Roots.{around};
 ghost use Rattle.command_line.specs.Unpacks.{HasInstalledRound, HasInstalledRounds, HasInstalledTrees};
 
@@ -85,6 +85,71 @@ fn install_round<S: Hosts, W: Watcher>(
     install_session(session, &mut trees, policy, watcher)
 }
 
+// The next of the rounds that are left, whose words are the last of all. Answers whether no other is to be begun.
+fn run_next<S: Hosts, W: Watcher>(
+    alloc: Global,
+    hosts: &mut S,
+    session: &mut Session<S::Opened>,
+    asked: &Unpacking,
+    policy: ConfPolicy,
+    all: &[Text],
+    left: &mut usize,
+    rounds: &mut IntoIter<Vec<Text>>,
+    reports: &mut Vec<Installed>,
+    watcher: &mut W,
+) -> bool
+    requires open { session.old.closed ≡ false }
+    requires behind { all.now ≡ words_before all.now left.old
+        ++ flat_map (λ v. v.items) (into_iter_items rounds.old) }
+    requires left { left.old ≡ length (flat_map (λ v. v.items) (into_iter_items rounds.old)) }
+    requires room { vec_len reports.old + length (into_iter_items rounds.old)
+        ≤ vec_capacity reports.old }
+    ensures over { result ≡ true → (more : List AnInstalled)
+        × (reports.new.items ≡ reports.old.items ++ more)
+        × HasInstalledRounds (around S.Hosts hosts.old hosts.new) asked.now policy
+        (words_before all.now left.old) (map (λ v. v.items) (into_iter_items rounds.old)) more
+        (held_by session.old.administration session.old.diversions)
+        (held_by session.new.administration session.new.diversions)
+        (S.Opened.state session.old.host) (S.Opened.state session.new.host)
+        × (session.new.closed ≡ is_some (last_of_rounds more))
+        × AreRoundsTold W.tells watcher.old more watcher.new }
+    ensures next { result ≡ false → (came : AnInstalled)
+        × (reports.new.items ≡ reports.old.items ++ came ∷ [])
+        × IsRoundBefore (λ v. v.items) (into_iter_items rounds.old) (into_iter_items rounds.new)
+        (words_before all.now left.old) (words_before all.now left.new) (λ words.
+        HasInstalledRound (around S.Hosts hosts.old hosts.new) asked.now policy
+        (words_before all.now left.old) words came
+        (held_by session.old.administration session.old.diversions)
+        (held_by session.new.administration session.new.diversions)
+        (S.Opened.state session.old.host) (S.Opened.state session.new.host))
+        × (last_of_round came ≡ None)
+        × AreTold W.tells watcher.old (units_of_round came) watcher.new }
+    ensures open { result ≡ false → session.new.closed ≡ false }
+    ensures behind { result ≡ false → all.now ≡ words_before all.now left.new
+        ++ flat_map (λ v. v.items) (into_iter_items rounds.new) }
+    ensures left { result ≡ false
+        → left.new ≡ length (flat_map (λ v. v.items) (into_iter_items rounds.new)) }
+    ensures room { result ≡ false → vec_len reports.new + length (into_iter_items rounds.new)
+        ≤ vec_capacity reports.new }
+    ensures fewer { result ≡ false
+        → length (into_iter_items rounds.new) < length (into_iter_items rounds.old) }
+    ensures on { HaveGoneOn S.Hosts hosts.old hosts.new }
+{
+    let Some(round) = rounds.next() else {
+        return true;
+    };
+    let later = left.saturating_sub(round.len());
+    *left = later;
+    let words = words_before(all, later);
+    let came = install_round(alloc, hosts, session, asked, policy, words, round, watcher);
+    let broken = is_broken(&came);
+    reports.push_reserved(came);
+    if broken {
+        return true;
+    }
+    false
+}
+
 // The rounds that are left, whose words are the last of all. There is room for the report of each.
 fn run_rounds<S: Hosts, W: Watcher>(
     alloc: Global,
@@ -93,20 +158,20 @@ fn run_rounds<S: Hosts, W: Watcher>(
     asked: &Unpacking,
     policy: ConfPolicy,
     all: &[Text],
-    left: usize,
+    left: &mut usize,
     rounds: &mut IntoIter<Vec<Text>>,
     reports: &mut Vec<Installed>,
     watcher: &mut W,
 )
     requires open { session.old.closed ≡ false }
-    requires behind { all.now ≡ words_before all.now left
+    requires behind { all.now ≡ words_before all.now left.old
         ++ flat_map (λ v. v.items) (into_iter_items rounds.old) }
-    requires left { left ≡ length (flat_map (λ v. v.items) (into_iter_items rounds.old)) }
+    requires left { left.old ≡ length (flat_map (λ v. v.items) (into_iter_items rounds.old)) }
     requires room { vec_len reports.old + length (into_iter_items rounds.old)
         ≤ vec_capacity reports.old }
     ensures done { (more : List AnInstalled) × (reports.new.items ≡ reports.old.items ++ more)
         × HasInstalledRounds (around S.Hosts hosts.old hosts.new) asked.now policy
-        (words_before all.now left) (map (λ v. v.items) (into_iter_items rounds.old)) more
+        (words_before all.now left.old) (map (λ v. v.items) (into_iter_items rounds.old)) more
         (held_by session.old.administration session.old.diversions)
         (held_by session.new.administration session.new.diversions)
         (S.Opened.state session.old.host) (S.Opened.state session.new.host)
@@ -114,19 +179,14 @@ fn run_rounds<S: Hosts, W: Watcher>(
         × AreRoundsTold W.tells watcher.old more watcher.new }
     ensures on { HaveGoneOn S.Hosts hosts.old hosts.new }
 {
-    let Some(round) = rounds.next() else {
-        return;
-    };
-    let later = left.saturating_sub(round.len());
-    let words = words_before(all, later);
-    let came = install_round(alloc, hosts, session, asked, policy, words, round, watcher);
-    let broken = is_broken(&came);
-    reports.push_reserved(came);
-    if broken {
+    let over = run_next(
+        alloc, hosts, session, asked, policy, all, left, rounds, reports, watcher,
+    );
+    if over {
         return;
     }
     run_rounds(
-        alloc, hosts, session, asked, policy, all, later, rounds, reports, watcher,
+        alloc, hosts, session, asked, policy, all, left, rounds, reports, watcher,
     )
 }
 
@@ -176,7 +236,7 @@ fn install_rounds<S: Hosts, W: Watcher>(
     ensures unwatched { OnErr result (watcher.new ≡ watcher.old) }
 {
     let all = words_of(alloc, rounds.as_slice())?;
-    let left = all.len();
+    let mut left = all.len();
     let mut reports = Vec::new(alloc);
     reports.reserve(rounds.len())?;
     let mut rounds = rounds.into_iter();
@@ -187,7 +247,7 @@ fn install_rounds<S: Hosts, W: Watcher>(
         asked,
         policy,
         all.as_slice(),
-        left,
+        &mut left,
         &mut rounds,
         &mut reports,
         watcher,
