@@ -149,16 +149,16 @@ installed_lines auto cs policy us (Some u) configured before s t is =
     ap (λ (l : List ℕ). lines ++ l) none ∙ append-nil lines ∙ ap (λ (l : List AUnit). flat_map unit_lines l ++ flat_map unit_lines (u ∷ [])) same
 
 -- a round's lines, and those of the rounds behind it
-behind_round : (last : Option AUnit) (lines : List ℕ) (us : List AUnit) (more : List Installed) (Rest P : Type 0) → lines ≡ flat_map unit_lines us ++ flat_map unit_lines (option_to_list last)
+behind_round : (last : Option AUnit) (lines : List ℕ) (us : List AUnit) (more : List Installed) (Rest P Q : Type 0) → lines ≡ flat_map unit_lines us ++ flat_map unit_lines (option_to_list last)
     → (Rest → flat_map round_lines more ≡ flat_map unit_lines (flat_map units_of_round more) ++ flat_map unit_lines (option_to_list (last_of_rounds more)))
-    → MatchOption last Rest (λ broken. (more ≡ []) × P)
+    → MatchOption last Rest (λ broken. (more ≡ []) × P × Q)
     → lines ++ flat_map round_lines more ≡ flat_map unit_lines (us ++ flat_map units_of_round more) ++ flat_map unit_lines (option_to_list (last_of last (last_of_rounds more)))
-behind_round None lines us more Rest P is so rest =
+behind_round None lines us more Rest P Q is so rest =
     let units = flat_map units_of_round more in
     let end = flat_map unit_lines (option_to_list (last_of_rounds more)) in
     ap (λ (l : List ℕ). l ++ flat_map round_lines more) (is ∙ append-nil (flat_map unit_lines us)) ∙ ap (λ (l : List ℕ). flat_map unit_lines us ++ l) (so rest)
     ∙ sym (append_assoc (flat_map unit_lines us) (flat_map unit_lines units) end) ∙ ap (λ (l : List ℕ). l ++ end) (sym (flat_map-append unit_lines us units))
-behind_round (Some u) lines us more Rest P is so rest =
+behind_round (Some u) lines us more Rest P Q is so rest =
     subst (λ (m : List Installed). lines ++ flat_map round_lines m ≡ flat_map unit_lines (us ++ flat_map units_of_round m) ++ flat_map unit_lines (u ∷ [])) (sym rest.0)
     (append-nil lines ∙ is ∙ ap (λ (l : List AUnit). flat_map unit_lines l ++ flat_map unit_lines (u ∷ [])) (sym (append-nil us)))
 
@@ -170,7 +170,7 @@ rounds_lines a u policy earlier (words ∷ rounds) [] before after s end h = abs
 rounds_lines a u policy earlier (words ∷ rounds) (c ∷ cs) before after s end h =
     let round = h.2 in
     let all = round.all in
-    behind_round (last_of_round c) (round_lines c) (units_of_round c) cs _ ((end ≡ h.1) × (after ≡ h.0))
+    behind_round (last_of_round c) (round_lines c) (units_of_round c) cs _ (end ≡ h.1) (after ≡ h.0)
     (installed_lines u.auto_deconfigure round.candidates policy c.unpacked.units.items c.unpacked.last c.configured _ _ _ all.install.part)
     (rounds_lines a u policy (earlier ++ words) rounds cs h.0 after h.1 end) h.3
 

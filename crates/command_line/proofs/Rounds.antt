@@ -1,5 +1,5 @@
 -- Rounds of an install, one after another.
-use Rattle.std.proofs.Common.{◌≡◌, ◌-◌, ◌++◌, ◌∷◌, ◌∙◌, [], ℕ, Bool, true, false, length, map, append_assoc, List, Option, Some, None, Result, ap, arith, refl, subst, sym}
+use Rattle.std.proofs.Common.{◌≡◌, ◌-◌, ◌++◌, ◌∷◌, ◌∙◌, [], ℕ, Bool, true, false, length, map, append_assoc, List, Option, Some, None, Result, ap, arith, refl, subst, suc, sym}
 use Rattle.std.specs.Prelude.{MatchOption, OnOk, is_some}
 use Rattle.std.specs.List.{flat_map}
 use Rattle.std.proofs.lemmas.Result.{on_ok_weaker}
@@ -40,6 +40,11 @@ module _ (all : List (List ℕ)) (left later : ℕ) (round rest : List (List ℕ
   pub rest_behind : all ≡ words_before all later ++ rest
   rest_behind = split ∙ ap (λ (l : List (List ℕ)). l ++ rest) (sym to_round)
 
+-- at a pattern that isn't Some
+pub none_cases : {X : Type 0} (o : Option X) (A : Type 0) (Q : X → Type 0) → ((x : X) → o ≡ Some x → ⊥) → MatchOption o A Q → A
+none_cases None A Q not h = h
+none_cases (Some x) A Q not h = absurd (not x refl)
+
 pub none_of : {A : Type 0} (o : Option A) → is_some o ≡ false → o ≡ None
 none_of None e = refl
 none_of (Some x) e = cc
@@ -69,7 +74,7 @@ rounds_broken a u policy earlier words rounds came before mid s m round broken =
   mid,
   m,
   round,
-  at_some (last_of_round came) _ (([] ≡ []) × (m ≡ m) × (mid ≡ mid)) broken (refl, (refl, refl)),
+  at_some (last_of_round came) _ (◌≡◌ {A = List Installed} [] [] × (m ≡ m) × (mid ≡ mid)) broken (refl, refl, refl),
 )
 
 pub last_alone : (o : Option AUnit) → is_some (last_of o None) ≡ is_some o
@@ -136,3 +141,10 @@ looks_more r outer first rest in_first in_rest old pushed new word words all fou
       m.1 ∙ ap (λ (l : List (Option ControlFile)). l ++ m.0) grown ∙ append_assoc old (found ∷ []) m.0,
       subst (λ (ws : List (List ℕ)). AreLookedAt outer ws (found ∷ m.0)) (sym is) (looked_within outer first in_first word found looked, looks_within outer rest in_rest words m.0 m.2),
     )) h
+
+-- what is found is as long as the words
+pub looks_length : (a : Around) (words : List (List ℕ)) (found : List (Option ControlFile)) → AreLookedAt a words found → length found ≡ length words
+looks_length a [] [] h = refl
+looks_length a [] (l ∷ ls) h = absurd h
+looks_length a (word ∷ words) [] h = absurd h
+looks_length a (word ∷ words) (l ∷ ls) h = ap suc (looks_length a words ls h.1)

@@ -3,12 +3,13 @@ use Rattle.std.specs.Vec.Iter.{into_iter_items}
 use Rattle.std.specs.Prelude.{is_some}
 use Rattle.std.proofs.lemmas.List.{nil_from_length}
 use Rattle.command_line.specs.Reading.{words_before}
-use Rattle.command_line.proofs.Rounds.{behind_then, earlier_before, earlier_then, last_alone, left_then, none_of, one_broken, round_from, rounds_none}
+use Rattle.command_line.proofs.Rounds.{behind_then, earlier_before, earlier_then, last_alone, left_then, none_cases, none_of, one_broken, round_from, rounds_none}
 use Rattle.command_line.proofs.installing.run_next.Goals as goal
 
 pub returns-in_default-clause-over : goal.returns-in_default-clause-over
 returns-in_default-clause-over g c = λ over.
-    let short : length (into_iter_items c.args.rounds.now) ≡ 0 = omega arith in
+    let empty = none_cases c.next.result _ _ c.in_default.not-Some c.next.ensures.cases in
+    let short : length (into_iter_items c.args.rounds.now) ≡ 0 = omega (arith, empty.0) in
     let none : into_iter_items c.args.rounds.now ≡ [] = nil_from_length (into_iter_items c.args.rounds.now) short in
     ([], sym (append-nil c.args.reports.now.items), rounds_none _ _ _ _ _ _ _ _ none, c.requires.open, refl)
 

@@ -1,0 +1,9 @@
+use Rattle.std.proofs.Common.{◌∙◌, List, Option, ap, length}
+use Rattle.package_tree.specs.declared.control_file.ControlFile.{ControlFile}
+use Rattle.command_line.proofs.Rounds.{looks_length}
+use Rattle.command_line.proofs.ordering.rounds_for.Goals as goal
+
+pub ordered-requires-clause-long : goal.ordered-requires-clause-long
+ordered-requires-clause-long g c =
+    let looks = c.in-Ok.ensures.looked in
+    ap (λ (l : List (Option ControlFile)). length l) looks.1 ∙ looks_length _ _ looks.0 looks.2
