@@ -1,4 +1,4 @@
-use Rattle.std.proofs.Common.{◌∙◌, List, Option, ap, length}
+use Rattle.std.proofs.Common.{◌≡◌, ◌++◌, ◌∙◌, [], List, Option, ap, length, rules}
 use Rattle.package_tree.specs.declared.control_file.ControlFile.{ControlFile}
 use Rattle.command_line.proofs.Rounds.{looks_length}
 use Rattle.command_line.proofs.ordering.rounds_for.Goals as goal
@@ -6,4 +6,5 @@ use Rattle.command_line.proofs.ordering.rounds_for.Goals as goal
 pub ordered-requires-clause-long : goal.ordered-requires-clause-long
 ordered-requires-clause-long g c =
     let looks = c.in-Ok.ensures.looked in
-    ap (λ (l : List (Option ControlFile)). length l) looks.1 ∙ looks_length _ _ looks.0 looks.2
+    let empty : c.new-looked.result.items ≡ [] = search rules in
+    ap (λ (l : List (Option ControlFile)). length l) looks.1 ∙ ap (λ (l : List (Option ControlFile)). length (l ++ looks.0)) empty ∙ looks_length _ _ looks.0 looks.2
