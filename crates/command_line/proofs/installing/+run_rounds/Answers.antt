@@ -20,7 +20,7 @@ returns-clause-done g t c =
       came ∷ more,
       others.1 ∙ ap (λ (l : List Installed). l ++ more) next.1 ∙ append_assoc c.args.reports.now.items (came ∷ []) more,
       one_then _ _ round.0 _ round.1 (around g.S.Hosts old new) (around g.S.Hosts old mid) (around g.S.Hosts mid new) (within_first g.S.Hosts old mid new c.run_rounds.ensures.on) (within_rest g.S.Hosts old mid new c.run_next-over.ensures.on)
-      _ _ _ _ came more _ _ _ _ _ _ round.2 round.3 next.3 others.2,
+          _ _ _ _ came more _ _ _ _ _ _ round.2 round.3 next.3 others.2,
       others.3 ∙ ap is_some (sym (last_behind (last_of_round came) (last_of_rounds more) next.3)),
       (c.run_next-over.new.watcher, next.4, others.4),
     )
