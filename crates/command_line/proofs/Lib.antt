@@ -1,4 +1,5 @@
 mod Trees
+mod Rounds
 mod Steps
 mod Printed
 mod Held

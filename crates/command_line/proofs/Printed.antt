@@ -1,6 +1,6 @@
 -- The lines of units that were written as these were finished.
 use Rattle.std.proofs.Common.{◌≡◌, ◌≢◌, ◌⊎◌, ◌∙◌, ◌++◌, ◌∷◌, [], ℕ, Bool, List, Option, Some, None, Result, Ok, Err, ap, append_assoc, append-nil, inl, inr, refl, subst, sym}
-use Rattle.std.specs.Prelude.{option_to_list, IfOk}
+use Rattle.std.specs.Prelude.{option_to_list, IfOk, MatchOption}
 use Rattle.std.specs.Option.{option_map_or}
 use Rattle.std.specs.Io.KnownBytes.{Appends, Keeps}
 use Rattle.std.specs.List.{flat_map}
@@ -16,6 +16,7 @@ use Rattle.command_words.specs.Comparisons.{bad_version}
 use Rattle.command_words.specs.declared.comparison.Comparison.{Comparison}
 use Rattle.command_words.specs.declared.unpacking.Unpacking.{Unpacking}
 use Rattle.dpkg_session.specs.Installs.{HasInstalled, last_of}
+use Rattle.dpkg_session.specs.declared.installing.Installed.{Installed}
 use Rattle.dpkg_session.specs.declared.report.Candidate.{Candidate}
 use Rattle.unit_reports.specs.Held.{Held}
 use Rattle.undo_rows.specs.declared.rows.Called.{Called}
@@ -23,13 +24,14 @@ use Rattle.unit_reports.specs.Watching.{IsToldBehind}
 use Rattle.unit_reports.specs.declared.report.Report.{Report}
 use Rattle.unit_reports.specs.declared.report.Unit.{Unit as AUnit}
 use Rattle.command_line.specs.Endings.{with_notes}
-use Rattle.command_line.specs.Printing.{AppendsFront, AppendsPart, AreTold, HasPrinted, IsLeft, Prints, last_in, output_left, units_answer, units_of}
-use Rattle.command_line.specs.Reports.{IsGiven, IsGivenInPart, bad_answer, comparison_answer, done_answer, memory_answer, wanting_answer}
+use Rattle.command_line.specs.Printing.{AppendsFront, AppendsPart, AreRoundsTold, AreTold, HasPrinted, IsDoneTold, IsLeft, Prints, last_in, last_of_round, last_of_rounds, output_left, units_answer, units_of, units_of_round}
+use Rattle.command_line.specs.Reports.{IsGiven, IsGivenInPart, bad_answer, comparison_answer, done_answer, memory_answer, round_lines, rounds_status, wanting_answer}
 use Rattle.command_line.specs.Roots.{Around}
-use Rattle.command_line.specs.Unpacks.{HasRunTrees}
+use Rattle.command_line.specs.Unpacks.{HasInstalledRounds, HasRunTrees}
 use Rattle.command_line.specs.declared.answer.Answer.{Answer}
 use Rattle.command_line.specs.declared.answer.Left.{Left}
 use Rattle.command_line.specs.declared.printing.Flow.{Flow}
+use Rattle.command_line.specs.declared.ending.Ended.{Ended}
 use Rattle.command_line.specs.declared.unpacking.Done.{Done}
 use Rattle.command_line.specs.declared.unpacking.Done.TheVariants as done
 use Rattle.command_line.specs.declared.printing.Flow.TheVariants as flow
@@ -77,6 +79,29 @@ module _ {W : Type 0} (tells : W → AUnit → State → W → Type 0) (flow_of 
   printed_result (Ok done) units old new whole told = printed_all (units done) old new whole told
   printed_result (Err e) units old new whole told = tt
 
+  printed_rounds : (came : List Installed) (lines : List ℕ) (first : Option (List ℕ)) (old new : W) → HasPrinted lines (flow_of old) first (held old) → AreRoundsTold tells old came new
+      → HasPrinted (lines ++ flat_map unit_lines (flat_map units_of_round came)) (flow_of new) first (held new)
+  printed_rounds [] lines first old new so_far same =
+      subst (λ (l : List ℕ). HasPrinted l (flow_of new) first (held new)) (sym (append-nil lines)) (subst (λ w. HasPrinted lines (flow_of w) first (held w)) (sym same) so_far)
+  printed_rounds (c ∷ cs) lines first old new so_far told =
+      let us = units_of_round c in
+      let more = flat_map units_of_round cs in
+      let here = printed_on told.1.0 [] us lines first old told.0 so_far told.1.1 in
+      subst (λ (l : List ℕ). HasPrinted l (flow_of new) first (held new))
+      (append_assoc lines (flat_map unit_lines us) (flat_map unit_lines more) ∙ ap (λ (l : List ℕ). lines ++ l) (sym (flat_map-append unit_lines us more)))
+      (printed_rounds cs (lines ++ flat_map unit_lines us) first told.0 new here told.2)
+
+  printed_done : (came : Done) (old new : W) → flow_of old ≡ flow.Whole → IsDoneTold tells old came new → HasPrinted (flat_map unit_lines (units_of came)) (flow_of new) (held old) (held new)
+  printed_done (done.Unpacked report) old new whole told = printed_all report.units.items old new whole told
+  printed_done (done.Installed rounds) old new whole told =
+      printed_rounds rounds.items [] (held old) old new (subst (λ f. HasPrinted [] f (held old) (held old)) (sym whole) (appends_nothing (held old))) told
+
+  -- the same of what came of trees
+  pub printed_trees : {E : Type 0} (result : Result (Ended Done) E) (old new : W) → flow_of old ≡ flow.Whole → IfOk result (λ ended. IsDoneTold tells old ended.done new)
+      → IfOk result (λ ended. HasPrinted (flat_map unit_lines (units_of ended.done)) (flow_of new) (held old) (held new))
+  printed_trees (Ok ended) old new whole told = printed_done ended.done old new whole told
+  printed_trees (Err e) old new whole told = tt
+
 -- What is left of the answer on units.
 
 output_with : (notes : Option HostFault) (answer : Answer) → (with_notes notes answer).output ≡ answer.output
@@ -123,14 +148,39 @@ installed_lines auto cs policy us (Some u) configured before s t is =
     let same : us ≡ us ++ configured.units.items = sym (append-nil us) ∙ ap (λ (l : List AUnit). us ++ l) (sym empty.units) in
     ap (λ (l : List ℕ). lines ++ l) none ∙ append-nil lines ∙ ap (λ (l : List AUnit). flat_map unit_lines l ++ flat_map unit_lines (u ∷ [])) same
 
+-- a round's lines, and those of the rounds behind it
+behind_round : (last : Option AUnit) (lines : List ℕ) (us : List AUnit) (more : List Installed) (Rest P Q : Type 0) → lines ≡ flat_map unit_lines us ++ flat_map unit_lines (option_to_list last)
+    → (Rest → flat_map round_lines more ≡ flat_map unit_lines (flat_map units_of_round more) ++ flat_map unit_lines (option_to_list (last_of_rounds more)))
+    → MatchOption last Rest (λ broken. (more ≡ []) × P × Q)
+    → lines ++ flat_map round_lines more ≡ flat_map unit_lines (us ++ flat_map units_of_round more) ++ flat_map unit_lines (option_to_list (last_of last (last_of_rounds more)))
+behind_round None lines us more Rest P Q is so rest =
+    let units = flat_map units_of_round more in
+    let end = flat_map unit_lines (option_to_list (last_of_rounds more)) in
+    ap (λ (l : List ℕ). l ++ flat_map round_lines more) (is ∙ append-nil (flat_map unit_lines us)) ∙ ap (λ (l : List ℕ). flat_map unit_lines us ++ l) (so rest)
+    ∙ sym (append_assoc (flat_map unit_lines us) (flat_map unit_lines units) end) ∙ ap (λ (l : List ℕ). l ++ end) (sym (flat_map-append unit_lines us units))
+behind_round (Some u) lines us more Rest P Q is so rest =
+    subst (λ (m : List Installed). lines ++ flat_map round_lines m ≡ flat_map unit_lines (us ++ flat_map units_of_round m) ++ flat_map unit_lines (u ∷ [])) (sym rest.0)
+    (append-nil lines ∙ is ∙ ap (λ (l : List AUnit). flat_map unit_lines l ++ flat_map unit_lines (u ∷ [])) (sym (append-nil us)))
+
+rounds_lines : (a : Around) (u : Unpacking) (policy : ConfPolicy) (earlier : List (List ℕ)) (rounds : List (List (List ℕ))) (came : List Installed) (before after : Held) (s end : State) → HasInstalledRounds a u policy earlier rounds came before after s end
+    → flat_map round_lines came ≡ flat_map unit_lines (flat_map units_of_round came) ++ flat_map unit_lines (option_to_list (last_of_rounds came))
+rounds_lines a u policy earlier [] [] before after s end h = refl
+rounds_lines a u policy earlier [] (c ∷ cs) before after s end h = absurd h
+rounds_lines a u policy earlier (words ∷ rounds) [] before after s end h = absurd h
+rounds_lines a u policy earlier (words ∷ rounds) (c ∷ cs) before after s end h =
+    let round = h.2 in
+    let all = round.all in
+    behind_round (last_of_round c) (round_lines c) (units_of_round c) cs _ (end ≡ h.1) (after ≡ h.0)
+    (installed_lines u.auto_deconfigure round.candidates policy c.unpacked.units.items c.unpacked.last c.configured _ _ _ all.install.part)
+    (rounds_lines a u policy (earlier ++ words) rounds cs h.0 after h.1 end) h.3
+
 pub done_lines : (a : Around) (policy : Option ConfPolicy) (u : Unpacking) (came : Done) (before after : Held) (s end : State) → HasRunTrees a policy u came before after s end
     → done_answer came ≡ units_answer (flat_map unit_lines (units_of came)) (last_in came) (done_answer came).status
 done_lines a policy u (done.Unpacked report) before after s end ran = refl
-done_lines a None u (done.Installed reports) before after s end ran = absurd ran.all
-done_lines a (Some policy) u (done.Installed reports) before after s end ran =
-    let all = ran.all in
-    ap (λ (l : List ℕ). record { output = l; error = []; status = (done_answer (done.Installed reports)).status })
-    (installed_lines u.auto_deconfigure ran.candidates policy reports.unpacked.units.items reports.unpacked.last reports.configured _ _ _ all.install.part)
+done_lines a None u (done.Installed rounds) before after s end ran = absurd ran
+done_lines a (Some policy) u (done.Installed rounds) before after s end ran =
+    ap (λ (l : List ℕ). record { output = l; error = []; status = rounds_status rounds.items })
+    (rounds_lines a u policy [] ran.rounds rounds.items before after s end ran.runs)
 
 -- what is written of an answer that nothing is written of yet
 pub left_none : (wanted told : Answer) (held : Option (List ℕ)) → told ≡ wanted → (front : List ℕ) × Appends held held front × (wanted ≡ record told { output = front ++ told.output })

@@ -7,7 +7,11 @@ use Rattle.unit_reports.specs.Watching.{IsToldBehind}
 use Rattle.unit_reports.specs.declared.report.Unit.{Unit as AUnit}
 use Rattle.dpkg_session.specs.Trees.{AreRead}
 use Rattle.dpkg_session.specs.declared.report.Candidate.{Candidate}
-use Rattle.command_line.specs.Printing.{AreTold}
+use Rattle.dpkg_session.specs.declared.installing.Installed.{Installed}
+use Rattle.command_line.specs.Printing.{AreRoundsTold, AreTold, IsDoneTold, units_of_round}
+use Rattle.command_line.specs.declared.ending.Ended.{Ended}
+use Rattle.command_line.specs.declared.unpacking.Done.{Done}
+use Rattle.command_line.specs.declared.unpacking.Done.TheVariants as done
 
 pub reads_keep : {T X : Type 0} (reads : T → Candidate → T → Type 0) (name : T → X) → ((a b : T) (c : Candidate) → reads a c b → name b ≡ name a)
     → (cs : List Candidate) (old new : T) → AreRead reads old cs new → name new ≡ name old
@@ -24,3 +28,19 @@ pub told_keep : {T E W X : Type 0} (result : Result T E) (units : T → List AUn
     → (old new : W) → IfOk result (λ done. AreTold tells old (units done) new) → OnErr result (new ≡ old) → name new ≡ name old
 told_keep (Ok done) units tells name one old new told untold = tells_keep tells name one told.0 [] (units done) old new told.1
 told_keep (Err e) units tells name one old new told untold = ap name untold
+
+rounds_keep : {W X : Type 0} (tells : W → AUnit → State → W → Type 0) (name : W → X) → ((a b : W) (u : AUnit) (at : State) → tells a u at b → name b ≡ name a)
+    → (came : List Installed) (old new : W) → AreRoundsTold tells old came new → name new ≡ name old
+rounds_keep tells name one [] old new told = ap name told
+rounds_keep tells name one (c ∷ cs) old new told = rounds_keep tells name one cs told.0 new told.2 ∙ tells_keep tells name one told.1.0 [] (units_of_round c) old told.0 told.1.1
+
+done_keep : {W X : Type 0} (tells : W → AUnit → State → W → Type 0) (name : W → X) → ((a b : W) (u : AUnit) (at : State) → tells a u at b → name b ≡ name a)
+    → (came : Done) (old new : W) → IsDoneTold tells old came new → name new ≡ name old
+done_keep tells name one (done.Unpacked report) old new told = tells_keep tells name one told.0 [] report.units.items old new told.1
+done_keep tells name one (done.Installed rounds) old new told = rounds_keep tells name one rounds.items old new told
+
+-- the same of what came of trees
+pub trees_keep : {E W X : Type 0} (result : Result (Ended Done) E) (tells : W → AUnit → State → W → Type 0) (name : W → X) → ((a b : W) (u : AUnit) (at : State) → tells a u at b → name b ≡ name a)
+    → (old new : W) → IfOk result (λ ended. IsDoneTold tells old ended.done new) → OnErr result (new ≡ old) → name new ≡ name old
+trees_keep (Ok ended) tells name one old new told untold = done_keep tells name one ended.done old new told
+trees_keep (Err e) tells name one old new told untold = ap name untold

@@ -12,4 +12,5 @@ pub mod Packages
 pub mod Reports
 pub mod Rehearsed
 pub mod Reading
+pub mod Order
 pub mod Printing

@@ -1,5 +1,5 @@
 -- What is written of the lines of units while a command goes on.
-use Rattle.std.specs.Prelude.{◌≡◌, ◌++◌, ◌≢◌, ℕ, List, [], Option, Result, Ok, Err, option_to_list}
+use Rattle.std.specs.Prelude.{◌≡◌, ◌++◌, ◌≢◌, ℕ, List, [], ◌∷◌, Option, None, Result, Ok, Err, option_to_list}
 use Rattle.std.specs.Io.KnownBytes.{Appends, Keeps}
 use Rattle.std.specs.List.{flat_map}
 use Rattle.host_core.specs.Host.{State}
@@ -7,6 +7,7 @@ use Rattle.report_lines.specs.Reports.{unit_lines}
 use Rattle.unit_reports.specs.Watching.{IsTold}
 use Rattle.unit_reports.specs.declared.report.Unit.{Unit as AUnit}
 use Rattle.dpkg_session.specs.Installs.{last_of}
+use Rattle.dpkg_session.specs.declared.installing.Installed.{Installed}
 use Rattle.command_line.specs.declared.answer.Answer.{Answer}
 use Rattle.command_line.specs.declared.answer.Left.{Left}
 use Rattle.command_line.specs.declared.answer.Left.TheVariants as left
@@ -46,15 +47,36 @@ HasPrinted lines flow.Wanting old new = AppendsFront old new lines
 abbrev pub AreTold : {W : Type 0} → (W → AUnit → State → W → Type 0) → W → List AUnit → W → Type 0
 AreTold tells old us new = (s : State) × IsTold tells s old us new
 
+-- the units of a round of an install that were finished, in order, and the one that was broken off
+abbrev pub units_of_round : Installed → List AUnit
+units_of_round came = came.unpacked.units.items ++ came.configured.units.items
+
+abbrev pub last_of_round : Installed → Option AUnit
+last_of_round came = last_of came.unpacked.last came.configured.last
+
 -- the units that were finished, in order
 abbrev pub units_of : Done → List AUnit
 units_of (done.Unpacked report) = report.units.items
-units_of (done.Installed reports) = reports.unpacked.units.items ++ reports.configured.units.items
+units_of (done.Installed rounds) = flat_map units_of_round rounds.items
 
 -- the unit that was broken off
+abbrev pub last_of_rounds : List Installed → Option AUnit
+last_of_rounds [] = None
+last_of_rounds (came ∷ more) = last_of (last_of_round came) (last_of_rounds more)
+
 abbrev pub last_in : Done → Option AUnit
 last_in (done.Unpacked report) = report.last
-last_in (done.Installed reports) = last_of reports.unpacked.last reports.configured.last
+last_in (done.Installed rounds) = last_of_rounds rounds.items
+
+-- the units of rounds were told, round after round
+abbrev pub AreRoundsTold : {W : Type 0} → (W → AUnit → State → W → Type 0) → W → List Installed → W → Type 0
+AreRoundsTold tells old [] new = new ≡ old
+AreRoundsTold {W} tells old (came ∷ more) new = (mid : W) × AreTold tells old (units_of_round came) mid × AreRoundsTold tells mid more new
+
+-- the units that came of trees were told
+abbrev pub IsDoneTold : {W : Type 0} → (W → AUnit → State → W → Type 0) → W → Done → W → Type 0
+IsDoneTold tells old (done.Unpacked report) new = AreTold tells old report.units.items new
+IsDoneTold tells old (done.Installed rounds) new = AreRoundsTold tells old rounds.items new
 
 -- the answer on units with these lines, the lines of the one that was broken off behind them, and a status
 abbrev pub units_answer : List ℕ → Option AUnit → ℕ → Answer

@@ -77,7 +77,11 @@ pub record HaveGoneOn {Hosts Opened : Type 0} (of : Ghosts Hosts Opened) (old ne
   pub faults : of.faults old ≤ of.faults new
   pub below : of.below new ≡ of.below old
 
--- these trees were read for the first of some words, each word once, and the others are left
-pub record AreReadFor (a : Around) (owners : TreeOwners) (words : List (List ℕ)) (cs : List Candidate) (left : List (List ℕ)) : Type 0 where
+-- behind earlier words these trees were read for the first of some words, each word once, and the others are left
+pub record AreReadFor (a : Around) (owners : TreeOwners) (earlier words : List (List ℕ)) (cs : List Candidate) (left : List (List ℕ)) : Type 0 where
   pub labels : words ≡ map (λ (c : Candidate). c.label) cs ++ left
-  pub read : AreReadOnce a owners [] cs
+  pub read : AreReadOnce a owners earlier cs
+
+-- the next of these rounds has these words, which are behind those of earlier rounds then
+abbrev pub IsRoundBefore : {V : Type 0} → (V → List (List ℕ)) → List V → List V → List (List ℕ) → List (List ℕ) → (List (List ℕ) → Type 0) → Type 0
+IsRoundBefore {V} items rounds rest earlier later P = (round : V) × (rounds ≡ round ∷ rest) × (later ≡ earlier ++ items round) × P (items round)

@@ -1,5 +1,6 @@
 -- What a command writes, and the status that it ends with.
-use Rattle.std.specs.Prelude.{ℕ, List, [], ◌++◌, ◌⊎◌, ◌≡◌, max, Bool, true, false, Option, Some, None, Result, Ok, Err, codes, if◌then◌else◌, is_ok}
+use Rattle.std.specs.Prelude.{ℕ, List, [], ◌∷◌, ◌++◌, ◌⊎◌, ◌≡◌, max, Bool, true, false, Option, Some, None, Result, Ok, Err, codes, if◌then◌else◌, is_ok}
+use Rattle.std.specs.List.{flat_map}
 use Rattle.std.specs.Option.{option_map_or}
 use Rattle.std.specs.Io.KnownBytes.{Appends, Keeps}
 use Rattle.version_order.specs.declared.fault.VersionFault.{VersionFault}
@@ -54,17 +55,25 @@ comparison_answer c = option_map_or bad_answer
 abbrev pub report_answer : Report → Answer
 report_answer done = record { output = report_lines done; error = []; status = report_status done }
 
--- the lines of the reports of an install, one after the other, and the worse of their statuses
-abbrev pub install_answer : Installed → Answer
-install_answer reports = record {
-  output = report_lines reports.unpacked ++ report_lines reports.configured;
-  error = [];
-  status = max (report_status reports.unpacked) (report_status reports.configured);
-}
+-- the lines of the reports of a round of an install, one after the other, and the worse of their statuses
+abbrev pub round_lines : Installed → List ℕ
+round_lines came = report_lines came.unpacked ++ report_lines came.configured
+
+abbrev pub round_status : Installed → ℕ
+round_status came = max (report_status came.unpacked) (report_status came.configured)
+
+-- the worst status of rounds
+abbrev pub rounds_status : List Installed → ℕ
+rounds_status [] = 0
+rounds_status (came ∷ more) = max (round_status came) (rounds_status more)
+
+-- the lines of all rounds of an install, in turn, and the worst of their statuses
+abbrev pub install_answer : List Installed → Answer
+install_answer rounds = record { output = flat_map round_lines rounds; error = []; status = rounds_status rounds }
 
 abbrev pub done_answer : Done → Answer
 done_answer (done.Unpacked report) = report_answer report
-done_answer (done.Installed reports) = install_answer reports
+done_answer (done.Installed rounds) = install_answer rounds.items
 
 -- what came of trees, whose packages are configured too where a policy for conffiles is given: reports, or why the root
 -- couldn't be opened

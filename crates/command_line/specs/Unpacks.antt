@@ -1,5 +1,5 @@
 -- What the report on an unpack has to do with the words for the root and the trees.
-use Rattle.std.specs.Prelude.{ℕ, Bool, List, Option, Some, None}
+use Rattle.std.specs.Prelude.{◌≡◌, ◌++◌, ℕ, Bool, List, [], ◌∷◌, MatchOption, Option, Some, None}
 use Rattle.host_core.specs.Host.{State}
 use Rattle.diversions.specs.Ways.{Ways}
 use Rattle.file_lists.specs.declared.paths.PackageList.{PackageList}
@@ -14,7 +14,8 @@ use Rattle.dpkg_session.specs.declared.installing.Installed.{Installed}
 use Rattle.dpkg_session.specs.declared.report.Candidate.{Candidate}
 use Rattle.command_words.specs.declared.unpacking.Unpacking.{Unpacking}
 use Rattle.command_line.specs.Endings.{HasEnded}
-use Rattle.command_line.specs.Printing.{last_in}
+use Rattle.command_line.specs.Order.{AreRoundsOf}
+use Rattle.command_line.specs.Printing.{last_in, last_of_round}
 use Rattle.command_line.specs.Reading.{AreReadFor}
 use Rattle.command_line.specs.Roots.{Around, IsOpenedOn, held_anew}
 use Rattle.command_line.specs.declared.ending.Ended.{Ended}
@@ -34,21 +35,43 @@ pub record HasInstalledAll (auto_deconfigure : Bool) (policy : ConfPolicy) (done
   pub counts : CountsLast s end (last_of done.unpacked.last done.configured.last)
   pub told : TellsBoth s end done.unpacked done.configured
 
--- what came of candidates, which are configured too where a policy for conffiles is given
-abbrev pub HasDoneAll : Bool → Option ConfPolicy → Done → List Candidate → List (List ℕ) → Held → Held → State → State → Type 0
-HasDoneAll auto_deconfigure None (done.Unpacked report) cs left before after s end = HasRunAll auto_deconfigure report cs left before after s end
-HasDoneAll auto_deconfigure None (done.Installed reports) cs left before after s end = ⊥
-HasDoneAll auto_deconfigure (Some policy) (done.Unpacked report) cs left before after s end = ⊥
-HasDoneAll auto_deconfigure (Some policy) (done.Installed reports) cs left before after s end = HasInstalledAll auto_deconfigure policy reports cs left before after s end
-
--- this came of some candidates, which are what was read, one after another, for the first of the words of the trees, from what
--- was held before to what is held then; their paths have the owners that the words ask for, and packages were deconfigured in their favour only where
--- the words have the flag for it
-pub record HasRunTrees (a : Around) (policy : Option ConfPolicy) (u : Unpacking) (came : Done) (before after : Held) (s end : State) : Type 0 where
+-- the trees of an unpack: this came of some candidates, which are what was read, one after another, for the first of the words of the
+-- trees, from what was held before to what is held then; their paths have the owners that the words ask for, and packages were
+-- deconfigured in their favour only where the words have the flag for it
+pub record HasUnpackedTrees (a : Around) (u : Unpacking) (done : Report) (before after : Held) (s end : State) : Type 0 where
   pub candidates : List Candidate
   pub left : List (List ℕ)
-  pub read : AreReadFor a u.owners u.trees candidates left
-  pub all : HasDoneAll u.auto_deconfigure policy came candidates left before after s end
+  pub read : AreReadFor a u.owners [] u.trees candidates left
+  pub all : HasRunAll u.auto_deconfigure done candidates left before after s end
+
+-- the same of the trees of one round of an install, behind the words of earlier rounds
+pub record HasInstalledRound (a : Around) (u : Unpacking) (policy : ConfPolicy) (earlier words : List (List ℕ)) (done : Installed) (before after : Held) (s end : State) : Type 0 where
+  pub candidates : List Candidate
+  pub left : List (List ℕ)
+  pub read : AreReadFor a u.owners earlier words candidates left
+  pub all : HasInstalledAll u.auto_deconfigure policy done candidates left before after s end
+
+-- Round after round, each from what the one before it left; none is begun behind one of which a unit was broken off.
+abbrev pub HasInstalledRounds : Around → Unpacking → ConfPolicy → List (List ℕ) → List (List (List ℕ)) → List Installed → Held → Held → State → State → Type 0
+HasInstalledRounds a u policy earlier [] [] before after s end = (end ≡ s) × (after ≡ before)
+HasInstalledRounds a u policy earlier [] (came ∷ more) before after s end = ⊥
+HasInstalledRounds a u policy earlier (words ∷ rounds) [] before after s end = ⊥
+HasInstalledRounds a u policy earlier (words ∷ rounds) (came ∷ more) before after s end =
+    (mid : Held) × (m : State) × HasInstalledRound a u policy earlier words came before mid s m
+    × MatchOption (last_of_round came) (HasInstalledRounds a u policy (earlier ++ words) rounds more mid after m end) (λ broken. (more ≡ []) × (end ≡ m) × (after ≡ mid))
+
+-- the trees of an install, in the rounds in which they are taken
+pub record HasInstalledTrees (a : Around) (u : Unpacking) (policy : ConfPolicy) (done : List Installed) (before after : Held) (s end : State) : Type 0 where
+  pub rounds : List (List (List ℕ))
+  pub order : AreRoundsOf a u before.records.records rounds
+  pub runs : HasInstalledRounds a u policy [] rounds done before after s end
+
+-- what came of trees, whose packages are configured too where a policy for conffiles is given
+abbrev pub HasRunTrees : Around → Option ConfPolicy → Unpacking → Done → Held → Held → State → State → Type 0
+HasRunTrees a None u (done.Unpacked report) before after s end = HasUnpackedTrees a u report before after s end
+HasRunTrees a None u (done.Installed rounds) before after s end = ⊥
+HasRunTrees a (Some policy) u (done.Unpacked report) before after s end = ⊥
+HasRunTrees a (Some policy) u (done.Installed rounds) before after s end = HasInstalledTrees a u policy rounds.items before after s end
 
 -- the units, and the end of the command behind them
 pub record HasRunToEnd (a : Around) (policy : Option ConfPolicy) (u : Unpacking) (ended : Ended Done) (before : Held) (s end : State) : Type 0 where

@@ -11,7 +11,7 @@ ghost use Rattle.command_line.specs.Packages.{HasEndedWork, HasWorkedUnder, work
 ghost use Rattle.command_line.specs.Endings.{with_notes};
 ghost use Rattle.command_line.specs.Printing.{HasPrinted, IsLeft, output_left, status_left, units_answer, units_of};
 ghost use Rattle.command_line.specs.Queries.{IsInquired, IsQueryAnswer, bad_path_answer, inquiry_of, unanswered_answer};
-ghost use Rattle.command_line.specs.Reports.{HasEndedAs, IsAnswerOf, IsHelpAnswer, IsReadChange, comparison_answer, done_answer, ended_answer, has_units, memory_answer, names_answer, opens_root, prints, report_answer, trees_answer, version_answer, work_answer};
+ghost use Rattle.command_line.specs.Reports.{HasEndedAs, IsAnswerOf, IsHelpAnswer, IsReadChange, comparison_answer, done_answer, ended_answer, has_units, memory_answer, names_answer, opens_root, prints, report_answer, round_status, rounds_status, trees_answer, version_answer, work_answer};
 ghost use Rattle.command_line.specs.Roots.{IsRootFault, around, locked_line, opening_answer};
 ghost use Rattle.command_line.specs.Unpacks.{HasUnpacked};
 ghost use Rattle.command_line.specs.Verifying.{IsVerifyAnswer};
@@ -37,7 +37,7 @@ use command_words::{
     subcommand_names, version_text,
 };
 use conffiles::ConfPolicy;
-use dpkg_session::{Report, Unit};
+use dpkg_session::{Installed, Report, Unit};
 use host_core::HostFault;
 use report_lines::{notes_line, opening_line, report_status, report_text, unit_text};
 use shown_lines::line;
@@ -141,15 +141,31 @@ fn reported(alloc: Global, done: &Report) -> Result<Answer, AllocError>
     Ok(printed(alloc, text, report_status(done)))
 }
 
+fn round_status(came: &Installed) -> u8
+    ensures value { result ≡ round_status came.now }
+    ensures bound { result ≤ 2 }
+{
+    report_status(&came.unpacked).max(report_status(&came.configured))
+}
+
+// The worst status of rounds.
+fn rounds_status(rounds: &[Installed]) -> u8
+    ensures value { result ≡ rounds_status rounds.now }
+    ensures bound { result ≤ 2 }
+{
+    match rounds.split_first() {
+        Some((came, more)) => round_status(came).max(rounds_status(more)),
+        None => 0,
+    }
+}
+
 fn done_status(done: &Done) -> u8
     ensures value { result ≡ (done_answer done.now).status }
     ensures bound { result ≤ 2 }
 {
     match done {
         Done::Unpacked(report) => report_status(report),
-        Done::Installed(reports) => {
-            report_status(&reports.unpacked).max(report_status(&reports.configured))
-        }
+        Done::Installed(rounds) => rounds_status(rounds.as_slice()),
     }
 }
 
@@ -285,13 +301,11 @@ fn unpacked<S: Hosts, O: Write>(
     let ended = unpack_telling(alloc, hosts, unpacking, policy, &mut printer);
     let flow = printer.flow;
     match ended {
-        Ok(came) => units_left(
-            alloc,
-            flow,
-            came.done.last(),
-            done_status(&came.done),
-            came.left,
-        ),
+        Ok(came) => {
+            let none = None;
+            let last = came.done.last(&none);
+            units_left(alloc, flow, last, done_status(&came.done), came.left)
+        }
         Err(fault) => whole(not_opened(alloc, &fault)),
     }
 }

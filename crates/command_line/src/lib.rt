@@ -14,8 +14,11 @@
 //! behind a unit that was broken off they stay. Where the merging is broken off that is told on
 //! standard error, with status 2, and the notes that are left are valid.
 //!
-//! For `install` it is the same with two reports, that of the unpacks and that of what was
-//! configured then, whose lines are told one after the other. For `configure`, `remove` and `purge`
+//! For `install` it is the same with two reports for each round that was begun, that of the unpacks
+//! and that of what was configured then, whose lines are told one after the other. The rounds are
+//! those of install_order by the control files of the trees, which are looked at first, and by the
+//! packages that are recorded (`AreRoundsOf`); or one round of all trees, where they are to be taken
+//! as given. Behind a unit that was broken off no round is begun (`HasInstalledRounds`). For `configure`, `remove` and `purge`
 //! it tells likewise by the report of the units of the named packages. For `divert` and `undivert`
 //! it tells likewise how the one unit ended, of a change as the words ask for it, on the
 //! administration that was opened; a path or target that no package may ship is told on standard
@@ -62,6 +65,8 @@ mod dry_hosts;
 mod ending;
 mod fault;
 mod hosts;
+mod installing;
+mod ordering;
 mod packages;
 mod printing;
 mod questions;

@@ -15,12 +15,14 @@ use std::alloc::Global;
 use std::vec::IntoIter;
 use texts::Text;
 
-/// The words of trees that are still to be read, and where they are opened.
+/// The words of the trees of a round that are still to be read, and where they are opened.
 #[derive(Drop)]
 pub(crate) struct TreeWords<'a, S: Hosts> {
     pub(crate) alloc: Global,
     pub(crate) hosts: &'a mut S,
     pub(crate) asked: &'a Unpacking,
+    /// The words of this round, behind those of earlier ones.
+    pub(crate) words: &'a [Text],
     pub(crate) left: &'a mut IntoIter<Text>,
 }
 
@@ -28,9 +30,9 @@ impl<'a, S: Hosts> Trees for TreeWords<'a, S> {
     ghost words = { λ t. into_iter_items t.left.now };
 
     ghost reads = { λ old c new. (new.hosts.ghost_name ≡ old.hosts.ghost_name)
-        × (new.asked.now ≡ old.asked.now)
+        × (new.asked.now ≡ old.asked.now) × (new.words.now ≡ old.words.now)
         × IsReadOnce (around S.Hosts old.hosts.now new.hosts.now) old.asked.now.owners
-        (words_before old.asked.now.trees (length (into_iter_items old.left.now)))
+        (words_before old.words.now (length (into_iter_items old.left.now)))
         c.label c.tree
         × HaveGoneOn S.Hosts old.hosts.now new.hosts.now
         × (into_iter_items old.left.now ≡ c.label ∷ into_iter_items new.left.now) };
@@ -40,7 +42,7 @@ impl<'a, S: Hosts> Trees for TreeWords<'a, S> {
             return None;
         }
         let asked = self.asked;
-        let earlier = words_before(asked.trees.as_slice(), self.left.len());
+        let earlier = words_before(self.words, self.left.len());
         match self.left.next() {
             Some(label) => {
                 let tree = read_once(
@@ -57,8 +59,8 @@ impl<'a, S: Hosts> Trees for TreeWords<'a, S> {
     }
 }
 
-// The words before as many that are left.
-fn words_before(all: &[Text], left: usize) -> &[Text]
+/// The words before as many that are left.
+pub(crate) fn words_before(all: &[Text], left: usize) -> &[Text]
     ensures { result.now ≡ words_before all.now left }
 {
     &all[..all.len().saturating_sub(left)]

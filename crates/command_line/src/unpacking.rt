@@ -1,16 +1,16 @@
 // Trees: the root is opened, they are read one after another, and their packages are unpacked or installed.
-ghost use Rattle.std.specs.Prelude.{◌≡◌, ◌≤◌, IfErr, IfOk, OnErr, false, is_some};
+ghost use Rattle.std.specs.Prelude.{◌≡◌, ◌≤◌, IfErr, IfOk, None, OnErr, false, is_some};
 ghost use Rattle.std.specs.Vec.Iter.{into_iter_items};
 ghost use Rattle.unit_reports.specs.Held.{held_by};
-ghost use Rattle.unit_reports.specs.Watching.{IsTold};
-ghost use Rattle.command_line.specs.Printing.{AreTold, last_in, units_of};
+ghost use Rattle.command_line.specs.Printing.{AreTold, IsDoneTold, last_in, last_of_rounds};
 ghost use Rattle.command_line.specs.Reading.{HaveGoneOn};
 ghost use Rattle.command_line.specs.Roots.{around, IsGivenUpOn, IsRootFault};
-ghost use Rattle.command_line.specs.Unpacks.{HasRunToEnd, HasRunTrees, HasUnpacked, IsUnpackedOn};
+ghost use Rattle.command_line.specs.Unpacks.{HasRunToEnd, HasRunTrees, HasUnpacked, HasUnpackedTrees, IsUnpackedOn};
 
 use crate::ending::{Ended, end};
 use crate::fault::{NotOpened, RootFault};
 use crate::hosts::Hosts;
+use crate::installing::install_trees;
 use crate::packages::listed;
 use crate::reading::TreeWords;
 use administration::AdministrationFault;
@@ -19,57 +19,102 @@ use conffiles::ConfPolicy;
 use dpkg_session::{Installed, Report, Session, Unit, Watcher};
 use std::alloc::{AllocError, Global};
 
-/// What came of trees: a report of their unpacks, or of these and of what was configured then.
+/// What came of trees: a report of their unpacks; or of each round that was begun of an install one of the unpacks, and one of what
+/// was configured then.
 #[derive(Drop)]
 pub(crate) enum Done {
     Unpacked(Report),
-    Installed(Installed),
+    Installed(Vec<Installed>),
+}
+
+// The unit that was broken off in rounds.
+fn last_of_rounds<'a>(rounds: &'a [Installed], none: &'a Option<Unit>) -> &'a Option<Unit>
+    requires { none.now ≡ None }
+    ensures { result.now ≡ last_of_rounds rounds.now }
+{
+    match rounds.split_first() {
+        Some((came, more)) => {
+            if came.unpacked.last.is_some() {
+                return &came.unpacked.last;
+            }
+            if came.configured.last.is_some() {
+                return &came.configured.last;
+            }
+            last_of_rounds(more, none)
+        }
+        None => none,
+    }
 }
 
 impl Done {
-    /// The unit that was broken off.
-    pub(crate) fn last(&self) -> &Option<Unit>
+    /// The unit that was broken off, or this, which is none.
+    pub(crate) fn last<'a>(&'a self, none: &'a Option<Unit>) -> &'a Option<Unit>
+        requires { none.now ≡ None }
         ensures { result.now ≡ last_in self.now }
     {
         match self {
             Done::Unpacked(report) => &report.last,
-            Done::Installed(reports) => match &reports.unpacked.last {
-                Some(_) => &reports.unpacked.last,
-                None => &reports.configured.last,
-            },
+            Done::Installed(rounds) => last_of_rounds(rounds.as_slice(), none),
         }
     }
 }
 
-// What a session makes of trees. Its caller learns here that the hosts are still the same.
+// What a session makes of trees as they are given. Its caller learns here that the hosts are still the same.
 fn run_session<S: Hosts, W: Watcher>(
     session: &mut Session<S::Opened>,
     trees: &mut TreeWords<'_, S>,
-    policy: Option<ConfPolicy>,
     watcher: &mut W,
-) -> Done
+) -> Report
     requires open { session.old.closed ≡ false }
     requires unread { into_iter_items trees.old.left.now ≡ trees.old.asked.now.trees }
+    requires all { trees.old.words.now ≡ trees.old.asked.now.trees }
     ensures same_hosts { trees.new.hosts.ghost_name ≡ trees.old.hosts.ghost_name }
-    ensures done { HasRunTrees (around S.Hosts trees.old.hosts.now trees.new.hosts.now) policy
+    ensures done { HasUnpackedTrees (around S.Hosts trees.old.hosts.now trees.new.hosts.now)
         trees.old.asked.now result (held_by session.old.administration session.old.diversions)
         (held_by session.new.administration session.new.diversions)
         (S.Opened.state session.old.host) (S.Opened.state session.new.host) }
-    ensures closes { session.new.closed ≡ is_some (last_in result) }
+    ensures closes { session.new.closed ≡ is_some result.last }
     ensures on { HaveGoneOn S.Hosts trees.old.hosts.now trees.new.hosts.now }
-    ensures watched { IsTold W.tells (S.Opened.state session.old.host) watcher.old (units_of result)
-        watcher.new }
+    ensures watched { AreTold W.tells watcher.old result.units.items watcher.new }
 {
     let auto_deconfigure = trees.asked.auto_deconfigure;
-    match policy {
-        Some(policy) => {
-            Done::Installed(session.install(trees, auto_deconfigure, policy, watcher))
-        }
-        None => Done::Unpacked(session.run(trees, auto_deconfigure, watcher)),
-    }
+    session.run(trees, auto_deconfigure, watcher)
 }
 
 // What a session makes of the trees behind words, whose copies are taken from a list in turn.
+fn unpack_trees<S: Hosts, W: Watcher>(
+    alloc: Global,
+    hosts: &mut S,
+    session: &mut Session<S::Opened>,
+    unpacking: &Unpacking,
+    watcher: &mut W,
+) -> Result<Report, AllocError>
+    requires { session.old.closed ≡ false }
+    ensures done { IfOk result (λ done. HasUnpackedTrees (around S.Hosts hosts.old hosts.new)
+        unpacking.now done (held_by session.old.administration session.old.diversions)
+        (held_by session.new.administration session.new.diversions)
+        (S.Opened.state session.old.host) (S.Opened.state session.new.host)) }
+    ensures closes { IfOk result (λ done. session.new.closed ≡ is_some done.last) }
+    ensures unread { OnErr result (S.Opened.state session.new.host ≡ S.Opened.state
+        session.old.host) }
+    ensures on { HaveGoneOn S.Hosts hosts.old hosts.new }
+    ensures watched { IfOk result (λ done. AreTold W.tells watcher.old done.units.items
+        watcher.new) }
+    ensures unwatched { OnErr result (watcher.new ≡ watcher.old) }
+{
+    let words = unpacking.trees.as_slice();
+    let mut left = listed(alloc, words)?.into_iter();
+    let mut trees = TreeWords {
+        alloc,
+        hosts,
+        asked: unpacking,
+        words,
+        left: &mut left,
+    };
+    Ok(run_session(session, &mut trees, watcher))
+}
+
+// What a session makes of trees, which are installed where a policy for conffiles is given.
 fn run_trees<S: Hosts, W: Watcher>(
     alloc: Global,
     hosts: &mut S,
@@ -87,18 +132,19 @@ fn run_trees<S: Hosts, W: Watcher>(
     ensures unread { OnErr result (S.Opened.state session.new.host ≡ S.Opened.state
         session.old.host) }
     ensures on { HaveGoneOn S.Hosts hosts.old hosts.new }
-    ensures watched { IfOk result (λ done. IsTold W.tells (S.Opened.state session.old.host)
-        watcher.old (units_of done) watcher.new) }
+    ensures watched { IfOk result (λ done. IsDoneTold W.tells watcher.old done watcher.new) }
     ensures unwatched { OnErr result (watcher.new ≡ watcher.old) }
 {
-    let mut left = listed(alloc, unpacking.trees.as_slice())?.into_iter();
-    let mut trees = TreeWords {
-        alloc,
-        hosts,
-        asked: unpacking,
-        left: &mut left,
-    };
-    Ok(run_session(session, &mut trees, policy, watcher))
+    match policy {
+        Some(policy) => match install_trees(alloc, hosts, session, unpacking, policy, watcher) {
+            Ok(rounds) => Ok(Done::Installed(rounds)),
+            Err(fault) => Err(fault),
+        },
+        None => match unpack_trees(alloc, hosts, session, unpacking, watcher) {
+            Ok(report) => Ok(Done::Unpacked(report)),
+            Err(fault) => Err(fault),
+        },
+    }
 }
 
 // What a session makes of trees, and the end of the command behind them.
@@ -117,12 +163,13 @@ fn run_to_end<S: Hosts, W: Watcher>(
     ensures unread { OnErr result (S.Opened.state session.new.host ≡ S.Opened.state
         session.old.host) }
     ensures on { HaveGoneOn S.Hosts hosts.old hosts.new }
-    ensures watched { IfOk result (λ ended. IsTold W.tells (S.Opened.state session.old.host)
-        watcher.old (units_of ended.done) watcher.new) }
+    ensures watched { IfOk result (λ ended. IsDoneTold W.tells watcher.old ended.done
+        watcher.new) }
     ensures unwatched { OnErr result (watcher.new ≡ watcher.old) }
 {
     let done = run_trees(alloc, hosts, session, unpacking, policy, watcher)?;
-    let left = end(session, done.last());
+    let none = None;
+    let left = end(session, done.last(&none));
     Ok(Ended { done, left })
 }
 
@@ -139,7 +186,7 @@ fn unpack_on<S: Hosts, W: Watcher>(
         (S.Opened.state host) policy unpacking.now) }
     ensures refused { IfErr result (IsGivenUpOn (S.left hosts.new) (S.Opened.state host)) }
     ensures faults { S.faults hosts.old ≤ S.faults hosts.new }
-    ensures watched { IfOk result (λ ended. AreTold W.tells watcher.old (units_of ended.done)
+    ensures watched { IfOk result (λ ended. IsDoneTold W.tells watcher.old ended.done
         watcher.new) }
     ensures unwatched { OnErr result (watcher.new ≡ watcher.old) }
     ensures below { S.below hosts.new ≡ S.below hosts.old }
@@ -171,7 +218,7 @@ pub(crate) fn unpack<S: Hosts, W: Watcher>(
     ensures refused { IfErr result (IsRootFault (around S.Hosts hosts.old hosts.new)
         unpacking.now.root) }
     ensures faults { S.faults hosts.old ≤ S.faults hosts.new }
-    ensures watched { IfOk result (λ ended. AreTold W.tells watcher.old (units_of ended.done)
+    ensures watched { IfOk result (λ ended. IsDoneTold W.tells watcher.old ended.done
         watcher.new) }
     ensures unwatched { OnErr result (watcher.new ≡ watcher.old) }
     ensures below { S.below hosts.new ≡ S.below hosts.old }

@@ -87,11 +87,15 @@ abbrev pub calling_app : Text → App
 calling_app name = with_rule (changing_app name) (flag_rule (codes "scripts-stderr"))
 
 -- `install [--root DIR] [--wait SECONDS] [--dry-run [--changes] [--assume-failure PKG:SCRIPT:WORD]..] [--scripts-stderr] [--owner-root] [--auto-deconfigure]
--- [--force-confold | --force-confnew] [--force-confmiss] TREE..`; `unpack` likewise
-abbrev pub trees_app : Text → App
-trees_app name =
-    with_rule (with_forced (with_rule (with_rule (calling_app name) (flag_rule (codes "owner-root"))) (flag_rule (codes "auto-deconfigure"))))
-    (words_rule (codes "TREE") true)
+-- [--force-confold | --force-confnew] [--force-confmiss] [--as-given] TREE..`; `unpack` likewise, without `--as-given`
+abbrev pub unpacking_app : Text → App
+unpacking_app name = with_forced (with_rule (with_rule (calling_app name) (flag_rule (codes "owner-root"))) (flag_rule (codes "auto-deconfigure")))
+
+abbrev pub install_app : App
+install_app = with_rule (with_rule (unpacking_app (codes "install")) (flag_rule (codes "as-given"))) (words_rule (codes "TREE") true)
+
+abbrev pub unpack_app : App
+unpack_app = with_rule (unpacking_app (codes "unpack")) (words_rule (codes "TREE") true)
 
 -- `configure [--root DIR] [--wait SECONDS] [--dry-run [--changes] [--assume-failure PKG:SCRIPT:WORD]..] [--scripts-stderr] [--force-confold | --force-confnew] [--force-confmiss] [PKG..]`
 abbrev pub configure_app : App
@@ -118,7 +122,7 @@ abbrev pub first_apps : List App
 first_apps = rooted_app (codes "audit") ∷ compare_versions_app ∷ configure_app ∷ []
 
 abbrev pub second_apps : List App
-second_apps = rooted_app (codes "diversions") ∷ divert_app ∷ help_app ∷ trees_app (codes "install") ∷ []
+second_apps = rooted_app (codes "diversions") ∷ divert_app ∷ help_app ∷ install_app ∷ []
 
 abbrev pub third_apps : List App
 third_apps = rooted_app (codes "list") ∷ asking_app (codes "listfiles") (codes "PKG") ∷ removing_app (codes "purge") ∷ []
@@ -127,7 +131,7 @@ abbrev pub fourth_apps : List App
 fourth_apps = removing_app (codes "remove") ∷ asking_app (codes "search") (codes "PATH") ∷ asking_app (codes "status") (codes "PKG") ∷ []
 
 abbrev pub last_apps : List App
-last_apps = truename_app ∷ undivert_app ∷ trees_app (codes "unpack") ∷ verify_app ∷ []
+last_apps = truename_app ∷ undivert_app ∷ unpack_app ∷ verify_app ∷ []
 
 abbrev pub whole_app : App
 whole_app = with_all (with_all (with_all (with_all (with_all (without_help (new_app (codes "coizkerra"))) first_apps) second_apps) third_apps) fourth_apps) last_apps

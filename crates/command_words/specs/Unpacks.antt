@@ -12,16 +12,19 @@ use Rattle.command_words.specs.declared.streams.ScriptStreams.{ScriptStreams}
 use Rattle.command_words.specs.declared.unpacking.Unpacking.{Unpacking}
 
 -- an absolute root, and trees, in favour of whose packages others may be deconfigured or not, whose paths become someone's, and
--- whose scripts write somewhere; and for how long another program's lock is waited for
-abbrev pub unpacking_from : Option Text → Option (List Text) → Bool → TreeOwners → ScriptStreams → Option Forced → Option ℕ → Option Unpacking
-unpacking_from (Some root) (Some trees) auto_deconfigure owners streams (Some forced) (Some wait) =
+-- whose scripts write somewhere; whether they are taken as given; and for how long another program's lock is waited for
+abbrev pub unpacking_from : Option Text → Option (List Text) → Bool → TreeOwners → ScriptStreams → Option Forced → Bool → Option ℕ → Option Unpacking
+unpacking_from (Some root) (Some trees) auto_deconfigure owners streams (Some forced) as_given (Some wait) =
     if is_absolute root
-    then Some (record { root = root; trees = trees; auto_deconfigure = auto_deconfigure; owners = owners; streams = streams; forced = forced; wait = wait })
+    then Some (record { root = root; trees = trees; auto_deconfigure = auto_deconfigure; owners = owners; streams = streams; forced = forced; as_given = as_given; wait = wait })
     else None
-unpacking_from _ _ _ _ _ _ _ = None
+unpacking_from _ _ _ _ _ _ _ _ = None
 
 abbrev pub may_deconfigure : List Row → Bool
 may_deconfigure rows = is_set (first_of (codes "auto-deconfigure") rows)
 
+abbrev pub are_as_given : List Row → Bool
+are_as_given rows = is_set (first_of (codes "as-given") rows)
+
 abbrev pub unpacking_of : List Row → Option Unpacking
-unpacking_of rows = unpacking_from (first_of (codes "root") rows) (all_of (codes "TREE") rows) (may_deconfigure rows) (owners_of rows) (streams_of rows) (forced_of rows) (wait_of rows)
+unpacking_of rows = unpacking_from (first_of (codes "root") rows) (all_of (codes "TREE") rows) (may_deconfigure rows) (owners_of rows) (streams_of rows) (forced_of rows) (are_as_given rows) (wait_of rows)

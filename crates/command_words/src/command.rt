@@ -2,7 +2,7 @@
 ghost use Rattle.std.specs.Prelude.{◌≡◌, IfOk, codes, false, string_bytes, true};
 ghost use Rattle.clap.specs.Words.{app_of, new_app, rule_of, with_rule, with_subcommand};
 ghost use Rattle.clap.specs.declared.builder.command.Command.TheViews.{out-Command as fields_of};
-ghost use Rattle.command_words.specs.CommandLine.{are_ascending, asking_app, calling_app, changing_app, compare_versions_app, configure_app, divert_app, first_apps, flag_rule, fourth_apps, help_app, last_apps, lines, maybe_word_rule, option_rule, options_rule, removing_app, root_rule, rooted_app, second_apps, subcommand_names, third_apps, trees_app, truename_app, undivert_app, verify_app, whole_app, with_all, with_diverted, with_forced, with_owner, with_rehearsal, without_help, word_rule, words_rule};
+ghost use Rattle.command_words.specs.CommandLine.{are_ascending, asking_app, calling_app, changing_app, compare_versions_app, configure_app, divert_app, first_apps, flag_rule, fourth_apps, help_app, install_app, last_apps, lines, maybe_word_rule, option_rule, options_rule, removing_app, root_rule, rooted_app, second_apps, subcommand_names, third_apps, truename_app, undivert_app, unpack_app, unpacking_app, verify_app, whole_app, with_all, with_diverted, with_forced, with_owner, with_rehearsal, without_help, word_rule, words_rule};
 
 use clap::{Arg, ArgAction, Command};
 use std::alloc::{AllocError, Global};
@@ -203,15 +203,29 @@ fn calling<'a>(alloc: Global, name: &'a str) -> Result<Command<'a>, AllocError>
     with_arg(changing(alloc, name)?, flag(alloc, "scripts-stderr"))
 }
 
-// A subcommand that takes trees.
-fn taking_trees<'a>(alloc: Global, name: &'a str) -> Result<Command<'a>, AllocError>
-    ensures app { IfOk result (λ c. app_of c ≡ trees_app name.entry.now) }
+// A subcommand that takes trees, without these.
+fn unpacking<'a>(alloc: Global, name: &'a str) -> Result<Command<'a>, AllocError>
+    ensures app { IfOk result (λ c. app_of c ≡ unpacking_app name.entry.now) }
     ensures local { IfOk result (λ c. (fields_of c).has_globals ≡ false) }
 {
     let command = with_arg(calling(alloc, name)?, flag(alloc, "owner-root"))?;
     let command = with_arg(command, flag(alloc, "auto-deconfigure"))?;
-    let command = with_forced(alloc, command)?;
+    with_forced(alloc, command)
+}
+
+fn install_command<'a>(alloc: Global) -> Result<Command<'a>, AllocError>
+    ensures app { IfOk result (λ c. app_of c ≡ install_app) }
+    ensures local { IfOk result (λ c. (fields_of c).has_globals ≡ false) }
+{
+    let command = with_arg(unpacking(alloc, "install")?, flag(alloc, "as-given"))?;
     with_arg(command, words(alloc, "TREE", true))
+}
+
+fn unpack_command<'a>(alloc: Global) -> Result<Command<'a>, AllocError>
+    ensures app { IfOk result (λ c. app_of c ≡ unpack_app) }
+    ensures local { IfOk result (λ c. (fields_of c).has_globals ≡ false) }
+{
+    with_arg(unpacking(alloc, "unpack")?, words(alloc, "TREE", true))
 }
 
 fn configure_command<'a>(alloc: Global) -> Result<Command<'a>, AllocError>
@@ -270,7 +284,7 @@ fn with_second<'a>(alloc: Global, whole: Command<'a>) -> Result<Command<'a>, All
     let whole = with(whole, rooted(alloc, "diversions")?)?;
     let whole = with(whole, divert_command(alloc)?)?;
     let whole = with(whole, help_command(alloc)?)?;
-    with(whole, taking_trees(alloc, "install")?)
+    with(whole, install_command(alloc)?)
 }
 
 fn with_third<'a>(alloc: Global, whole: Command<'a>) -> Result<Command<'a>, AllocError>
@@ -294,7 +308,7 @@ fn with_last<'a>(alloc: Global, whole: Command<'a>) -> Result<Command<'a>, Alloc
 {
     let whole = with(whole, truename_command(alloc)?)?;
     let whole = with(whole, undivert_command(alloc)?)?;
-    let whole = with(whole, taking_trees(alloc, "unpack")?)?;
+    let whole = with(whole, unpack_command(alloc)?)?;
     with(whole, verify_command(alloc)?)
 }
 

@@ -114,7 +114,8 @@ Example: coizkerra help install
 ";
 
 const INSTALL: &str =
-    "Unpacks the packages of trees, which dpkg-deb -R makes, and then configures them.
+    "Unpacks the packages of trees, which dpkg-deb -R makes, and then configures them. They are taken in
+rounds, so that what a package needs before its unpack is configured before.
 
   --root DIR          the root, an absolute directory; / if it isn't given
   --wait SECONDS      how long the lock of another program is waited for; 0 if it isn't given
@@ -128,6 +129,7 @@ const INSTALL: &str =
   --force-confold     an edited conffile stays, as without a flag
   --force-confnew     the package's takes the place of an edited conffile
   --force-confmiss    a deleted conffile is made again
+  --as-given          the trees are taken in the order given, all in one round
 
 Example: dpkg-deb -R hello.deb hello && coizkerra install --root /srv/root hello
 ";
@@ -282,7 +284,7 @@ impl Topic {
                 "divert [--root DIR] [--wait SECONDS] [--dry-run [--changes] [--assume-failure PKG:SCRIPT:WORD]..] (--package P | --local) [--divert TARGET] [--rename] PATH",
             Topic::Help => "help [COMMAND]",
             Topic::Install =>
-                "install [--root DIR] [--wait SECONDS] [--dry-run [--changes] [--assume-failure PKG:SCRIPT:WORD]..] [--scripts-stderr] [--owner-root] [--auto-deconfigure] [--force-confold | --force-confnew] [--force-confmiss] TREE..",
+                "install [--root DIR] [--wait SECONDS] [--dry-run [--changes] [--assume-failure PKG:SCRIPT:WORD]..] [--scripts-stderr] [--owner-root] [--auto-deconfigure] [--force-confold | --force-confnew] [--force-confmiss] [--as-given] TREE..",
             Topic::List => "list [--root DIR]",
             Topic::ListFiles => "listfiles [--root DIR] PKG",
             Topic::Purge =>

@@ -23,6 +23,8 @@ pub struct Unpacking {
     pub owners: TreeOwners,
     pub streams: ScriptStreams,
     pub forced: Forced,
+    /// An install takes the trees in the order given, all in one round.
+    pub as_given: bool,
     /// For how many seconds another program's lock is waited for.
     pub wait: u32,
 }
@@ -35,12 +37,13 @@ fn unpacking_from(
     owners: TreeOwners,
     streams: ScriptStreams,
     forced: Option<Forced>,
+    as_given: bool,
     wait: Option<u32>,
 ) -> Result<Option<Unpacking>, AllocError>
     ensures { IfOk result (λ asked. asked
         ≡ unpacking_from (option_map (λ s. s.now) root.entry)
         (option_map (λ s. map (λ t. t.now) s.now) trees.entry)
-        auto_deconfigure owners streams forced wait) }
+        auto_deconfigure owners streams forced as_given wait) }
 {
     let (Some(root), Some(trees), Some(forced), Some(wait)) = (root, trees, forced, wait) else {
         return Ok(None);
@@ -57,6 +60,7 @@ fn unpacking_from(
         owners,
         streams,
         forced,
+        as_given,
         wait,
     }))
 }
@@ -76,6 +80,7 @@ pub(crate) fn unpacking_of(
         owners_of(found),
         streams_of(found),
         forced_of(found),
+        flag_of(found, "as-given"),
         wait_of(found),
     )
 }

@@ -49,10 +49,10 @@ plain_name name = plain_from name (cut_at 58 name)
 abbrev pub plain_names : List Text → List Text
 plain_names names = map plain_name names
 
--- `install` or `unpack`, of files
-abbrev pub tree_words : Text → Options → List Text → List Text
-tree_words name o files =
-    behind_dashes (conffile_words o.forced (changing_words name o ++ cond o.auto_deconfigure (codes "--auto-deconfigure" ∷ []) [])) files
+-- `install` or `unpack`, of files; an install takes them as given
+abbrev pub tree_words : Text → Bool → Options → List Text → List Text
+tree_words name as_given o files =
+    behind_dashes (conffile_words o.forced (changing_words name o ++ cond o.auto_deconfigure (codes "--auto-deconfigure" ∷ []) []) ++ cond as_given (codes "--as-given" ∷ []) []) files
 
 -- `configure`, of all packages that wait for it where none is named
 abbrev pub configuring_words : Options → List Text → List Text

@@ -37,9 +37,9 @@ under_root o words =
     else refusal why.Administration o.admindir
 
 -- `--install FILE..` or `--unpack FILE..`
-abbrev pub trees : Action → Text → Options → List Text → Translated
-trees asked name o [] = refusal why.NoWords (name_of asked)
-trees asked name o (w ∷ ws) = under_root o (tree_words name o (w ∷ ws))
+abbrev pub trees : Action → Text → Bool → Options → List Text → Translated
+trees asked name as_given o [] = refusal why.NoWords (name_of asked)
+trees asked name as_given o (w ∷ ws) = under_root o (tree_words name as_given o (w ∷ ws))
 
 -- `--configure PKG..`, or `--configure --pending`: with no name, only that asks for all
 abbrev pub configured_by : Bool → Options → List Text → Translated
@@ -121,8 +121,8 @@ status_for false = 1
 
 -- what an action comes to, with the options and the words behind them
 abbrev pub done : Action → Options → List Text → Translated
-done action.Install o words = trees action.Install (codes "install") o words
-done action.Unpack o words = trees action.Unpack (codes "unpack") o words
+done action.Install o words = trees action.Install (codes "install") true o words
+done action.Unpack o words = trees action.Unpack (codes "unpack") false o words
 done action.Configure o words = configured o words
 done action.TriggersOnly o words = triggered o words
 done action.Remove o words = removed action.Remove (codes "remove") o words

@@ -66,18 +66,20 @@ fn push_behind(words: &mut OwnWords, names: &[Text]) -> Result<(), AllocError>
     words.push_all(names)
 }
 
-/// `install` or `unpack`, of files.
+/// `install` or `unpack`, of files. An install takes them as given, as dpkg does.
 pub(crate) fn tree_words(
     alloc: Global,
     name: &str,
+    as_given: bool,
     options: &Options,
     files: &[Text],
 ) -> Result<OwnWords, AllocError>
-    ensures { IfOk result (λ words. words ≡ tree_words name.now options.now files.now) }
+    ensures { IfOk result (λ words. words ≡ tree_words name.now as_given options.now files.now) }
 {
     let mut words = changing_words(alloc, name, options)?;
     words.push_if(options.auto_deconfigure, "--auto-deconfigure")?;
     push_conffiles(&mut words, options.forced)?;
+    words.push_if(as_given, "--as-given")?;
     push_behind(&mut words, files)?;
     Ok(words)
 }

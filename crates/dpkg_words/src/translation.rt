@@ -69,15 +69,17 @@ fn trees(
     alloc: Global,
     action: Action,
     name: &str,
+    as_given: bool,
     options: &Options,
     words: &[Text],
 ) -> Result<Translated, AllocError>
-    ensures { IfOk result (λ t. t ≡ trees action name.now options.now words.now) }
+    ensures { IfOk result (λ t. t ≡ trees action name.now as_given options.now words.now) }
 {
     if words.is_empty() {
         return refusal(alloc, Why::NoWords, name_of(action));
     }
-    under_root(alloc, options, tree_words(alloc, name, options, words)?)
+    let own = tree_words(alloc, name, as_given, options, words)?;
+    under_root(alloc, options, own)
 }
 
 // All packages that wait for it, or those that are named.
@@ -247,8 +249,8 @@ fn done(
     ensures { IfOk result (λ t. t ≡ done action options.now words.now) }
 {
     match action {
-        Action::Install => trees(alloc, action, "install", options, words),
-        Action::Unpack => trees(alloc, action, "unpack", options, words),
+        Action::Install => trees(alloc, action, "install", true, options, words),
+        Action::Unpack => trees(alloc, action, "unpack", false, options, words),
         Action::Configure => configured(alloc, options, words),
         Action::TriggersOnly => triggered(alloc, options, words),
         Action::Remove => removed(alloc, action, "remove", options, words),

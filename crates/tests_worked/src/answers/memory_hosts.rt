@@ -16,6 +16,7 @@ mod override_rows;
 mod query_rows;
 mod rehearsal_rows;
 mod removal_rows;
+mod round_rows;
 mod script_rows;
 mod shown_rows;
 mod tree_rows;

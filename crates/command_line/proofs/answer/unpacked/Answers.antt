@@ -17,8 +17,8 @@ returns-in-Ok-clause-ended g c =
     let held = g.O.Write.contents c.args.out.now in
     let printed = g.O.Write.contents c.unpack_telling-ended.new.printer.out.now in
     let left = c.units_left.ensures.left lines held printed (c.in-Ok.ensures.told refl) in
-    let same : units_answer lines c.last.result.now c.done_status.result ≡ done_answer came =
-    ap (λ (last : Option AUnit). units_answer lines last c.done_status.result) c.last.ensures ∙ ap (λ n. units_answer lines (last_in came) n) c.done_status.ensures.value
+    let same : units_answer lines c.last-last.result.now c.done_status.result ≡ done_answer came =
+    ap (λ (last : Option AUnit). units_answer lines last c.done_status.result) c.last-last.ensures ∙ ap (λ n. units_answer lines (last_in came) n) c.done_status.ensures.value
     ∙ sym (done_lines _ c.args.policy c.args.unpacking.now came _ _ _ _ ended.2.ran.ran) in
     let notes = c.in-Ok.came.left in
     (Ok c.in-Ok.came, ended, subst (λ (h : Option (List ℕ)). IsLeft (with_notes notes (done_answer came)) held h c.units_left.result) (search rules) (subst (λ (a : Answer). IsLeft (with_notes notes a) held printed c.units_left.result) same left))

@@ -6,6 +6,6 @@ use Rattle.command_words.proofs.command.with_second.Goals as goal
 pub returns : goal.returns
 returns c =
     IfOk-weaker c.with-4.result _ _ (λ r e. four_added (app_of c.args.whole) (app_of c.in_ok-whole.whole) (app_of c.in_ok-whole-2.whole) (app_of c.in_ok-whole-3.whole) (app_of r)
-    (app_of c.in_ok-rooted.field-0) (app_of c.in_ok-divert_command.field-0) (app_of c.in_ok-help_command.field-0) (app_of c.in_ok-taking_trees.field-0) _ _ _ _
+    (app_of c.in_ok-rooted.field-0) (app_of c.in_ok-divert_command.field-0) (app_of c.in_ok-help_command.field-0) (app_of c.in_ok-install_command.field-0) _ _ _ _
     c.in_ok-whole.ensures c.in_ok-rooted.ensures.app c.in_ok-whole-2.ensures c.in_ok-divert_command.ensures.app c.in_ok-whole-3.ensures c.in_ok-help_command.ensures.app
-    e c.in_ok-taking_trees.ensures.app) c.with-4.ensures
+    e c.in_ok-install_command.ensures.app) c.with-4.ensures

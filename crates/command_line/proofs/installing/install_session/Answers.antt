@@ -1,0 +1,31 @@
+use Rattle.std.proofs.Common.{refl}
+use Rattle.std.specs.Vec.Iter.{into_iter_items}
+use Rattle.command_line.specs.Reading.{words_before}
+use Rattle.command_line.proofs.Steps.{reads_keep}
+use Rattle.command_line.proofs.Trees.{gone_on, read_for}
+use Rattle.command_line.proofs.installing.install_session.Goals as goal
+
+pub returns-clause-same_hosts : goal.returns-clause-same_hosts
+returns-clause-same_hosts g c =
+    let run = c.install.ensures.run c.requires.open in
+    reads_keep _ (λ t. t.hosts.ghost_name) (λ s t x h. h.0) run.0 c.args.trees.now c.install.new.trees run.1
+
+pub returns-clause-done : goal.returns-clause-done
+returns-clause-done g c =
+    let run = c.install.ensures.run c.requires.open in
+    let old = c.args.trees.now in
+    let new = c.install.new.trees in
+    record {
+      candidates = run.0;
+      left = into_iter_items new.left.now;
+      read = read_for _ g.S.Hosts (λ t. t.hosts.now) (λ t. into_iter_items t.left.now) (λ t. t.asked.now) (λ t. t.words.now) (λ s x t h. (h.1, h.2, h.3, h.4, h.5)) old.asked.now _ run.0 old new refl c.requires.behind run.1;
+      all = record { install = run.2; counts = c.install.ensures.counts c.requires.open; told = c.install.ensures.told };
+    }
+
+pub returns-clause-on : goal.returns-clause-on
+returns-clause-on g c =
+    let run = c.install.ensures.run c.requires.open in
+    gone_on _ g.S.Hosts (λ t. t.hosts.now) (λ t. into_iter_items t.left.now) (λ t. t.asked.now) (λ t. t.words.now) (λ s x t h. (h.1, h.2, h.3, h.4, h.5)) run.0 c.args.trees.now c.install.new.trees run.1
+
+pub returns-clause-watched : goal.returns-clause-watched
+returns-clause-watched g c = (g.S.Opened.Host.state c.args.session.now.host, c.install.ensures.watched)
