@@ -3,10 +3,12 @@ use Rattle.std.specs.Prelude.{◌≡◌, ◌<◌, ◌⊎◌, ⊤, ℕ, Bool, tru
 use Rattle.host_files.specs.Replay.{Model, replay}
 use Rattle.command_words.specs.Commands.{asked_of, rehearsal_of}
 use Rattle.command_words.specs.Topics.{named_in}
+use Rattle.dpkg_words.specs.Arguments.{behind_dashes}
 use Rattle.dpkg_words.specs.Names.{speaks_dpkg}
 use Rattle.dpkg_words.specs.Translated.{translated}
+use Rattle.dpkg_words.specs.declared.translation.Gathered.{Gathered}
 use Rattle.dpkg_words.specs.declared.translation.Translated.{Translated}
-use Rattle.dpkg_words.specs.declared.translation.Translated.TheVariants.{Ours, Prints, Selects, Refused}
+use Rattle.dpkg_words.specs.declared.translation.Translated.TheVariants.{Ours, Gathers, Prints, Selects, Refused}
 use Rattle.command_line.specs.Rehearsed.{IsEndOf}
 use Rattle.command_line.specs.Roots.{Around}
 
@@ -29,10 +31,15 @@ abbrev pub IsAnswered : Model → List (List ℕ) → ℕ → Type 0
 IsAnswered model words status = (before after : ℕ)
     × IsEndOf (around_real model (before < after)) (rehearsal_of words) (named_in words) (asked_of words) status
 
+-- Words are answered that have some files behind them, which stand below the directories, unless none can be had.
+abbrev pub IsGatheredAnswer : Model → Gathered → ℕ → Type 0
+IsGatheredAnswer model gathered status = ((files : List (List ℕ)) × IsAnswered model (behind_dashes gathered.front files) status) ⊎ (status ≡ 2)
+
 -- What dpkg's words come to: the program's own words are answered, a text is printed with its status, or with 2 where that can't
 -- be done, selections are taken or not, and a refusal ends with 2.
 abbrev pub IsDpkgAnswer : Model → Translated → ℕ → Type 0
 IsDpkgAnswer model (Ours words) status = IsAnswered model words status
+IsDpkgAnswer model (Gathers gathered) status = IsGatheredAnswer model gathered status
 IsDpkgAnswer model (Prints printed) status = (status ≡ printed.status) ⊎ (status ≡ 2)
 IsDpkgAnswer model Selects status = (status ≡ 0) ⊎ (status ≡ 2)
 IsDpkgAnswer model (Refused line) status = status ≡ 2

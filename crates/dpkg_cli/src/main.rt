@@ -14,12 +14,13 @@
 ghost use Rattle.std.specs.Prelude.{◌≡◌, ◌≤◌, ◌⊎◌, map, string_bytes};
 ghost use Rattle.std.specs.Process.{exit_status};
 ghost use Rattle.dpkg_words.specs.Translated.{translated};
-ghost use Rattle.dpkg_cli.specs.Runs.{IsAnswered, IsDpkgAnswer, IsNamedAnswer, are_dpkgs};
+ghost use Rattle.dpkg_cli.specs.Runs.{IsAnswered, IsDpkgAnswer, IsGatheredAnswer, IsNamedAnswer, are_dpkgs};
 
 mod architectures;
 mod archives;
 mod directories;
 mod fixed_lines;
+mod gathering;
 mod locks;
 mod mask;
 mod progress;
@@ -29,8 +30,9 @@ mod watched;
 
 use command_line::{FAILED, run_words};
 use directories::Directories;
-use dpkg_words::{Printed, Translated, are_set_anyway, speaks_dpkg, translate};
+use dpkg_words::{Gathered, Printed, Translated, are_set_anyway, speaks_dpkg, translate};
 use fixed_lines::FixedLines;
+use gathering::archives_below;
 use host_files::{Disk, Unknown};
 use mask::{Masked, under_mask};
 use progress::{Beside, Going, Line, going_through};
@@ -155,12 +157,32 @@ fn select(rt: HostRuntime) -> u8
     }
 }
 
+// The words with the archives behind them that stand below directories.
+fn run_gathered<D: Disk>(rt: HostRuntime, going: Option<Going>, gathered: &Gathered) -> u8
+    ensures { IsGatheredAnswer D.Disk.model gathered.now result }
+{
+    let Ok(found) = archives_below(&rt, gathered.directories.as_slice()) else {
+        return refuse(rt, "error: a directory behind --recursive can't be read\n");
+    };
+    if found.as_slice().is_empty() {
+        return refuse(
+            rt,
+            "error: no archive (*.deb) stands below the directories\n",
+        );
+    }
+    match gathered.front.copy_with(found.as_slice()) {
+        Ok(words) => run::<D>(rt, going, words.as_slice()),
+        Err(_) => refuse(rt, "broken memory\n"),
+    }
+}
+
 // What dpkg's words come to, over real directories.
 fn run_translated<D: Disk>(rt: HostRuntime, going: Option<Going>, translated: &Translated) -> u8
     ensures { IsDpkgAnswer D.Disk.model translated.now result }
 {
     match translated {
         Translated::Ours(words) => run::<D>(rt, going, words.as_slice()),
+        Translated::Gathers(gathered) => run_gathered::<D>(rt, going, gathered),
         Translated::Prints(printed) => print(rt, printed),
         Translated::Selects => select(rt),
         Translated::Refused(line) => refuse(rt, line.as_str()),
@@ -197,12 +219,25 @@ fn begin(rt: &HostRuntime, given: &[String], words: &[String]) -> (Option<Going>
     (going, masked)
 }
 
+// The same of words that lack their files.
+fn begin_gathered(
+    rt: &HostRuntime,
+    given: &[String],
+    gathered: &Gathered,
+) -> (Option<Going>, Masked) {
+    match gathered.front.copy_with(gathered.directories.as_slice()) {
+        Ok(own) => begin(rt, given, own.as_slice()),
+        Err(_) => (None, Masked::Here),
+    }
+}
+
 fn begin_named(rt: &HostRuntime, words: &[String]) -> (Option<Going>, Masked) {
     if !are_dpkgs(words) {
         return begin(rt, words, words);
     }
     match translate(rt.alloc(), words) {
         Ok(Translated::Ours(own)) => begin(rt, words, own.as_slice()),
+        Ok(Translated::Gathers(gathered)) => begin_gathered(rt, words, &gathered),
         _ => (None, Masked::Here),
     }
 }

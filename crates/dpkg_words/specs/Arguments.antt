@@ -49,10 +49,10 @@ plain_name name = plain_from name (cut_at 58 name)
 abbrev pub plain_names : List Text → List Text
 plain_names names = map plain_name names
 
--- `install` or `unpack`, of files; an install takes them as given
-abbrev pub tree_words : Text → Bool → Options → List Text → List Text
-tree_words name as_given o files =
-    behind_dashes (conffile_words o.forced (changing_words name o ++ cond o.auto_deconfigure (codes "--auto-deconfigure" ∷ []) []) ++ cond as_given (codes "--as-given" ∷ []) []) files
+-- `install` or `unpack`, before the files; an install takes them as given
+abbrev pub tree_front : Text → Bool → Options → List Text
+tree_front name as_given o =
+    conffile_words o.forced (changing_words name o ++ cond o.auto_deconfigure (codes "--auto-deconfigure" ∷ []) []) ++ cond as_given (codes "--as-given" ∷ []) []
 
 -- `configure`, of all packages that wait for it where none is named
 abbrev pub configuring_words : Options → List Text → List Text

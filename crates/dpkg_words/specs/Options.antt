@@ -60,6 +60,7 @@ flag_of name =
     else if bytes_eq name (codes "auto-deconfigure") then Some flag.AutoDeconfigure
     else if bytes_eq name (codes "pending") then Some flag.Pending
     else if bytes_eq name (codes "robot") then Some flag.Robot
+    else if bytes_eq name (codes "recursive") then Some flag.Recursive
     else if bytes_eq name (codes "triggers") then Some flag.Idle
     else if bytes_eq name (codes "no-triggers") then Some flag.Idle
     else if bytes_eq name (codes "no-pager") then Some flag.Idle
@@ -107,6 +108,7 @@ long_name letter =
     else if nat_eq letter 86 then Some (codes "verify")
     else if nat_eq letter 66 then Some (codes "auto-deconfigure")
     else if nat_eq letter 97 then Some (codes "pending")
+    else if nat_eq letter 82 then Some (codes "recursive")
     else if nat_eq letter 104 then Some (codes "help")
     else if nat_eq letter 63 then Some (codes "help")
     else None

@@ -31,6 +31,7 @@ start = record {
     auto_deconfigure = false;
     pending = false;
     robot = false;
+    recursive = false;
     forced = nothing;
   };
   wants = None;
@@ -54,6 +55,7 @@ with_flag flag.NoAct o = record o { no_act = true }
 with_flag flag.AutoDeconfigure o = record o { auto_deconfigure = true }
 with_flag flag.Pending o = record o { pending = true }
 with_flag flag.Robot o = record o { robot = true }
+with_flag flag.Recursive o = record o { recursive = true }
 with_flag flag.Idle o = o
 
 -- an option without a value, or one whose value the next word is

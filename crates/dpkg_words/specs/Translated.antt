@@ -2,7 +2,7 @@
 use Rattle.std.specs.Prelude.{ℕ, ◌&&◌, ◌||◌, ◌==◌, Bool, true, false, not, List, [], ◌∷◌, Option, Some, None, codes, if◌then◌else◌, is_some}
 use Rattle.std.specs.List.{list_any}
 use Rattle.std.specs.Str.{bytes_eq}
-use Rattle.dpkg_words.specs.Arguments.{asking_words, behind_dashes, configuring_words, plain_names, removing_words, tree_words}
+use Rattle.dpkg_words.specs.Arguments.{asking_words, behind_dashes, configuring_words, plain_names, removing_words, tree_front}
 use Rattle.dpkg_words.specs.Options.{Text, name_of}
 use Rattle.dpkg_words.specs.Reading.{administration_of, read_all}
 use Rattle.dpkg_words.specs.Refusals.{fault_line}
@@ -16,7 +16,7 @@ use Rattle.dpkg_words.specs.declared.reading.Reading.{Reading}
 use Rattle.dpkg_words.specs.declared.refusals.Why.{Why}
 use Rattle.dpkg_words.specs.declared.refusals.Why.TheVariants as why
 use Rattle.dpkg_words.specs.declared.translation.Translated.{Translated}
-use Rattle.dpkg_words.specs.declared.translation.Translated.TheVariants.{Ours, Prints, Selects, Refused}
+use Rattle.dpkg_words.specs.declared.translation.Translated.TheVariants.{Ours, Gathers, Prints, Selects, Refused}
 
 abbrev pub refusal : Why → Text → Translated
 refusal why word = Refused (fault_line why word)
@@ -30,16 +30,24 @@ is_rooted [] = true
 is_rooted (c ∷ cs) = c == 47
 
 -- the administration is that of the root, and the root is absolute
-abbrev pub under_root : Options → List Text → Translated
-under_root o words =
+abbrev pub rooted : Options → Translated → Translated
+rooted o come =
     if bytes_eq o.admindir (administration_of o.instdir)
-    then (if is_rooted o.instdir then Ours words else refusal why.RelativeRoot o.instdir)
+    then (if is_rooted o.instdir then come else refusal why.RelativeRoot o.instdir)
     else refusal why.Administration o.admindir
+
+abbrev pub under_root : Options → List Text → Translated
+under_root o words = rooted o (Ours words)
+
+-- words before files: behind them stand these, or with `--recursive` the archives below these directories
+abbrev pub over_files : Bool → List Text → List Text → Translated
+over_files true front files = Gathers (record { front = front; directories = files })
+over_files false front files = Ours (behind_dashes front files)
 
 -- `--install FILE..` or `--unpack FILE..`
 abbrev pub trees : Action → Text → Bool → Options → List Text → Translated
 trees asked name as_given o [] = refusal why.NoWords (name_of asked)
-trees asked name as_given o (w ∷ ws) = under_root o (tree_words name as_given o (w ∷ ws))
+trees asked name as_given o (w ∷ ws) = rooted o (over_files o.recursive (tree_front name as_given o) (w ∷ ws))
 
 -- `--configure PKG..`, or `--configure --pending`: with no name, only that asks for all
 abbrev pub configured_by : Bool → Options → List Text → Translated

@@ -1,6 +1,6 @@
 // The program's own words for what dpkg's ask for.
 ghost use Rattle.std.specs.Prelude.{◌≡◌, IfOk, OnOk};
-ghost use Rattle.dpkg_words.specs.Arguments.{asking_words, behind_dashes, changing_words, conffile_words, configuring_words, is_plain, keeps, own_words, plain_name, plain_names, removing_words, root_of, takes, tree_words};
+ghost use Rattle.dpkg_words.specs.Arguments.{asking_words, behind_dashes, changing_words, conffile_words, configuring_words, is_plain, keeps, own_words, plain_name, plain_names, removing_words, root_of, takes, tree_front};
 
 use crate::forces::Forced;
 use crate::own_words::OwnWords;
@@ -66,21 +66,19 @@ fn push_behind(words: &mut OwnWords, names: &[Text]) -> Result<(), AllocError>
     words.push_all(names)
 }
 
-/// `install` or `unpack`, of files. An install takes them as given, as dpkg does.
-pub(crate) fn tree_words(
+/// `install` or `unpack`, before the files. An install takes them as given, as dpkg does.
+pub(crate) fn tree_front(
     alloc: Global,
     name: &str,
     as_given: bool,
     options: &Options,
-    files: &[Text],
 ) -> Result<OwnWords, AllocError>
-    ensures { IfOk result (λ words. words ≡ tree_words name.now as_given options.now files.now) }
+    ensures { IfOk result (λ words. words ≡ tree_front name.now as_given options.now) }
 {
     let mut words = changing_words(alloc, name, options)?;
     words.push_if(options.auto_deconfigure, "--auto-deconfigure")?;
     push_conffiles(&mut words, options.forced)?;
     words.push_if(as_given, "--as-given")?;
-    push_behind(&mut words, files)?;
     Ok(words)
 }
 

@@ -3,8 +3,8 @@
 //! # What is proved
 //!
 //! `translate` gives of dpkg's words exactly what its definition has (specs/), which is a table in
-//! dpkg's terms: the program's own words, a text with a status, or a refusal that names the option
-//! that isn't taken. `speaks_dpkg` tells by which names of the program its words are dpkg's.
+//! dpkg's terms: the program's own words, also with directories behind which archives are to be
+//! found, a text with a status, or a refusal that names the option that isn't taken. `speaks_dpkg` tells by which names of the program its words are dpkg's.
 #![tactic(auto)]
 
 mod arguments;
@@ -22,4 +22,4 @@ mod words;
 pub use names::speaks_dpkg;
 pub use own_words::OwnWords;
 pub use selections::are_set_anyway;
-pub use translation::{Printed, Translated, translate};
+pub use translation::{Gathered, Printed, Translated, translate};

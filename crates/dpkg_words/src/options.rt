@@ -31,6 +31,7 @@ pub(crate) enum Flag {
     AutoDeconfigure,
     Pending,
     Robot,
+    Recursive,
     /// It changes nothing.
     Idle,
 }
@@ -111,6 +112,7 @@ fn flag_of(name: &str) -> Option<Flag>
         "auto-deconfigure" => Some(Flag::AutoDeconfigure),
         "pending" => Some(Flag::Pending),
         "robot" => Some(Flag::Robot),
+        "recursive" => Some(Flag::Recursive),
         "triggers" => Some(Flag::Idle),
         "no-triggers" => Some(Flag::Idle),
         "no-pager" => Some(Flag::Idle),
@@ -195,6 +197,7 @@ fn long_name(letter: u8) -> Option<&'static str>
         b'V' => Some("verify"),
         b'B' => Some("auto-deconfigure"),
         b'a' => Some("pending"),
+        b'R' => Some("recursive"),
         b'h' => Some("help"),
         b'?' => Some("help"),
         _ => None,

@@ -19,6 +19,8 @@ impl Model for OwnWords {
 }
 
 impl OwnWords {
+    ghost use Rattle.dpkg_words.specs.Arguments.{behind_dashes};
+
     pub(crate) fn new(alloc: Global) -> Self
         ensures { result ≡ [] }
     {
@@ -53,6 +55,20 @@ impl OwnWords {
             self.push(word.as_str())?;
         }
         Ok(())
+    }
+
+    /// A copy of them with these behind, of which none is a flag.
+    pub fn copy_with(&self, files: &[Text]) -> Result<OwnWords, AllocError>
+        ensures { IfOk result (λ words. words ≡ behind_dashes self.now files.now) }
+    {
+        let mut words = OwnWords::new(self.alloc);
+        let own = self.as_slice();
+        for word in own {
+            words.push(word.as_str())?;
+        }
+        words.push("--")?;
+        words.push_all(files)?;
+        Ok(words)
     }
 
     pub fn as_slice(&self) -> &[String]

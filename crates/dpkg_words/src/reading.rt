@@ -21,6 +21,8 @@ pub(crate) struct Options {
     pub(crate) auto_deconfigure: bool,
     pub(crate) pending: bool,
     pub(crate) robot: bool,
+    /// Words are directories, of which all archives are taken.
+    pub(crate) recursive: bool,
     pub(crate) forced: Forced,
 }
 
@@ -55,6 +57,7 @@ fn start(alloc: Global) -> Result<Reading, AllocError>
         auto_deconfigure: false,
         pending: false,
         robot: false,
+        recursive: false,
         forced: Forced::none(),
     };
     Ok(Reading {
@@ -112,6 +115,10 @@ fn with_flag(flag: Flag, options: Options) -> Options
         },
         Flag::Robot => Options {
             robot: true,
+            ..options
+        },
+        Flag::Recursive => Options {
+            recursive: true,
             ..options
         },
         Flag::Idle => options,

@@ -1,15 +1,15 @@
 // What dpkg's words come to.
 ghost use Rattle.std.specs.Prelude.{◌≡◌, IfOk, map, string_bytes};
-ghost use Rattle.dpkg_words.specs.Translated.{asked_one, audited, behind_program, compared, configured, done, ended_by, is_pattern, is_rooted, is_searchable, is_sign, printed, refusal, removed, searched, selecting, status_for, told, translated, translated_from, trees, triggered, under_root, verified};
+ghost use Rattle.dpkg_words.specs.Translated.{asked_one, audited, behind_program, compared, configured, done, ended_by, is_pattern, is_rooted, is_searchable, is_sign, over_files, printed, refusal, removed, rooted, searched, selecting, status_for, told, translated, translated_from, trees, triggered, under_root, verified};
 
-use crate::arguments::{asking_words, configuring_words, plain_names, removing_words, tree_words};
+use crate::arguments::{asking_words, configuring_words, plain_names, removing_words, tree_front};
 use crate::options::{Action, name_of};
 use crate::own_words::OwnWords;
 use crate::reading::{Options, Outcome, Reading, administration_of, read_all};
 use crate::refusals::{Why, fault_line};
 use crate::screens::{help_screen, version_of};
 use std::alloc::{AllocError, Global};
-use texts::Text;
+use texts::{Text, Texts};
 
 /// A text for standard output, and the status.
 #[derive(Drop)]
@@ -18,11 +18,20 @@ pub struct Printed {
     pub status: u8,
 }
 
+/// The program's own words before files, and the directories below which these stand.
+#[derive(Drop)]
+pub struct Gathered {
+    pub front: OwnWords,
+    pub directories: Texts,
+}
+
 /// What dpkg's words come to.
 #[derive(Drop)]
 pub enum Translated {
     /// The program's own words, which are carried out.
     Ours(OwnWords),
+    /// The same, behind which all archives below some directories come.
+    Gathers(Gathered),
     Prints(Printed),
     /// What standard input selects is looked at.
     Selects,
@@ -51,9 +60,9 @@ fn is_rooted(instdir: &str) -> bool
     instdir.is_empty() || instdir.as_bytes()[0] == b'/'
 }
 
-// Words under a root of which the administration is its own.
-fn under_root(alloc: Global, options: &Options, words: OwnWords) -> Result<Translated, AllocError>
-    ensures { IfOk result (λ t. t ≡ under_root options.now words) }
+// What words come to, under a root of which the administration is its own.
+fn rooted(alloc: Global, options: &Options, come: Translated) -> Result<Translated, AllocError>
+    ensures { IfOk result (λ t. t ≡ rooted options.now come) }
 {
     let own = administration_of(alloc, options.instdir.as_str())?;
     if options.admindir.as_str() != own.as_str() {
@@ -62,7 +71,38 @@ fn under_root(alloc: Global, options: &Options, words: OwnWords) -> Result<Trans
     if !is_rooted(options.instdir.as_str()) {
         return refusal(alloc, Why::RelativeRoot, options.instdir.as_str());
     }
-    Ok(Translated::Ours(words))
+    Ok(come)
+}
+
+fn under_root(alloc: Global, options: &Options, words: OwnWords) -> Result<Translated, AllocError>
+    ensures { IfOk result (λ t. t ≡ under_root options.now words) }
+{
+    rooted(alloc, options, Translated::Ours(words))
+}
+
+fn copied(alloc: Global, words: &[Text]) -> Result<Texts, AllocError>
+    ensures { IfOk result (λ copies. copies ≡ words.now) }
+{
+    let mut copies = Texts::new(alloc);
+    for word in words {
+        copies.push(word.copy()?)?;
+    }
+    Ok(copies)
+}
+
+fn over_files(
+    alloc: Global,
+    recursive: bool,
+    front: OwnWords,
+    files: &[Text],
+) -> Result<Translated, AllocError>
+    ensures { IfOk result (λ t. t ≡ over_files recursive front files.now) }
+{
+    if recursive {
+        let directories = copied(alloc, files)?;
+        return Ok(Translated::Gathers(Gathered { front, directories }));
+    }
+    Ok(Translated::Ours(front.copy_with(files)?))
 }
 
 fn trees(
@@ -78,8 +118,9 @@ fn trees(
     if words.is_empty() {
         return refusal(alloc, Why::NoWords, name_of(action));
     }
-    let own = tree_words(alloc, name, as_given, options, words)?;
-    under_root(alloc, options, own)
+    let front = tree_front(alloc, name, as_given, options)?;
+    let come = over_files(alloc, options.recursive, front, words)?;
+    rooted(alloc, options, come)
 }
 
 // All packages that wait for it, or those that are named.
