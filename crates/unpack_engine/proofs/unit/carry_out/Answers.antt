@@ -18,7 +18,7 @@ use Rattle.unpack_engine.specs.Touched.{AreTold, deconfigured}
 use Rattle.unpack_engine.specs.Units.{HasCarriedOut, HasLeft, HasLeftUnless, IsTouched, MayLeave, ground_by}
 use Rattle.unpack_engine.proofs.Alone.{alone_then, places_begin, rows_beside}
 use Rattle.unpack_engine.proofs.Carrying.{carried_out}
-use Rattle.unpack_engine.proofs.Sequel.{called_then, denied_then, if_ok_counted, if_ok_one}
+use Rattle.unpack_engine.proofs.Sequel.{called_then, counts_behind, denied_then, if_ok_counted, if_ok_one}
 use Rattle.unpack_engine.proofs.UnitMoments.{plan_begins, plan_moments}
 use Rattle.unpack_engine.proofs.Whole.{can_write_still, if_ok_both, if_ok_with, parts_info, parts_kept, parts_kinds, parts_laid, parts_length, parts_loose, parts_rows, parts_sound, parts_stand, parts_touched}
 use Rattle.scattered_losses.proofs.GoingApart.{gone_by, later_of, works_behind}
@@ -145,3 +145,6 @@ returns-in-Ok-clause-apart g c =
 
 pub returns-clause-apart : goal.returns-clause-apart
 returns-clause-apart g c = λ h. ((c.begin_and_run.ensures.apart h).0, tt)
+
+pub returns-in-Ok-clause-counts : goal.returns-in-Ok-clause-counts
+returns-in-Ok-clause-counts g c = counts_behind (g.H.Host.state c.args.host.now) (g.H.Host.state c.begin_and_run.new.host) (g.H.Host.state c.finish.new.host) c.finish.result c.in-Ok.ensures.counts c.finish.ensures.counts
