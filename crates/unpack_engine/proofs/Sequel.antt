@@ -1,5 +1,5 @@
 -- The beginning of a unit and its rows, one after the other.
-use Rattle.std.proofs.Common.{◌≡◌, IsTrue, List, [], ◌++◌, Option, Some, None, refl, ap, ◌∙◌, arith}
+use Rattle.std.proofs.Common.{◌≡◌, IsTrue, List, [], ◌++◌, Option, Some, None, refl, ap, ◌∙◌, ◌+◌, arith}
 use Rattle.std.specs.Prelude.{Result, Ok, Err, IfOk, IfSome}
 use Rattle.host_core.specs.World.{World}
 use Rattle.host_core.specs.Events.{Event, Ran, scripts_of}
