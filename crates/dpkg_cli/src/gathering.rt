@@ -16,7 +16,7 @@ fn push_entries(rt: &HostRuntime, directory: &str, places: &mut Vec<String>) -> 
         names.push(String::from_str(rt.alloc(), entry.file_name())?)?;
     }
     names.sort_unstable();
-    while let Some(name) = names.pop() {
+    for name in names.as_slice().iter().rev() {
         let name = name.as_str();
         places.push(format!(in rt.alloc(); "{directory}/{name}")?)?;
     }
