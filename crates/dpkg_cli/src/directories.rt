@@ -173,6 +173,7 @@ impl<'a, D: Disk> Directories<'a, D> {
             host,
             line: self.line,
             architectures: Architectures::new(self.rt.alloc()),
+            written: None,
         }
     }
 

@@ -25,18 +25,22 @@ mod locks;
 mod mask;
 mod progress;
 mod standard_streams;
+mod status_fd;
 mod terminal;
 mod watched;
 
 use command_line::{FAILED, run_words};
 use directories::Directories;
-use dpkg_words::{Gathered, Printed, Translated, are_set_anyway, speaks_dpkg, translate};
+use dpkg_words::{
+    Gathered, Printed, Translated, are_set_anyway, speaks_dpkg, status_fd, translate,
+};
 use fixed_lines::FixedLines;
 use gathering::archives_below;
 use host_files::{Disk, Unknown};
 use mask::{Masked, under_mask};
 use progress::{Beside, Going, Line, going_through};
 use standard_streams::fill_missing;
+use status_fd::StatusFd;
 use std::cell::Cell;
 use std::io::{ErrorKind, Input, IsTerminal, Write};
 use std::process::ExitCode;
@@ -57,13 +61,19 @@ fn complaint(error: &io::Error) -> &'static str {
 }
 
 // The line of progress, where something goes on and the terminal can renew it.
-fn line_of<'a>(rt: HostRuntime, going: Option<Going>, told: &'a Cell<usize>) -> Line<'a> {
+fn line_of<'a>(
+    rt: HostRuntime,
+    going: Option<Going>,
+    told: &'a Cell<usize>,
+    frontend: &'a StatusFd,
+) -> Line<'a> {
     let is_shown = going.is_some() && renews_lines(&rt);
     Line {
         rt,
         going: if is_shown { going } else { None },
         columns: if is_shown { columns_of(&rt) } else { 0 },
         told,
+        frontend,
     }
 }
 
@@ -77,6 +87,18 @@ fn are_dpkgs(words: &[String]) -> bool
     }
 }
 
+// The frontend that dpkg's words name.
+fn frontend_of(rt: &HostRuntime) -> StatusFd {
+    let alloc = rt.alloc();
+    match words_of(rt) {
+        Ok(words) if are_dpkgs(words.as_slice()) => match status_fd(words.as_slice()) {
+            Some(number) => StatusFd::open(rt, number),
+            None => StatusFd::none(alloc),
+        },
+        _ => StatusFd::none(alloc),
+    }
+}
+
 // What the words ask for, over real directories. Where a person looks on there is the line of progress beside it, and the line
 // behind `damaged` that tells what was expected; a program that reads standard error gets the fixed lines alone.
 fn run<D: Disk>(rt: HostRuntime, going: Option<Going>, words: &[String]) -> u8
@@ -86,7 +108,8 @@ fn run<D: Disk>(rt: HostRuntime, going: Option<Going>, words: &[String]) -> u8
     let stderr = rt.stderr();
     let person = stderr.is_terminal();
     let told = Cell::new(0);
-    let line = line_of(rt, going, &told);
+    let frontend = frontend_of(&rt);
+    let line = line_of(rt, going, &told, &frontend);
     let mut hosts = Directories::<D>::new(rt, line);
     let mut out = Beside {
         line,

@@ -24,24 +24,37 @@ pub(crate) enum Masked {
     There(Option<i32>),
 }
 
-// The value behind `Umask:`.
-fn mask_in(status: &str) -> Option<&str> {
+// The value behind a word at the beginning of a line.
+fn value_in<'a>(status: &'a str, word: &str) -> Option<&'a str> {
     for line in status.lines() {
-        if let Some(mask) = line.strip_prefix("Umask:") {
-            return Some(mask.trim());
+        if let Some(value) = line.strip_prefix(word) {
+            return Some(value.trim());
         }
     }
     None
 }
 
+// What the system tells of this program behind a word.
+fn told(rt: &HostRuntime, word: &str) -> Option<String> {
+    let status = fs::read_to_string(rt, "/proc/self/status").ok()?;
+    String::from_str(rt.alloc(), value_in(status.as_str(), word)?).ok()
+}
+
 // The mask, in octal digits, where the system tells it.
 fn mask_of(rt: &HostRuntime) -> Option<String> {
-    let status = fs::read_to_string(rt, "/proc/self/status").ok()?;
-    String::from_str(rt.alloc(), mask_in(status.as_str())?).ok()
+    told(rt, "Umask:")
 }
 
 fn is_marked(rt: &HostRuntime) -> bool {
     env::var(rt, MARK).is_ok()
+}
+
+/// The number of the program that started this one anew for the mask, if one did.
+pub(crate) fn parent_of(rt: &HostRuntime) -> Option<String> {
+    if !is_marked(rt) {
+        return None;
+    }
+    told(rt, "PPid:")
 }
 
 fn copy_of<S: AsFd>(stream: &S) -> io::Result<Stdio> {

@@ -1,6 +1,7 @@
 // What is being done and how far it is: one line on standard error that is renewed, where that stream is a terminal.
 ghost use Rattle.std.specs.Prelude.{◌≡◌};
 
+use crate::status_fd::StatusFd;
 use command_words::{Asked, command_of, rehearsal_of};
 use shown_lines::shown;
 use std::alloc::{AllocError, Global};
@@ -29,6 +30,8 @@ pub(crate) struct Line<'a> {
     pub(crate) columns: usize,
     /// How many units are told.
     pub(crate) told: &'a Cell<usize>,
+    /// Where a frontend is told what is noted.
+    pub(crate) frontend: &'a StatusFd,
 }
 
 /// A stream beside which the line stands: what is written takes the line's place.
@@ -169,6 +172,7 @@ impl<'a, W: Write> Write for Beside<'a, W> {
         self.line.clear();
         if self.tells {
             self.line.count();
+            self.line.frontend.tell_replies(buf);
         }
         self.writer.write(buf)
     }

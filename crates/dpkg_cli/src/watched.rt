@@ -3,18 +3,21 @@ ghost use Rattle.std.specs.Prelude.{◌≡◌};
 
 use crate::architectures::Architectures;
 use crate::progress::Line;
+use crate::status_fd::lines_of_note;
 use host_core::{Access, Call, Host, HostFault, Keep, Kind, Listing, Node, Outcome, RootPath};
 use host_files::{Disk, FilesHost};
 use std::str::from_utf8;
 use texts::Text;
 
 /// All is done by the host. The line is gone before a script is started, and names each package as its record changes; a
-/// script is told the architecture that its package's record has.
+/// script is told the architecture that its package's record has; a frontend is told each state once its note stands.
 #[derive(Drop)]
 pub(crate) struct Watched<'a, D: Disk> {
     pub(crate) host: FilesHost<D>,
     pub(crate) line: Line<'a>,
     pub(crate) architectures: Architectures,
+    /// What a frontend is to be told of the note that was written last, once it has its name.
+    pub(crate) written: Option<String>,
 }
 
 fn is_note(path: &RootPath) -> bool {
@@ -53,6 +56,25 @@ impl<'a, D: Disk> Watched<'a, D> {
             self.line.show_package(package);
         }
     }
+
+    // Keeps what a frontend is to be told of a note.
+    fn keep(&mut self, path: &RootPath, node: &Node) {
+        if !is_note(path) || !self.line.frontend.is_open() {
+            return;
+        }
+        let alloc = self.line.rt.alloc();
+        self.written = records_in(path, node).and_then(|record| lines_of_note(alloc, record));
+    }
+
+    // Tells it, once the note has its name.
+    fn tell(&mut self, path: &RootPath) {
+        if !is_note(path) {
+            return;
+        }
+        if let Some(line) = self.written.take() {
+            self.line.frontend.tell(line.as_str());
+        }
+    }
 }
 
 impl<'a, D: Disk> Host for Watched<'a, D> {
@@ -82,6 +104,7 @@ impl<'a, D: Disk> Host for Watched<'a, D> {
 
     fn write_new(&mut self, path: &RootPath, node: &Node) -> Result<(), HostFault> {
         self.show(path, node);
+        self.keep(path, node);
         learn(&mut self.architectures, path, node);
         self.host.write_new(path, node)
     }
@@ -115,7 +138,11 @@ impl<'a, D: Disk> Host for Watched<'a, D> {
     }
 
     fn rename(&mut self, from: &RootPath, to: &RootPath) -> Result<(), HostFault> {
-        self.host.rename(from, to)
+        let renamed = self.host.rename(from, to);
+        if renamed.is_ok() {
+            self.tell(to);
+        }
+        renamed
     }
 
     fn lower(&mut self, path: &RootPath) -> Result<(), HostFault> {

@@ -7,4 +7,5 @@ pub mod Reading
 pub mod Refusals
 pub mod Screens
 pub mod Selections
+pub mod StatusFd
 pub mod Translated

@@ -16,10 +16,12 @@ mod reading;
 mod refusals;
 mod screens;
 mod selections;
+mod status_fds;
 mod translation;
 mod words;
 
 pub use names::speaks_dpkg;
 pub use own_words::OwnWords;
 pub use selections::are_set_anyway;
+pub use status_fds::status_fd;
 pub use translation::{Gathered, Printed, Translated, translate};
