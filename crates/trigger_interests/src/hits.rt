@@ -24,12 +24,18 @@ fn is_hit(name: &[u8], path: &RootPath) -> bool
     name.starts_with(b"/") && is_within(name, path.as_str().as_bytes())
 }
 
-// Whether one of the paths hits the name. What hits a name by a directory's path hits it by what
-// lies below too.
+fn is_hit_by_any(name: &[u8], paths: &[RootPath]) -> bool
+    ensures { result ≡ list_any (is_hit name.now) paths.now }
+{
+    paths.iter().any(|path| is_hit(name, path))
+}
+
+// The same by those paths alone that are no directories': what a directory's path hits is also hit by
+// what lies below it.
 fn is_hit_among(name: &[u8], paths: &[RootPath]) -> bool
     ensures { result ≡ is_hit_among paths.now name.now }
 {
-    paths.iter().any(|path| is_hit(name, path))
+    is_hit_by_any(name, paths)
 }
 
 /// Marks the interests that are hit by one of the paths.
