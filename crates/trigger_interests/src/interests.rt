@@ -77,13 +77,13 @@ fn read_declared<H: Host>(
 // Adds the interests among the declarations of a package.
 fn add_interests(
     package: &Text,
-    declarations: &[Declaration],
+    declarations: Vec<Declaration>,
     found: &mut Vec<Interest>,
 ) -> Result<(), AllocError>
     ensures { OnOk result (found.new.items
-        ≡ found.old.items ++ interests_by «package».now declarations.now) }
+        ≡ found.old.items ++ interests_by «package».now declarations.items) }
 {
-    for declaration in declarations {
+    for declaration in &declarations {
         if is_interest(declaration.directive) {
             found.push(Interest {
                 package: package.copy()?,
@@ -109,7 +109,7 @@ fn add_package<H: Host>(
     ensures counts { Counts (H.state host.old) (H.state host.new) result }
 {
     let declarations = read_declared(alloc, host, package)?;
-    Ok(add_interests(package, declarations.as_slice(), found)?)
+    Ok(add_interests(package, declarations, found)?)
 }
 
 // Adds those of each package.
@@ -148,14 +148,11 @@ pub fn read_interests<H: Host>(
     }
 }
 
-fn activations_by(
-    alloc: Global,
-    declarations: &[Declaration],
-) -> Result<Vec<Text>, AllocError>
-    ensures { IfOk result (λ names. names.items ≡ activations_by declarations.now) }
+fn activations_by(alloc: Global, declarations: Vec<Declaration>) -> Result<Vec<Text>, AllocError>
+    ensures { IfOk result (λ names. names.items ≡ activations_by declarations.items) }
 {
     let mut names = Vec::new(alloc);
-    for declaration in declarations {
+    for declaration in &declarations {
         if !is_interest(declaration.directive) {
             names.push(declaration.name.copy()?)?;
         }
@@ -173,5 +170,5 @@ pub fn read_activations<H: Host>(
         (H.state host.old) (H.state host.new) }
 {
     let declarations = read_declared(alloc, host, package)?;
-    Ok(activations_by(alloc, declarations.as_slice())?)
+    Ok(activations_by(alloc, declarations)?)
 }

@@ -22,11 +22,7 @@ enum Line {
     Faulty,
 }
 
-fn declares(
-    alloc: Global,
-    directive: Option<Directive>,
-    name: &[u8],
-) -> Result<Line, AllocError>
+fn declares(alloc: Global, directive: Option<Directive>, name: &[u8]) -> Result<Line, AllocError>
     ensures { IfOk result (λ line. line ≡ declares directive name.now) }
 {
     let Some(directive) = directive else {
