@@ -1,5 +1,5 @@
 -- What hits a trigger by a directory's path hits it by a path below too: so directories make no difference.
-use Rattle.std.proofs.Common.{◌≡◌, ◌&&◌, ◌||◌, not, ℕ, zero, suc, ◌+◌, ◌<◌, ◌≤◌, Bool, true, false, cond, nat_eq, List, [], ◌∷◌, ◌++◌, length, refl, sym, ap, subst, ◌∙◌, arith, codes, append_assoc, Contains, inl, inr}
+use Rattle.std.proofs.Common.{◌≡◌, ◌&&◌, ◌||◌, not, ℕ, zero, suc, ◌+◌, ◌<◌, ◌≤◌, Bool, true, false, cond, nat_eq, List, [], ◌∷◌, ◌++◌, length, refl, sym, ap, ◌∙◌, arith, codes, append_assoc, Contains, inl, inr}
 use Rattle.std.specs.Prelude.{filter}
 use Rattle.std.specs.List.{list_any, starts_with}
 use Rattle.std.proofs.lemmas.Bool.{and_parts, or_right, false_from_ne_true, true≢false}
@@ -7,7 +7,7 @@ use Rattle.std.proofs.lemmas.List.{length-append}
 use Rattle.host_core.specs.Paths.{Path}
 use Rattle.administration.specs.Places.{is_within}
 use Rattle.administration.proofs.Within.{below_within, rest_of, within_is}
-use Rattle.trigger_interests.specs.Hits.{files_of, is_directory, is_hit, is_hit_among}
+use Rattle.trigger_interests.specs.Hits.{is_directory, is_hit, is_hit_among}
 
 -- an element that passes
 abbrev Passes : (Path → Bool) → List Path → Type 0

@@ -1,14 +1,11 @@
 -- Line after line.
-use Rattle.std.proofs.Common.{◌≡◌, ◌+◌, ◌||◌, not, ℕ, Bool, true, false, cond, if◌then◌else◌, List, [], ◌∷◌, ◌++◌, refl, sym, ap, ◌∙◌, append_assoc, arith}
+use Rattle.std.proofs.Common.{◌≡◌, ◌+◌, ◌||◌, not, ℕ, Bool, true, false, cond, if◌then◌else◌, List, [], ◌∷◌, ◌++◌, sym, ap, append_assoc, arith}
 use Rattle.std.specs.Prelude.{Result, Ok, Err}
 use Rattle.std.specs.List.{flat_map, list_any, position_or_len}
 use Rattle.std.proofs.lemmas.Bool.{true≢false}
 use Rattle.std.proofs.lemmas.List.{append-nil}
-use Rattle.diversions.specs.Lines.{lines_in}
-use Rattle.trigger_interests.specs.Lines.{declarations_by, declarations_in, declarations_of, is_faulty, is_faulty_line, line_of}
+use Rattle.trigger_interests.specs.Lines.{declarations_by, declarations_of, is_faulty, is_faulty_line, line_of}
 use Rattle.trigger_interests.specs.declared.lines.Declaration.{Declaration}
-use Rattle.trigger_interests.specs.declared.lines.Line.{Line}
-use Rattle.trigger_interests.specs.declared.lines.Line.TheVariants.{Silent, Declares, Faulty}
 
 abbrev found_in : List (List ℕ) → List Declaration
 found_in lines = flat_map (λ line. declarations_by (line_of line)) lines

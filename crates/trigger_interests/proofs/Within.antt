@@ -1,5 +1,5 @@
 -- What lies within a directory, by what stands behind the directory's path.
-use Rattle.std.proofs.Common.{◌≡◌, ◌&&◌, ◌||◌, ℕ, Bool, true, false, nat_eq, List, [], ◌∷◌, ◌++◌, length, drop, take, refl, sym, ap, ◌∙◌, arith, codes, inl, inr}
+use Rattle.std.proofs.Common.{◌≡◌, ◌&&◌, ℕ, Bool, true, false, nat_eq, [], ◌∷◌, ◌++◌, length, drop, take, refl, sym, ap, ◌∙◌, arith, codes, inl, inr}
 use Rattle.std.specs.List.{starts_with}
 use Rattle.std.specs.Str.{bytes_eq}
 use Rattle.std.proofs.lemmas.Bool.{eqb-true, false_from_ne_true, true≢false}
@@ -7,8 +7,9 @@ use Rattle.std.proofs.lemmas.List.{append-nil, append_cancel_left, length-append
 use Rattle.std.proofs.lemmas.Slice.Eq.{bytes_eq-Decides}
 use Rattle.host_core.specs.Paths.{Path}
 use Rattle.administration.specs.Places.{is_within}
-use Rattle.administration.proofs.Within.{below_within, directory_within, within_is}
+use Rattle.administration.proofs.Within.{below_within, within_is}
 
+-- a path begins with the directory's, or doesn't
 pub not_front : (d path : Path) → bytes_eq (take (length d) path) d ≡ false → (rest : Path) → path ≡ d ++ rest → ⊥
 not_front d path other rest is = true≢false (sym ((bytes_eq-Decides (take (length d) path) d).1 (ap (take (length d)) is ∙ take_at d rest (length d) refl)) ∙ other)
 
@@ -16,10 +17,7 @@ pub front_rest : (d path rest : Path) → bytes_eq (take (length d) path) d ≡ 
 front_rest d path rest same is =
     sym (take-append-drop (length d) path) ∙ ap (λ (l : Path). l ++ drop (length d) path) ((bytes_eq-Decides (take (length d) path) d).0 same) ∙ ap (λ (l : Path). d ++ l) (sym is)
 
-pub within_itself : (d path rest : Path) → path ≡ d ++ rest → length rest ≡ 0 → true ≡ is_within d path
-within_itself d path [] is none = sym (ap (is_within d) (is ∙ append-nil d) ∙ directory_within d)
-within_itself d path (b ∷ rest) is none = absurd (omega (arith, none))
-
+-- whether it goes on with a slash
 slash : (b : ℕ) (rest : Path) (t : Bool) → nat_eq 47 b ≡ t → starts_with nat_eq (b ∷ rest) (codes "/") ≡ t
 slash b rest true is = ap (λ t. t && true) is
 slash b rest false is = ap (λ t. t && true) is

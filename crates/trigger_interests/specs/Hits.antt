@@ -1,5 +1,5 @@
 -- Which triggers paths activate (deb-triggers): those whose names are paths.
-use Rattle.std.specs.Prelude.{◌&&◌, not, ℕ, Bool, nat_eq, List, [], ◌∷◌, ◌++◌, map, filter, codes}
+use Rattle.std.specs.Prelude.{◌&&◌, not, ℕ, Bool, nat_eq, List, ◌++◌, map, filter, codes}
 use Rattle.std.specs.List.{list_any, starts_with}
 use Rattle.host_core.specs.Paths.{Path}
 use Rattle.administration.specs.Places.{is_within}
@@ -9,7 +9,7 @@ use Rattle.trigger_interests.specs.declared.interests.Interest.{Interest}
 abbrev pub is_hit : List ℕ → Path → Bool
 is_hit name path = starts_with nat_eq name (codes "/") && is_within name path
 
--- whether another path of a list lies below the path: then it is a directory's
+-- whether another path of a list lies below this one: then it is a directory's
 abbrev pub is_directory : List Path → Path → Bool
 is_directory paths path = list_any (λ other. starts_with nat_eq other (path ++ codes "/")) paths
 

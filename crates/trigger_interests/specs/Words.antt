@@ -10,9 +10,11 @@ use Rattle.trigger_interests.specs.declared.words.Directive.TheVariants.{Interes
 abbrev pub words_in : List ℕ → List (List ℕ)
 words_in line = filter (λ word. not (length word == 0)) (slice_split is_blank line)
 
+-- that a package is interested; whether others wait for it isn't kept
 abbrev pub interest_words : List (List ℕ)
 interest_words = codes "interest" ∷ codes "interest-await" ∷ codes "interest-noawait" ∷ []
 
+-- that it activates the trigger; whether it waits isn't kept
 abbrev pub activate_words : List (List ℕ)
 activate_words = codes "activate" ∷ codes "activate-await" ∷ codes "activate-noawait" ∷ []
 

@@ -3,7 +3,7 @@ ghost use Rattle.std.specs.Prelude.{◌≡◌, ◌++◌, IfOk, OnOk, true};
 ghost use Rattle.texts.specs.PackageNames.{is_package_name};
 ghost use Rattle.host_core.specs.Host.{Counts, Leaves, Reads, Silent};
 ghost use Rattle.host_core.specs.Looks.{Looks};
-ghost use Rattle.trigger_interests.specs.Interests.{activations_by, activations_of, declared, declared_at, good, interests_by, interests_of, is_interest, triggers_path};
+ghost use Rattle.trigger_interests.specs.Interests.{activations_by, activations_of, declared, declared_at, or_none, interests_by, interests_of, is_interest, triggers_path};
 ghost use Rattle.trigger_interests.specs.Lines.{declarations_in};
 
 use crate::lines::{Declaration, read_declarations};
@@ -30,7 +30,7 @@ fn is_interest(directive: Directive) -> bool
 
 // What a text declares; nothing where a line is faulty.
 fn declared_in(alloc: Global, text: &[u8]) -> Result<Vec<Declaration>, AllocError>
-    ensures { IfOk result (λ found. found.items ≡ good (declarations_in text.now)) }
+    ensures { IfOk result (λ found. found.items ≡ or_none (declarations_in text.now)) }
 {
     match read_declarations(alloc, text)? {
         Ok(declarations) => Ok(declarations),

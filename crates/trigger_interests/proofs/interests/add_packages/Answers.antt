@@ -12,21 +12,19 @@ pub returns-in_err-add_package-clause-reads : goal.returns-in_err-add_package-cl
 returns-in_err-add_package-clause-reads g c = reads_then _ _ _ c.loop-package.invariant.reads c.add_package.ensures.reads
 
 -- those of one more
-one_more : (w : World) (names : List (List ℕ)) (i : ℕ) (name : List ℕ) (before found now : List Interest) → i < length names → name ≡ get_or names i name
-    → found ≡ before ++ interests_of w (take i names) → now ≡ found ++ interests_by name (declared w name) → now ≡ before ++ interests_of w (take (i + 1) names)
-one_more w names i name before found now lt is so_far added =
+one_more : (w v : World) (names : List (List ℕ)) (i : ℕ) (name : List ℕ) (before found now : List Interest) → v ≡ w → i < length names → name ≡ get_or names i name
+    → found ≡ before ++ interests_of w (take i names) → now ≡ found ++ interests_by name (declared v name) → now ≡ before ++ interests_of w (take (i + 1) names)
+one_more w v names i name before found now same lt is so_far added =
     let those = λ (n : List ℕ). interests_by n (declared w n) in
-    added ∙ ap (λ (l : List Interest). l ++ those name) so_far ∙ flat_map_more those before (take i names) name
+    added ∙ ap (λ (u : World). found ++ interests_by name (declared u name)) same ∙ ap (λ (l : List Interest). l ++ those name) so_far ∙ flat_map_more those before (take i names) name
     ∙ ap (λ (l : List (List ℕ)). before ++ flat_map those l) (ap (λ (n : List ℕ). take i names ++ n ∷ []) is ∙ sym (take_more names i name lt))
 
 pub loop-package-preserved : goal.loop-package-preserved
 loop-package-preserved g c =
     let inv = c.loop-package.invariant in
-    let name = c.package-item.result in
     record {
-      so_far = λ honest. one_more (g.H.Host.state c.args.host.now).world c.args.packages.now c.loop-package.package-index name c.args.found.now.items c.loop-package.found.items c.add_package.new.found.items
-          c.loop-package-test.true c.package-item.is (inv.so_far (c.add_package.ensures.reads.honest honest))
-          (c.in_ok-add_package.ensures.added honest ∙ ap (λ (w : World). c.loop-package.found.items ++ interests_by name (declared w name)) inv.reads.world);
+      so_far = λ honest. one_more (g.H.Host.state c.args.host.now).world _ c.args.packages.now c.loop-package.package-index c.package-item.result c.args.found.now.items c.loop-package.found.items c.add_package.new.found.items
+          inv.reads.world c.loop-package-test.true c.package-item.is (inv.so_far (c.add_package.ensures.reads.honest honest)) (c.in_ok-add_package.ensures.added honest);
       reads = reads_then _ _ _ inv.reads c.add_package.ensures.reads;
       silent = silent_then _ _ _ inv.silent c.add_package.ensures.silent;
       faults_same = no_fault_then _ _ _ inv.faults_same c.in_ok-add_package.ensures.counts;

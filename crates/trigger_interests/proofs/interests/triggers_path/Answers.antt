@@ -1,4 +1,4 @@
-use Rattle.std.proofs.Common.{◌≡◌, ◌∙◌, ℕ, List, codes, true, refl, ap, subst, sym}
+use Rattle.std.proofs.Common.{◌≡◌, codes, true, refl, subst, sym}
 use Rattle.std.specs.String.{string_bytes}
 use Rattle.host_core.specs.Paths.{Path, is_path}
 use Rattle.control_members.proofs.MemberNames.{stored_is_path}
