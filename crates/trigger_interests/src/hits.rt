@@ -30,8 +30,8 @@ fn is_hit_by_any(name: &[u8], paths: &[RootPath]) -> bool
     paths.iter().any(|path| is_hit(name, path))
 }
 
-// The same by those paths alone that are no directories': what a directory's path hits is also hit by
-// what lies below it.
+// The same by those paths alone that are no directories': what a directory's path hits is also hit
+// by what lies below it.
 fn is_hit_among(name: &[u8], paths: &[RootPath]) -> bool
     ensures { result ≡ is_hit_among paths.now name.now }
 {

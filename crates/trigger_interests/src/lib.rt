@@ -4,11 +4,11 @@
 //! # What is proved
 //!
 //! `read_declarations` reads the text of a package's file `triggers`: its declarations, or the
-//! number of its first faulty line (`declarations_in`). `read_interests` and `read_activations` only
-//! look: the interests of packages, in their order (`interests_of`), and the names that a package
-//! activates (`activations_of`), by their stored files; a file with a faulty line declares nothing.
-//! `hits_of` marks the interests whose names are hit by paths (`hits_of`): by the path of that name
-//! or one below it, component by component, and by none below which another stands.
+//! number of its first faulty line (`declarations_in`). `read_interests` and `read_activations`
+//! only look: the interests of packages, in their order (`interests_of`), and the names that a
+//! package activates (`activations_of`), by their stored files; a file with a faulty line declares
+//! nothing. `hits_of` marks the interests whose names are hit by paths (`hits_of`): by the path of
+//! that name or one below it, component by component, and by none below which another stands.
 #![tactic(auto)]
 
 mod hits;
