@@ -1,5 +1,6 @@
 use Rattle.std.proofs.Common.{◌≡◌, inl, List, Option, ap, refl, sym, subst, ◌∙◌}
-use Rattle.status_db.specs.Order.{AreInOrder}
+use Rattle.held_administration.specs.Order.{IsInOrder}
+use Rattle.host_core.specs.Host.{Needs}
 use Rattle.status_records.specs.Records.{put_record, record_in}
 use Rattle.status_records.specs.Standings.{wanting}
 use Rattle.status_records.specs.Words.{is_not_installed}
@@ -25,18 +26,20 @@ returns-in-Ok-clause-unit g c =
     let name = c.args.asked.now.name in
     let own = found_name old name r found in
     let noted = c.in-Ok.ensures.records ∙ ap (λ (e : Record). put_record e old) same in
+    let there : Needs (g.H.Host.state c.note_record.new.host) (IsInOrder c.note_record.new.database c.args.administration.now.lists.lists) = (λ h. note_order c.args.administration.now.database c.args.administration.now.lists.lists (g.H.Host.state c.args.host.now).world (c.requires.order (c.in-Ok.ensures.silent.honest h))
+          r.name (wanting c.args.asked.now.want r) c.note_record.new.database (g.H.Host.state c.note_record.new.host).world
+          (record { own = refl; stands = found_stands old name r c.law.ensures.standing found; known = is_known old name r found }) noted (c.in-Ok.ensures.kept h)) in
     broken_or c.done.result.reply (λ done. record {
       is = λ diverted. IsSelection.changed r found other done (record {
         records = noted;
         lists = refl;
         ways = refl;
         noted = c.in-Ok.ensures.kept;
+        order = there;
         silent = c.in-Ok.ensures.silent;
       });
       opened = λ ways was. record { noting = c.in-Ok.ensures.opened; listing = was.listing; kept = was.kept };
-      order = λ h. note_order c.args.administration.now.database c.args.administration.now.lists.lists (g.H.Host.state c.args.host.now).world (c.requires.order (c.in-Ok.ensures.silent.honest h))
-          r.name (wanting c.args.asked.now.want r) c.note_record.new.database (g.H.Host.state c.note_record.new.host).world
-          (record { own = refl; stands = found_stands old name r c.law.ensures.standing found; known = is_known old name r found }) noted (c.in-Ok.ensures.kept h);
+      order = there;
       indexed = λ are. still_indexed old c.note_record.new.database.records c.args.asked.now.want r c.law.ensures.order (ap (record_in old) own ∙ found) noted c.args.administration.now.packages are;
       answered = inl c.in-Ok.ensures.on_disk;
     }) c.done.ensures.unit
