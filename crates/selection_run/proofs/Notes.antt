@@ -1,11 +1,8 @@
 -- What a note of a selection leaves, and its moments.
-use Rattle.std.proofs.Common.{◌≡◌, ◌⊎◌, inl, inr, List, [], Some, refl, sym, ap, subst, ◌∙◌}
-use Rattle.diversions.specs.Diverted.{Diverted}
-use Rattle.held_administration.specs.Order.{IsInOrder}
-use Rattle.held_administration.specs.declared.held.Administration.{Administration}
+use Rattle.std.proofs.Common.{◌≡◌, ◌⊎◌, inl, inr, [], Some, sym, subst}
 use Rattle.host_core.specs.Events.{scripts_of}
 use Rattle.host_core.specs.Host.{State, AtEachMoment, AtEachMomentOf, Silent}
-use Rattle.host_core.proofs.Moments.{since_start, since_weaker}
+use Rattle.host_core.proofs.Moments.{since_weaker}
 use Rattle.host_core.proofs.Scripts.{since_silent}
 use Rattle.status_db.specs.Noting.{IsNoting}
 use Rattle.status_records.specs.Records.{put_record}
@@ -13,10 +10,8 @@ use Rattle.status_records.specs.Standings.{wanting}
 use Rattle.status_records.specs.declared.record.Record.{Record}
 use Rattle.unit_reports.specs.Held.{Held}
 use Rattle.unit_reports.specs.Units.{IsBroken, IsBrokenBy}
-use Rattle.unit_reports.specs.declared.report.Breakage.{Breakage}
 use Rattle.unit_reports.specs.declared.report.Breakage.TheVariants.{NoMemory}
 use Rattle.unit_reports.specs.declared.report.Reply.{Reply}
-use Rattle.unit_runs.proofs.Going.{still_here}
 use Rattle.selection_run.specs.Units.{IsAmidSelection, entry_of}
 use Rattle.selection_run.specs.declared.selection.Selection.{Selection}
 

@@ -1,5 +1,5 @@
 -- Selections, one after another.
-use Rattle.std.proofs.Common.{◌≡◌, inl, inr, ℕ, ◌+◌, ◌<◌, suc, List, [], ◌∷◌, ◌++◌, drop, length, slice_index_or, refl, sym, ap, subst, ◌∙◌, add-one}
+use Rattle.std.proofs.Common.{◌≡◌, inl, inr, ℕ, ◌+◌, ◌<◌, suc, List, ◌∷◌, drop, length, slice_index_or, refl, sym, ap, subst, ◌∙◌, add-one}
 use Rattle.std.proofs.Math.Seq.{drop-cons}
 use Rattle.host_core.specs.Events.{calls_of as calls_in}
 use Rattle.host_core.specs.Host.{State, AtEachMomentOf, Silent, calls}

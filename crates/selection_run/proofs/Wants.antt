@@ -1,5 +1,5 @@
 -- Two wants are one where their words are.
-use Rattle.std.proofs.Common.{◌≡◌, Bool, refl, subst, sym, ap, ◌∙◌}
+use Rattle.std.proofs.Common.{◌≡◌, refl}
 use Rattle.std.specs.Prelude.{MatchBool}
 use Rattle.std.specs.Str.{bytes_eq}
 use Rattle.status_records.specs.Words.{want_word}

@@ -1,4 +1,4 @@
-use Rattle.std.proofs.Common.{◌≡◌, ◌++◌, List, [], ap, subst, sym, ◌∙◌}
+use Rattle.std.proofs.Common.{◌++◌, List, ap, subst, sym, ◌∙◌}
 use Rattle.unit_reports.specs.Held.{held_by}
 use Rattle.unit_reports.specs.declared.report.Unit.{Unit as AUnit}
 use Rattle.unit_runs.specs.Turns.{GoesTo, TurnsTo}

@@ -1,4 +1,4 @@
-use Rattle.std.proofs.Common.{◌≡◌, inl, List, Option, ap, refl, sym, subst, ◌∙◌}
+use Rattle.std.proofs.Common.{inl, ap, refl, ◌∙◌}
 use Rattle.held_administration.specs.Order.{IsInOrder}
 use Rattle.host_core.specs.Host.{Needs}
 use Rattle.status_records.specs.Records.{put_record, record_in}

@@ -1,4 +1,4 @@
-use Rattle.std.proofs.Common.{refl, subst, sym}
+use Rattle.std.proofs.Common.{refl, subst}
 use Rattle.host_core.proofs.Barriers.{answered_here}
 use Rattle.selection_run.specs.Taking.{HasDecided}
 use Rattle.selection_run.specs.Units.{IsSelection}

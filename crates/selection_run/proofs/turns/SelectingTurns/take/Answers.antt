@@ -1,7 +1,6 @@
-use Rattle.std.proofs.Common.{◌≡◌, ◌<◌, ◌+◌, ℕ, List, drop, length, slice_index_or, ap, refl, subst, sym, ◌∙◌}
+use Rattle.std.proofs.Common.{◌≡◌, ◌<◌, ◌+◌, List, drop, length, slice_index_or, subst}
 use Rattle.undo_rows.proofs.Makes.{tells_none}
 use Rattle.unit_reports.specs.Held.{held_by}
-use Rattle.selection_run.specs.Taking.{left_of}
 use Rattle.selection_run.specs.declared.selection.Selection.{Selection}
 use Rattle.selection_run.proofs.Selected.{left_next, silent_calls, since_next}
 use Rattle.selection_run.proofs.turns.SelectingTurns.take.Goals as goal
