@@ -1,5 +1,5 @@
 -- The stages of processing triggers: they fit, they settle nothing, and what they leave.
-use Rattle.std.proofs.Common.{◌≡◌, inl, inr, ℕ, Bool, true, List, [], ◌∷◌, Option, Some, None, is_some, refl, sym, ap, subst, ◌∙◌}
+use Rattle.std.proofs.Common.{◌≡◌, inl, inr, ℕ, Bool, List, [], ◌∷◌, Option, Some, None, is_some, refl, sym, ap, subst, ◌∙◌}
 use Rattle.host_core.specs.World.{World}
 use Rattle.host_core.specs.Host.{State}
 use Rattle.host_core.specs.declared.call.Call.{Call}
@@ -76,7 +76,7 @@ module _ (r : Record) (name : List ℕ) (own : r.name ≡ name) (stored : Bool) 
     left_installed after same =
         let mid = put_record (half r) before.records in
         let noted : after.records ≡ put_record (configured (half r)) mid =
-            same ∙ ap (λ (ps : List Part). parts_records name ps (parts_records name is.first.parts.items before.records)) is.installs ∙ ap (λ (rs : List Record). put_record (configured (half r)) rs) (after_first before.records) in
+        same ∙ ap (λ (ps : List Part). parts_records name ps (parts_records name is.first.parts.items before.records)) is.installs ∙ ap (λ (rs : List Record). put_record (configured (half r)) rs) (after_first before.records) in
         record {
           entry = r;
           found = found;
