@@ -33,7 +33,7 @@ struct Asked {
 }
 
 // The names once each.
-fn asked(alloc: Global, names: Vec<Text>) -> Result<Asked, AllocError>
+fn each_once(alloc: Global, names: Vec<Text>) -> Result<Asked, AllocError>
     ensures waiting { IfOk result (λ asked. asked.waiting.items ≡ once names.items) }
     ensures all { IfOk result (λ asked. asked.all.items ≡ once names.items) }
 {
@@ -158,7 +158,7 @@ pub fn process_packages<H: Host, W: Watcher>(
     ensures watched { IsTold W.tells (H.state host.old) watcher.old result.units.items watcher.new }
 {
     let alloc = administration.alloc;
-    match asked(alloc, names) {
+    match each_once(alloc, names) {
         Ok(asked) => process_each(host, administration, packages, diversions, asked, watcher),
         Err(_) => Report {
             units: Vec::new(alloc),
