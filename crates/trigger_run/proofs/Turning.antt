@@ -1,6 +1,6 @@
 -- The units of some names, one after another.
-use Rattle.std.proofs.Common.{◌≡◌, ◌≢◌, ◌||◌, inl, inr, ℕ, Bool, true, false, List, [], ◌∷◌, Option, Some, None, refl, sym, ap, subst, ◌∙◌}
-use Rattle.std.specs.Prelude.{IsTrue}
+use Rattle.std.proofs.Common.{◌≡◌, ◌||◌, inl, inr, ℕ, Bool, true, false, List, [], ◌∷◌, Result, Ok, Err, refl, sym, ap, subst, ◌∙◌}
+use Rattle.std.specs.Prelude.{IsTrue, OnOk}
 use Rattle.std.specs.List.{Contains}
 use Rattle.std.specs.Str.{bytes_eq}
 use Rattle.std.proofs.lemmas.Map.Views.{Contains-from_any}
@@ -73,3 +73,7 @@ all_over start before after s t old new all = subst (λ (left : List (List ℕ))
 
 pub since_any : (may : List (List ℕ) → Type 0) (names : List (List ℕ)) (before : Held) (s t : State) → Since (runs.IsAmidTurns IsTurn (λ left behind. IsAmidTurn left) may names before s) s t → Since (IsAmidTurns names before s) s t
 since_any may names before s t since = since_wider IsTurn names before s (λ left behind. IsAmidTurn left) may (λ later. Unit {0}) (λ q so. tt) t since
+
+pub on_ok_one : {T E P Q : Type 0} (r : Result T E) → (P → Q) → OnOk r P → OnOk r Q
+on_ok_one (Ok x) so p = so p
+on_ok_one (Err e) so p = tt
