@@ -4,3 +4,4 @@ mod Installed
 mod Replies
 mod Processings
 mod Turning
+mod Ending

@@ -1,5 +1,5 @@
 // The triggers of packages processed, as a whole.
-ghost use Rattle.std.specs.Prelude.{◌≡◌, IfOk, IfSome, IsNone, OnOk};
+ghost use Rattle.std.specs.Prelude.{◌≡◌, [], IfOk, IfSome, IsNone};
 ghost use Rattle.host_core.specs.Host.{Needs, Since};
 ghost use Rattle.host_core.specs.Loss.{IsAnswered};
 ghost use Rattle.held_administration.specs.Open.{IsOpen};
