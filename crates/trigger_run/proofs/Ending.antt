@@ -1,7 +1,7 @@
 -- The report of a whole command.
 use Rattle.std.proofs.Common.{◌≡◌, inl, ℕ, List, [], ◌++◌, Option, Some, None, refl, sym, ap, subst, ◌∙◌}
 use Rattle.std.proofs.lemmas.List.{append-nil}
-use Rattle.std.specs.Prelude.{IfSome, IsNone}
+use Rattle.std.specs.Prelude.{IfSome}
 use Rattle.host_core.specs.Host.{State, Since, NoFault}
 use Rattle.undo_rows.specs.Transcript.{TellsAll}
 use Rattle.unit_reports.proofs.Counting.{counts_no_memory, no_memory_not_closed}

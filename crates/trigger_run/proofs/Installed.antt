@@ -1,5 +1,5 @@
 -- A package that has triggers to process is installed.
-use Rattle.std.proofs.Common.{◌≡◌, ℕ, Bool, true, false, List, Option, Some, None, is_some, refl, sym, ap, subst, ◌∙◌}
+use Rattle.std.proofs.Common.{◌≡◌, ℕ, Bool, true, false, List, Option, Some, None, is_some, refl, ap, subst}
 use Rattle.std.proofs.lemmas.Bool.{false≢true}
 use Rattle.status_records.specs.Records.{record_in}
 use Rattle.status_records.specs.Words.{agrees, word_of}

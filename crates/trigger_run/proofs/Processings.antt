@@ -1,5 +1,5 @@
 -- The triggers of one package processed: its moments, its calls and its unit.
-use Rattle.std.proofs.Common.{◌≡◌, ◌≢◌, ◌⊎◌, inl, inr, ℕ, false, true, List, [], ◌++◌, Option, Result, Some, None, refl, sym, ap, subst, ◌∙◌, append_assoc}
+use Rattle.std.proofs.Common.{◌≡◌, ◌≢◌, ◌⊎◌, inl, inr, ℕ, false, List, [], ◌++◌, Option, Result, refl, sym, ap, subst, ◌∙◌, append_assoc}
 use Rattle.std.proofs.lemmas.List.{append-nil}
 use Rattle.undo_rows.proofs.Makes.{tells_none, tells_then}
 use Rattle.undo_rows.proofs.Tellings.{begun_calls}
@@ -17,7 +17,7 @@ use Rattle.host_core.specs.declared.fault.HostFault.{HostFault}
 use Rattle.held_administration.specs.Order.{IsInOrder}
 use Rattle.status_records.specs.Records.{record_in}
 use Rattle.unit_reports.specs.Held.{Held}
-use Rattle.unit_reports.specs.Units.{HasNoCalls, IsBroken, IsBrokenBy}
+use Rattle.unit_reports.specs.Units.{IsBroken, IsBrokenBy}
 use Rattle.unit_reports.specs.declared.report.Breakage.TheVariants.{NoMemory}
 use Rattle.unit_reports.specs.declared.report.Unit.{Unit as AUnit}
 use Rattle.unit_runs.proofs.Going.{still_here}

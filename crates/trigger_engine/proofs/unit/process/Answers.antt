@@ -1,4 +1,4 @@
-use Rattle.std.proofs.Common.{◌≡◌, true, List, ℕ, Some, sym, ap, subst, ◌∙◌, option_copied}
+use Rattle.std.proofs.Common.{◌≡◌, true, Some, sym, ap, subst, ◌∙◌, option_copied}
 use Rattle.host_core.specs.Paths.{Path}
 use Rattle.status_records.specs.Records.{record_in}
 use Rattle.texts.specs.PackageNames.{is_package_name}

@@ -1,9 +1,8 @@
-use Rattle.std.proofs.Common.{List, ℕ, sym, subst, ◌∙◌}
+use Rattle.std.proofs.Common.{List, ℕ, subst, ◌∙◌}
 use Rattle.host_core.specs.Host.{Since}
 use Rattle.unit_reports.specs.Held.{held_by}
 use Rattle.trigger_run.specs.Names.{once}
-use Rattle.trigger_run.specs.Run.{RunsUpTo}
-use Rattle.trigger_run.specs.Turns.{IsAmidTurns, ProcessesTo}
+use Rattle.trigger_run.specs.Turns.{IsAmidTurns}
 use Rattle.trigger_run.proofs.Ending.{not_begun, since_none}
 use Rattle.trigger_run.proofs.run.process_packages.Goals as goal
 

@@ -1,10 +1,7 @@
-use Rattle.std.proofs.Common.{List, []}
-use Rattle.std.specs.Prelude.{OnOk}
-use Rattle.recorded_packages.specs.Renewal.{AreSameBut}
+use Rattle.std.proofs.Common.{[]}
 use Rattle.unit_reports.specs.Held.{held_by}
-use Rattle.unit_runs.specs.Turns.{GoesTo, HaveAllTurned}
+use Rattle.unit_runs.specs.Turns.{GoesTo}
 use Rattle.trigger_run.specs.Taking.{left_of}
-use Rattle.trigger_run.specs.Turns.{IsTurn}
 use Rattle.trigger_run.proofs.Turning.{all_over, on_ok_one, since_any, turned_others}
 use Rattle.trigger_run.proofs.turns.run_turns.Goals as goal
 

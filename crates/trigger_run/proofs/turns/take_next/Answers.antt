@@ -2,7 +2,7 @@ use Rattle.std.proofs.Common.{rules, ◌≡◌, ◌∷◌, sym, false, ◌∙◌
 use Rattle.std.proofs.lemmas.Bool.{true≢false}
 use Rattle.unit_reports.specs.Held.{held_by}
 use Rattle.trigger_run.proofs.Processings.{unit_tells}
-use Rattle.trigger_run.proofs.Turning.{broken_one, since_next, since_next_start}
+use Rattle.trigger_run.proofs.Turning.{broken_one, since_next}
 use Rattle.trigger_run.proofs.turns.take_next.Goals as goal
 
 pub returns-in-Ok-clause-room : goal.returns-in-Ok-clause-room

@@ -1,10 +1,7 @@
 use Rattle.std.proofs.Common.{sym, ◌∙◌, inr}
-use Rattle.host_core.proofs.Barriers.{answered_here}
 use Rattle.unit_reports.specs.Held.{held_by}
-use Rattle.unit_reports.proofs.Counting.{no_fault_here}
 use Rattle.trigger_run.proofs.Installed.{pending_of}
-use Rattle.trigger_run.proofs.Processings.{called_nothing, is_passed_over, is_processed, order_behind_it, since_nothing, since_pending}
-use Rattle.trigger_run.proofs.Replies.{counts_quiet, quiet_not_closed}
+use Rattle.trigger_run.proofs.Processings.{is_processed, order_behind_it, since_pending}
 use Rattle.trigger_run.proofs.units.unit_for.Goals as goal
 
 pub process_named-requires-clause-pending : goal.process_named-requires-clause-pending
