@@ -1,5 +1,4 @@
 mod Once
-mod Barriers
 mod Installed
 mod Replies
 mod Processings

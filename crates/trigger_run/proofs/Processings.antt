@@ -1,5 +1,5 @@
 -- The triggers of one package processed: its moments, its calls and its unit.
-use Rattle.std.proofs.Common.{◌≡◌, ◌≢◌, ◌⊎◌, inl, inr, ℕ, false, List, [], ◌++◌, Option, Result, refl, sym, ap, subst, ◌∙◌, append_assoc}
+use Rattle.std.proofs.Common.{◌≡◌, ◌≢◌, ◌⊎◌, inl, inr, ℕ, List, [], ◌++◌, Option, Result, refl, sym, ap, subst, ◌∙◌, append_assoc}
 use Rattle.std.proofs.lemmas.List.{append-nil}
 use Rattle.undo_rows.proofs.Makes.{tells_none, tells_then}
 use Rattle.undo_rows.proofs.Tellings.{begun_calls}
@@ -23,8 +23,7 @@ use Rattle.unit_reports.specs.declared.report.Unit.{Unit as AUnit}
 use Rattle.unit_runs.proofs.Going.{still_here}
 use Rattle.unit_stages.specs.Calls.{MayRunStages}
 use Rattle.trigger_engine.specs.Units.{Given, HasCalled, HasEnded, IsAmidUnit, IsPending}
-use Rattle.trigger_run.specs.Pending.{is_pending_in}
-use Rattle.trigger_run.specs.Units.{Answers, HasCalledProcessing, HasCalledUnitOf, IsAmidProcessing, IsAmidUnitOf, IsBroughtToDisk, IsProcessing, IsQuietUnit, IsUnitOf, given_by}
+use Rattle.trigger_run.specs.Units.{Answers, HasCalledProcessing, HasCalledUnitOf, IsAmidProcessing, IsAmidUnitOf, IsBroughtToDisk, IsProcessing, IsUnitOf, given_by}
 use Rattle.trigger_run.proofs.Replies.{broken_or}
 
 -- its moments
@@ -68,9 +67,6 @@ called_tells g s t told now (HasCalled.unplanned silent same) = tells_none s t t
 called_tells g s t told now (HasCalled.planned stages plan begun) = let made = begun_calls (MayRunStages stages) s t told now begun in (made.0, made.2, made.3.1)
 
 module _ (name : List ℕ) (before : Held) where
-  pub called_first : (s t : State) (told now : List Called) → HasCalled (given_by name before) s t told now → HasCalledProcessing name before s t told now
-  called_first s t told now called = record { m = t; called = called; silent = silent_here t }
-
   pub called_as : (s t : State) (old now told : List Called) → old ≡ [] → told ≡ now → HasCalledProcessing name before s t old now → HasCalledProcessing name before s t [] told
   called_as s t old now told empty is called = subst (λ l. HasCalledProcessing name before s t l told) empty (subst (HasCalledProcessing name before s t old) (sym is) called)
 
@@ -109,10 +105,6 @@ module _ (name : List ℕ) where
     pub order_behind_it : IsBroken u.reply ⊎ IsProcessing name before after u s t → IsBroken u.reply ⊎ Needs t (IsInOrder after.records after.lists)
     order_behind_it (inl broken) = inl broken
     order_behind_it (inr is) = inr is.order
-
-  pub is_passed_over : (before : Held) (u : AUnit) (s : State) → is_pending_in before.records.records name ≡ false → IsBrokenBy NoMemory u.reply ⊎ IsQuietUnit (record_in before.records.records name) name before.records.records u
-      → IsBroken u.reply ⊎ IsUnitOf name before before u s s
-  is_passed_over before u s none either = broken_or NoMemory u.reply (λ quiet. IsUnitOf.passed_over none quiet refl refl) either
 
 -- the records of other packages are as before
 pub unit_others : (name : List ℕ) (before after : Held) (u : AUnit) (s t : State) → IsUnitOf name before after u s t → (q : List ℕ) → q ≢ name → record_in after.records.records q ≡ record_in before.records.records q

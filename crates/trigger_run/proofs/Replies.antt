@@ -7,13 +7,11 @@ use Rattle.host_core.specs.declared.call.Call.{Call}
 use Rattle.status_records.specs.declared.record.Record.{Record}
 use Rattle.unit_reports.specs.declared.report.Breakage.{Breakage}
 use Rattle.unit_reports.specs.declared.report.Breakage.TheVariants.{NoMemory, Closed}
-use Rattle.unit_reports.specs.declared.refusal.Refusal.{Refusal}
 use Rattle.unit_reports.specs.declared.report.Reply.{Reply}
-use Rattle.unit_reports.specs.declared.report.Reply.TheVariants.{Broken, Refused}
 use Rattle.unit_reports.specs.declared.report.Unit.{Unit as AUnit}
 use Rattle.unit_reports.proofs.Counting.{no_memory_not_closed}
 use Rattle.unit_reports.specs.Units.{CountsReply, IsBroken, IsBrokenBy}
-use Rattle.trigger_run.specs.Units.{Answers, IsQuietUnit, reply_to}
+use Rattle.trigger_run.specs.Units.{Answers, reply_to}
 
 -- a unit that wasn't broken off is as is said of it
 pub not_broken : {Q : Type 0} (reply : Reply) (b : Bool) → b ≡ false → MatchBool b (IsBroken reply) (IsBroken reply → ⊥) → IsBroken reply ⊎ Q → Q
@@ -53,24 +51,3 @@ counts_reply name (Some call) a b same = same
 pub counts_answered : (name : List ℕ) (records : List Record) (failed : Option Call) (u : AUnit) (a b : State) → NoFault a b → IsBrokenBy NoMemory u.reply ⊎ Answers name records failed u → CountsReply a b u.reply
 counts_answered name records failed u a b same (inl broken) = subst (CountsReply a b) (sym broken) same
 counts_answered name records failed u a b same (inr answers) = subst (CountsReply a b) (sym answers.replied) (counts_reply name failed a b same)
-
--- a unit for which nothing was done
-
-quiet_reply : (entry : Option Record) (name : List ℕ) (records : List Record) (u : AUnit) → IsQuietUnit entry name records u → IsBrokenBy Closed u.reply → ⊥
-quiet_reply None name records u quiet closed = not_refused (sym quiet.reply ∙ closed)
-  where
-    not_refused : {r : Refusal} → Refused r ≡ Broken Closed → ⊥
-    not_refused e = cc
-quiet_reply (Some r) name records u quiet closed = reply_not_closed name None (sym quiet.0.replied ∙ closed)
-
-pub quiet_not_closed : (entry : Option Record) (name : List ℕ) (records : List Record) (u : AUnit) → IsBrokenBy NoMemory u.reply ⊎ IsQuietUnit entry name records u → IsBrokenBy Closed u.reply → ⊥
-quiet_not_closed entry name records u (inl broken) closed = no_memory_not_closed u.reply broken closed
-quiet_not_closed entry name records u (inr quiet) closed = quiet_reply entry name records u quiet closed
-
-quiet_counts : (entry : Option Record) (name : List ℕ) (records : List Record) (u : AUnit) (a b : State) → NoFault a b → IsQuietUnit entry name records u → CountsReply a b u.reply
-quiet_counts None name records u a b same quiet = subst (CountsReply a b) (sym quiet.reply) same
-quiet_counts (Some r) name records u a b same quiet = subst (CountsReply a b) (sym quiet.0.replied) same
-
-pub counts_quiet : (entry : Option Record) (name : List ℕ) (records : List Record) (u : AUnit) (a b : State) → NoFault a b → IsBrokenBy NoMemory u.reply ⊎ IsQuietUnit entry name records u → CountsReply a b u.reply
-counts_quiet entry name records u a b same (inl broken) = subst (CountsReply a b) (sym broken) same
-counts_quiet entry name records u a b same (inr quiet) = quiet_counts entry name records u a b same quiet
