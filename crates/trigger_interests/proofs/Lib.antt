@@ -1,0 +1,4 @@
+mod Reading
+mod Names
+mod Within
+mod Directories
