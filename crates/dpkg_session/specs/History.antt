@@ -15,6 +15,7 @@ use Rattle.selection_run.specs.Run.{IsSelectionRun}
 use Rattle.selection_run.specs.declared.selection.Selection.{Selection}
 use Rattle.status_db.specs.Held.{is_record_place}
 use Rattle.status_db.specs.Noting.{AreNoted}
+use Rattle.trigger_run.specs.Run.{IsTriggerRun}
 use Rattle.dpkg_session.specs.declared.asked.Diverting.{Diverting}
 use Rattle.dpkg_session.specs.declared.asked.Undiverting.{Undiverting}
 use Rattle.dpkg_session.specs.declared.report.Candidate.{Candidate}
@@ -37,6 +38,8 @@ pub data Ran : Type 0 where
   Removed : (names : List (List ℕ)) (extents : Extents) (units : List AUnit) → Ran
   -- what was to be wanted of packages
   Chosen : (selections : List Selection) (units : List AUnit) → Ran
+  -- the names of the packages whose triggers were to be processed
+  Triggered : (names : List (List ℕ)) (units : List AUnit) → Ran
   -- trees that were to be unpacked and configured, with the units of both
   Installed : (auto_deconfigure : Bool) (candidates : List Candidate) (policy : ConfPolicy) (unpacked configured : List AUnit) → Ran
   -- the end of a command, behind its units: all notes were merged
@@ -56,6 +59,7 @@ HasDone (Undiverted asked unit) before after s t = HasUndiverted asked before.wa
 HasDone (Configured names policy units) before after s t = IsConfigureRun names policy units before after s t
 HasDone (Removed names extents units) before after s t = IsRemovalRun names extents units before after s t
 HasDone (Chosen selections units) before after s t = IsSelectionRun selections units before after s t
+HasDone (Triggered names units) before after s t = IsTriggerRun names units before after s t
 HasDone (Installed auto_deconfigure candidates policy unpacked configured) before after s t = IsInstall auto_deconfigure candidates policy unpacked configured before after s t
 HasDone Merged before after s t = (after ≡ merged before) × (IsTrue t.honest → AreNoted before.records.records 0 s.world t.world)
 

@@ -86,6 +86,7 @@ mod growing;
 mod installing;
 mod laws;
 mod overriding;
+mod processing;
 mod read_packages;
 mod recorded;
 mod refusal;

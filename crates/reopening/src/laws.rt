@@ -24,6 +24,7 @@ ghost use Rattle.removal_run.specs.Run.{HasRun as HasRemoved};
 ghost use Rattle.removal_run.specs.declared.extents.Extents.{Extents as AnExtents};
 ghost use Rattle.selection_run.specs.Run.{HasRun as HasSelected};
 ghost use Rattle.selection_run.specs.declared.selection.Selection.{Selection as ASelection};
+ghost use Rattle.trigger_run.specs.Run.{HasRun as HasProcessed};
 ghost use Rattle.status_db.specs.Held.{AreKept, IsTableOf};
 ghost use Rattle.status_db.specs.Noting.{IsMerging};
 ghost use Rattle.status_records.specs.declared.record.Record.{Record as ARecord};
@@ -77,6 +78,13 @@ pub fn a_selection_can_be_opened_amid()
     ensures { (selections : List ASelection) (us : List AUnit) (last : Option AUnit)
         (before : Held) (s t : State) → FindsStanding before s → HasSelected
         selections us last before s t → CanBeOpenedAmid s t }
+{}
+
+/// At each moment while triggers are processed, likewise.
+pub fn triggers_can_be_opened_amid()
+    ensures { (names : List (List ℕ)) (us : List AUnit) (last : Option AUnit)
+        (before : Held) (s t : State) → FindsStanding before s → HasProcessed
+        names us last before s t → CanBeOpenedAmid s t }
 {}
 
 /// At each moment while a diversion is added or taken away, likewise.
