@@ -15,6 +15,7 @@ pub mod Behind
 pub mod Sounds
 pub mod Turns
 mod Selections
+mod Triggers
 pub mod Sessions
 pub mod Diverts
 pub mod Losses
