@@ -1,5 +1,0 @@
-mod Wants
-mod Found
-mod Indexed
-mod Notes
-mod Selected

@@ -1,4 +1,0 @@
-pub mod Units
-pub mod Turns
-pub mod Run
-pub mod Taking
