@@ -9,10 +9,10 @@ use Rattle.host_core.specs.World.{World, KeepsBut, SameOn}
 use Rattle.host_core.specs.Host.{State}
 use Rattle.opening.specs.Opened.{IsFound}
 use Rattle.opening.specs.Parts.{OpensAndMerges}
+use Rattle.record_changes.specs.Run.{IsChangeRun}
+use Rattle.record_changes.specs.declared.change.RecordChange.{RecordChange}
 use Rattle.removal_run.specs.Run.{IsRemovalRun}
 use Rattle.removal_run.specs.declared.extents.Extents.{Extents}
-use Rattle.selection_run.specs.Run.{IsSelectionRun}
-use Rattle.selection_run.specs.declared.selection.Selection.{Selection}
 use Rattle.status_db.specs.Held.{is_record_place}
 use Rattle.status_db.specs.Noting.{AreNoted}
 use Rattle.trigger_run.specs.Run.{IsTriggerRun}
@@ -36,8 +36,8 @@ pub data Ran : Type 0 where
   Configured : (names : List (List ℕ)) (policy : ConfPolicy) (units : List AUnit) → Ran
   -- of those that were to be removed, or purged
   Removed : (names : List (List ℕ)) (extents : Extents) (units : List AUnit) → Ran
-  -- what was to be wanted of packages
-  Chosen : (selections : List Selection) (units : List AUnit) → Ran
+  -- what was to be changed of records
+  Changed : (changes : List RecordChange) (units : List AUnit) → Ran
   -- the names of the packages whose triggers were to be processed
   Triggered : (names : List (List ℕ)) (units : List AUnit) → Ran
   -- trees that were to be unpacked and configured, with the units of both
@@ -58,7 +58,7 @@ HasDone (Diverted asked unit) before after s t =
 HasDone (Undiverted asked unit) before after s t = HasUndiverted asked before.ways after.ways unit s t × KeepsRest before after
 HasDone (Configured names policy units) before after s t = IsConfigureRun names policy units before after s t
 HasDone (Removed names extents units) before after s t = IsRemovalRun names extents units before after s t
-HasDone (Chosen selections units) before after s t = IsSelectionRun selections units before after s t
+HasDone (Changed changes units) before after s t = IsChangeRun changes units before after s t
 HasDone (Triggered names units) before after s t = IsTriggerRun names units before after s t
 HasDone (Installed auto_deconfigure candidates policy unpacked configured) before after s t = IsInstall auto_deconfigure candidates policy unpacked configured before after s t
 HasDone Merged before after s t = (after ≡ merged before) × (IsTrue t.honest → AreNoted before.records.records 0 s.world t.world)

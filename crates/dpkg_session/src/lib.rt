@@ -77,6 +77,7 @@
 #![tactic(auto)]
 
 mod asked;
+mod changing;
 mod checkpointing;
 mod configuring;
 mod displacing;
@@ -94,7 +95,6 @@ mod removing;
 mod removing_selected;
 mod report;
 mod seen;
-mod selecting;
 mod session;
 mod table_units;
 mod tellings;
@@ -108,9 +108,9 @@ mod unpacks;
 pub use asked::{Diverting, Undiverting};
 pub use installing::Installed;
 pub use laws::history_stands;
+pub use record_changes::{Change, RecordChange};
 pub use removal_run::Extents;
 pub use report::Candidate;
-pub use selection_run::Selection;
 pub use session::Session;
 pub use trees::Trees;
 pub use unit_reports::{

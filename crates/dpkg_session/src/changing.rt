@@ -1,9 +1,9 @@
-// A session records what is wanted of packages.
+// A session changes records.
 ghost use Rattle.std.specs.Prelude.{◌≡◌, true, false, IsNone, IfSome, is_some};
 ghost use Rattle.host_core.specs.Host.{Silent, Since};
 ghost use Rattle.host_core.specs.Loss.{IsAnswered};
 ghost use Rattle.dpkg_session.specs.PowerLoss.{LosesLikeAStop, StandsOnceAnswered};
-ghost use Rattle.selection_run.specs.Run.{HasRun, IsAmidRun, IsSelectionRun};
+ghost use Rattle.record_changes.specs.Run.{HasRun, IsAmidRun, IsChangeRun};
 ghost use Rattle.unit_reports.specs.Held.{held_by};
 ghost use Rattle.unit_reports.specs.Units.{CountsLast, IsBrokenBy, IsClosedReport, TellsCalls};
 ghost use Rattle.unit_reports.specs.Watching.{IsTold};
@@ -11,28 +11,28 @@ ghost use Rattle.unit_reports.specs.declared.report.Breakage.TheVariants.{Closed
 
 use crate::session::{Session, closed_report};
 use host_core::Host;
-use selection_run::{Selection, select_packages};
+use record_changes::{RecordChange, change_records};
 use unit_reports::{Report, Watcher};
 
 impl<H: Host> Session<H> {
-    /// Records what is wanted of packages, in the order given: nothing else is done with them. Each unit is told as it is finished; one
-    /// that is broken off closes the session.
-    pub fn select<W: Watcher>(&mut self, selections: Vec<Selection>, watcher: &mut W) -> Report
+    /// Changes records, in the order given: what is wanted of a package, or which triggers it is to process. Nothing else is done with
+    /// it. Each unit is told as it is finished; one that is broken off closes the session.
+    pub fn change<W: Watcher>(&mut self, changes: Vec<RecordChange>, watcher: &mut W) -> Report
         ensures whole { self.old.closed ≡ false → IsNone result.last
-            → IsSelectionRun selections.items result.units.items
+            → IsChangeRun changes.items result.units.items
             (held_by self.old.administration self.old.diversions)
             (held_by self.new.administration self.new.diversions) (H.state self.old.host)
             (H.state self.new.host) }
-        ensures part { self.old.closed ≡ false → HasRun selections.items result.units.items
+        ensures part { self.old.closed ≡ false → HasRun changes.items result.units.items
             result.last (held_by self.old.administration self.old.diversions)
             (H.state self.old.host) (H.state self.new.host) }
         ensures told { TellsCalls (H.state self.old.host) (H.state self.new.host) result }
         ensures any_moment { self.old.closed ≡ false
-            → Since (IsAmidRun selections.items
+            → Since (IsAmidRun changes.items
             (held_by self.old.administration self.old.diversions) (H.state self.old.host))
             (H.state self.old.host) (H.state self.new.host) }
         ensures loss { self.old.closed ≡ false
-            → LosesLikeAStop (IsAmidRun selections.items
+            → LosesLikeAStop (IsAmidRun changes.items
             (held_by self.old.administration self.old.diversions) (H.state self.old.host))
             (H.state self.old.host) (H.state self.new.host) }
         ensures stands { self.old.closed ≡ false → IsNone result.last
@@ -57,11 +57,11 @@ impl<H: Host> Session<H> {
         if self.closed {
             return closed_report(self.administration.alloc);
         }
-        let report = select_packages(
+        let report = change_records(
             &mut self.host,
             &mut self.administration,
             &self.diversions,
-            selections,
+            changes,
             watcher,
         );
         self.closed = report.last.is_some();
