@@ -60,7 +60,7 @@ alone_carries before after s t alone = carries_still before after s t alone.held
 one_carries : (asked : RecordChange) (before after : Held) (u : AUnit) (s t : State) → IsChange asked before after u s t → Carries before after s t
 one_carries asked before after u s t (IsChange.unknown none refused alone) = alone_carries before after s t alone
 one_carries asked before after u s t (IsChange.made r found same done alone) = alone_carries before after s t alone
-one_carries asked before after u s t (IsChange.changed r found other done is) = record {
+one_carries asked before after u s t (IsChange.noted r found other done is) = record {
   falls = is.silent.honest;
   order = λ ready. is.order;
   ways = is.ways;
