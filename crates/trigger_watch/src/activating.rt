@@ -72,7 +72,7 @@ fn packages_of(alloc: Global, interests: &[Interest]) -> Result<Vec<Text>, Alloc
     for interest in interests {
         packages.push(interest.package.copy()?)?;
     }
-    each_once(alloc, packages.as_slice())
+    each_once(alloc, packages)
 }
 
 // The names among interests that are of a package.
@@ -85,7 +85,7 @@ fn names_for(alloc: Global, interests: &[Interest], package: &Text) -> Result<Ve
             names.push(interest.name.copy()?)?;
         }
     }
-    each_once(alloc, names.as_slice())
+    each_once(alloc, names)
 }
 
 // Adds that of a package.

@@ -12,13 +12,13 @@ pub(crate) fn is_among(names: &[Text], name: &Text) -> bool
 }
 
 /// Each name once: a second mention is dropped.
-pub(crate) fn each_once(alloc: Global, names: &[Text]) -> Result<Vec<Text>, AllocError>
-    ensures { IfOk result (λ list. list.items ≡ each_once names.now) }
+pub(crate) fn each_once(alloc: Global, names: Vec<Text>) -> Result<Vec<Text>, AllocError>
+    ensures { IfOk result (λ list. list.items ≡ each_once names.items) }
 {
     let mut list: Vec<Text> = Vec::new(alloc);
     for name in names {
-        if !is_among(list.as_slice(), name) {
-            list.push(name.copy()?)?;
+        if !is_among(list.as_slice(), &name) {
+            list.push(name)?;
         }
     }
     Ok(list)
