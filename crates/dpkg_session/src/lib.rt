@@ -104,6 +104,7 @@ mod undiverting;
 mod units;
 mod unpacking;
 mod unpacks;
+mod watching;
 
 pub use asked::{Diverting, Undiverting};
 pub use installing::Installed;
@@ -113,6 +114,7 @@ pub use removal_run::Extents;
 pub use report::Candidate;
 pub use session::Session;
 pub use trees::Trees;
+pub use trigger_watch::{Hits, TriggerWatch};
 pub use unit_reports::{
     Breakage, Failure, Refusal, Reply, Report, Rule, Touched, Unit, Unwatched, Watcher,
 };
