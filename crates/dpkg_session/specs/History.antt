@@ -10,6 +10,9 @@ use Rattle.host_core.specs.Host.{State}
 use Rattle.opening.specs.Opened.{IsFound}
 use Rattle.opening.specs.Parts.{OpensAndMerges}
 use Rattle.removal_run.specs.Run.{IsRemovalRun}
+use Rattle.removal_run.specs.declared.extents.Extents.{Extents}
+use Rattle.selection_run.specs.Run.{IsSelectionRun}
+use Rattle.selection_run.specs.declared.selection.Selection.{Selection}
 use Rattle.status_db.specs.Held.{is_record_place}
 use Rattle.status_db.specs.Noting.{AreNoted}
 use Rattle.dpkg_session.specs.declared.asked.Diverting.{Diverting}
@@ -31,7 +34,9 @@ pub data Ran : Type 0 where
   -- the names of the packages that were to be configured
   Configured : (names : List (List ℕ)) (policy : ConfPolicy) (units : List AUnit) → Ran
   -- of those that were to be removed, or purged
-  Removed : (names : List (List ℕ)) (purge : Bool) (units : List AUnit) → Ran
+  Removed : (names : List (List ℕ)) (extents : Extents) (units : List AUnit) → Ran
+  -- what was to be wanted of packages
+  Chosen : (selections : List Selection) (units : List AUnit) → Ran
   -- trees that were to be unpacked and configured, with the units of both
   Installed : (auto_deconfigure : Bool) (candidates : List Candidate) (policy : ConfPolicy) (unpacked configured : List AUnit) → Ran
   -- the end of a command, behind its units: all notes were merged
@@ -49,7 +54,8 @@ HasDone (Diverted asked unit) before after s t =
     HasDiverted asked before.records.records before.lists before.ways after.ways unit s t × KeepsRest before after
 HasDone (Undiverted asked unit) before after s t = HasUndiverted asked before.ways after.ways unit s t × KeepsRest before after
 HasDone (Configured names policy units) before after s t = IsConfigureRun names policy units before after s t
-HasDone (Removed names purge units) before after s t = IsRemovalRun names purge units before after s t
+HasDone (Removed names extents units) before after s t = IsRemovalRun names extents units before after s t
+HasDone (Chosen selections units) before after s t = IsSelectionRun selections units before after s t
 HasDone (Installed auto_deconfigure candidates policy unpacked configured) before after s t = IsInstall auto_deconfigure candidates policy unpacked configured before after s t
 HasDone Merged before after s t = (after ≡ merged before) × (IsTrue t.honest → AreNoted before.records.records 0 s.world t.world)
 

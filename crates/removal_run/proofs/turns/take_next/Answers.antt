@@ -51,8 +51,8 @@ returns-in-Ok-clause-queue g c =
 
 pub returns-in-Ok-clause-accepted : goal.returns-in-Ok-clause-accepted
 returns-in-Ok-clause-accepted g c =
-    subst (λ (w : List (List ℕ)). AreAccepted c.args.purge c.remove_one.new.administration.database.records w) (sym c.strike.ensures)
-    (accepted_next c.args.purge c.args.administration.now.database.records c.remove_one.new.administration.database.records c.args.waiting.now.items (lhs c.in-Ok-Some.next-is).name c.in-Ok.ensures.others c.requires.accepted)
+    subst (λ (w : List (List ℕ)). AreAccepted c.args.extents c.remove_one.new.administration.database.records w) (sym c.strike.ensures)
+    (accepted_next c.args.extents c.args.administration.now.database.records c.remove_one.new.administration.database.records c.args.waiting.now.items (lhs c.in-Ok-Some.next-is).name c.in-Ok.ensures.others c.requires.accepted)
 
 pub returns-in-Ok-clause-fewer : goal.returns-in-Ok-clause-fewer
 returns-in-Ok-clause-fewer g c =
@@ -79,7 +79,7 @@ returns-in-Ok-clause-any_moment g c =
     let q = c.args.queue.now in
     let n = lhs c.in-Ok-Some.next-is in
     let found = subst (IsNextIn q) (sym c.in-Ok-Some.next-is) (is_next q c.in-Ok-Some.field-0 c.in-Ok-Some.next c.in-Ok-Some.field-0-is c.in-Ok-Some.ensures) in
-    since_next c.args.purge q.packages c.args.waiting.now.items c.args.waiting.now.items (held_by c.args.administration.now c.args.diversions.now) n.name (g.H.Host.state c.args.host.now) (g.H.Host.state c.remove_one.new.host)
+    since_next c.args.extents q.packages c.args.waiting.now.items c.args.waiting.now.items (held_by c.args.administration.now c.args.diversions.now) n.name (g.H.Host.state c.args.host.now) (g.H.Host.state c.remove_one.new.host)
     (next_is q.packages c.args.administration.now.database.records c.args.waiting.now.items q c.requires.queue n found) c.remove_one.ensures.any_moment
 
 pub returns-in-Err-remove_one-clause-taken : goal.returns-in-Err-remove_one-clause-taken
@@ -87,7 +87,7 @@ returns-in-Err-remove_one-clause-taken g c =
     let q = c.args.queue.now in
     let n = lhs c.in-Ok-Some.next-is in
     let found = subst (IsNextIn q) (sym c.in-Ok-Some.next-is) (is_next q c.in-Ok-Some.field-0 c.in-Ok-Some.next c.in-Ok-Some.field-0-is c.in-Ok-Some.ensures) in
-    broken_one c.args.purge q.packages c.args.waiting.now.items _ (held_by c.args.administration.now c.args.diversions.now) n.name (g.H.Host.state c.args.host.now) (g.H.Host.state c.remove_one.new.host) c.in-Err-remove_one.unit
+    broken_one c.args.extents q.packages c.args.waiting.now.items _ (held_by c.args.administration.now c.args.diversions.now) n.name (g.H.Host.state c.args.host.now) (g.H.Host.state c.remove_one.new.host) c.in-Err-remove_one.unit
     (next_is q.packages c.args.administration.now.database.records c.args.waiting.now.items q c.requires.queue n found) c.in-Err-remove_one.ensures.broken_off
 
 pub returns-in-Err-remove_one-clause-told : goal.returns-in-Err-remove_one-clause-told
@@ -98,17 +98,17 @@ returns-in-Err-remove_one-clause-any_moment g c =
     let q = c.args.queue.now in
     let n = lhs c.in-Ok-Some.next-is in
     let found = subst (IsNextIn q) (sym c.in-Ok-Some.next-is) (is_next q c.in-Ok-Some.field-0 c.in-Ok-Some.next c.in-Ok-Some.field-0-is c.in-Ok-Some.ensures) in
-    since_next c.args.purge q.packages c.args.waiting.now.items c.args.waiting.now.items (held_by c.args.administration.now c.args.diversions.now) n.name (g.H.Host.state c.args.host.now) (g.H.Host.state c.remove_one.new.host)
+    since_next c.args.extents q.packages c.args.waiting.now.items c.args.waiting.now.items (held_by c.args.administration.now c.args.diversions.now) n.name (g.H.Host.state c.args.host.now) (g.H.Host.state c.remove_one.new.host)
     (next_is q.packages c.args.administration.now.database.records c.args.waiting.now.items q c.requires.queue n found) c.remove_one.ensures.any_moment
 
 pub returns-in-Ok-None-clause-answered : goal.returns-in-Ok-None-clause-answered
 returns-in-Ok-None-clause-answered g c = answered_here (g.H.Host.state c.args.host.now)
 
 pub returns-in-Ok-None-clause-any_moment : goal.returns-in-Ok-None-clause-any_moment
-returns-in-Ok-None-clause-any_moment g c = since_next_start c.args.purge c.args.queue.now.packages c.args.waiting.now.items c.args.waiting.now.items (held_by c.args.administration.now c.args.diversions.now) (g.H.Host.state c.args.host.now)
+returns-in-Ok-None-clause-any_moment g c = since_next_start c.args.extents c.args.queue.now.packages c.args.waiting.now.items c.args.waiting.now.items (held_by c.args.administration.now c.args.diversions.now) (g.H.Host.state c.args.host.now)
 
 pub returns-in-Err-clause-taken : goal.returns-in-Err-clause-taken
-returns-in-Err-clause-taken g c = broken_here c.args.purge c.args.queue.now.packages c.args.waiting.now.items _ (held_by c.args.administration.now c.args.diversions.now) (g.H.Host.state c.args.host.now) c.no_memory.result (broken_by _ c.no_memory.result.reply c.no_memory.ensures.reply) c.no_memory.ensures.touched c.no_memory.ensures.told
+returns-in-Err-clause-taken g c = broken_here c.args.extents c.args.queue.now.packages c.args.waiting.now.items _ (held_by c.args.administration.now c.args.diversions.now) (g.H.Host.state c.args.host.now) c.no_memory.result (broken_by _ c.no_memory.result.reply c.no_memory.ensures.reply) c.no_memory.ensures.touched c.no_memory.ensures.told
 
 pub returns-in-Err-clause-any_moment : goal.returns-in-Err-clause-any_moment
-returns-in-Err-clause-any_moment g c = since_next_start c.args.purge c.args.queue.now.packages c.args.waiting.now.items c.args.waiting.now.items (held_by c.args.administration.now c.args.diversions.now) (g.H.Host.state c.args.host.now)
+returns-in-Err-clause-any_moment g c = since_next_start c.args.extents c.args.queue.now.packages c.args.waiting.now.items c.args.waiting.now.items (held_by c.args.administration.now c.args.diversions.now) (g.H.Host.state c.args.host.now)

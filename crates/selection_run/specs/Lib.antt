@@ -1,0 +1,4 @@
+pub mod Units
+pub mod Turns
+pub mod Run
+pub mod Taking
