@@ -491,7 +491,15 @@ fn removed_selected<S: Hosts, O: Write>(
     ensures below { S.below hosts.new ≡ S.below hosts.old }
 {
     let work = Work::RemoveSelected;
-    worked(alloc, hosts, &asked.root, asked.streams, asked.wait, &work, out)
+    worked(
+        alloc,
+        hosts,
+        &asked.root,
+        asked.streams,
+        asked.wait,
+        &work,
+        out,
+    )
 }
 
 fn diverted<S: Hosts>(alloc: Global, hosts: &mut S, asked: &Diverting) -> Result<Answer, AllocError>

@@ -3,7 +3,7 @@
 ghost use Rattle.std.specs.Prelude.{◌≡◌, ◌≤◌, false, IfErr, IfOk, OnErr, is_some, option_map};
 ghost use Rattle.unit_reports.specs.Held.{held_by};
 ghost use Rattle.unit_reports.specs.Watching.{IsTold};
-ghost use Rattle.command_line.specs.Packages.{HasWorked, HasWorkedToEnd, HasWorkedUnder, IsWorkedOn, changed_of, policy_of, selection_of, selections_of, want_of};
+ghost use Rattle.command_line.specs.Packages.{HasWorked, HasWorkedToEnd, HasWorkedUnder, IsWorkedOn, changed_of, policy_of, selections_of, want_of};
 ghost use Rattle.command_line.specs.Printing.{AreTold};
 ghost use Rattle.command_line.specs.Roots.{IsGivenUpOn, IsRootFault, around};
 
