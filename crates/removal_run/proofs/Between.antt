@@ -1,5 +1,5 @@
 -- Between removals, and what one of them leaves.
-use Rattle.std.proofs.Common.{◌≡◌, ◌<◌, ℕ, Bool, List, [], Option, Some, None, Result, Ok, Err, ap, sym, subst, ◌∙◌}
+use Rattle.std.proofs.Common.{◌≡◌, ◌<◌, ℕ, List, [], Option, Some, None, Result, Ok, Err, ap, sym, subst, ◌∙◌}
 use Rattle.std.specs.Prelude.{OnOk}
 use Rattle.dependency_check.specs.Waiting.{Waiting}
 use Rattle.held_administration.specs.declared.held.Administration.{Administration}

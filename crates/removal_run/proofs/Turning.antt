@@ -1,5 +1,5 @@
 -- Removals, one after another.
-use Rattle.std.proofs.Common.{◌≡◌, inl, inr, ℕ, Bool, List, Option, Some, None, [], ap, sym, subst, ◌∙◌}
+use Rattle.std.proofs.Common.{◌≡◌, inl, inr, ℕ, List, Option, Some, None, [], ap, sym, subst, ◌∙◌}
 use Rattle.std.specs.Prelude.{IsTrue}
 use Rattle.dependency_check.specs.Waiting.{Waiting, IsRemovableNow}
 use Rattle.host_core.specs.Host.{State, AtEachMomentOf, Since}

@@ -14,6 +14,7 @@ pub mod Units
 pub mod Behind
 pub mod Sounds
 pub mod Turns
+mod Selections
 pub mod Sessions
 pub mod Diverts
 pub mod Losses

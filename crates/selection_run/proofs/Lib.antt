@@ -1,0 +1,5 @@
+mod Wants
+mod Found
+mod Indexed
+mod Notes
+mod Selected

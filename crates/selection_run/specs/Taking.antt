@@ -1,5 +1,5 @@
 -- The selections of a command, while they are recorded.
-use Rattle.std.specs.Prelude.{◌≡◌, ◌≢◌, List, [], Option, Some, None, IfSome, drop}
+use Rattle.std.specs.Prelude.{◌≡◌, ◌≢◌, List, [], Some, None, IfSome, drop}
 use Rattle.diversions.specs.Diverted.{Diverted}
 use Rattle.diversions.specs.Ways.{Ways}
 use Rattle.held_administration.specs.Open.{IsOpen}

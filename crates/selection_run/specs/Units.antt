@@ -1,7 +1,8 @@
 -- One selection: what is wanted of a package is recorded (Policy 6.8 speaks of what is done with it).
 use Rattle.std.specs.Prelude.{◌≡◌, ◌⊎◌, ◌≢◌, ℕ, IsTrue, List, [], ◌∷◌, Option, Some, None}
+use Rattle.held_administration.specs.Order.{IsInOrder}
 use Rattle.host_core.specs.Events.{Event, scripts_of}
-use Rattle.host_core.specs.Host.{State, Silent}
+use Rattle.host_core.specs.Host.{State, Needs, Silent}
 use Rattle.host_core.specs.World.{World}
 use Rattle.status_db.specs.Noting.{IsNoted, IsNoting}
 use Rattle.status_records.specs.Records.{put_record, record_in}
@@ -28,12 +29,14 @@ pub record IsLeftAlone (before after : Held) (s t : State) : Type 0 where
   pub held : after ≡ before
   pub here : t ≡ s
 
--- It was recorded. Nothing else that is held has changed, and nothing at other paths than those of records; no script was called.
+-- It was recorded, and the administration is in order. Nothing else that is held has changed, and nothing at other paths than those of
+-- records; no script was called.
 pub record IsRecorded (asked : Selection) (r : Record) (before after : Held) (s t : State) : Type 0 where
   pub records : after.records.records ≡ recorded asked r before.records.records
   pub lists : after.lists ≡ before.lists
   pub ways : after.ways ≡ before.ways
   pub noted : IsTrue t.honest → IsNoted after.records s.world t.world
+  pub order : Needs t (IsInOrder after.records after.lists)
   pub silent : Silent s t
 
 -- a unit that is done: it made no call, and tells the package with its record

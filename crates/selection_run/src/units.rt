@@ -44,8 +44,12 @@ fn decide(database: &NotedDatabase, asked: &Selection) -> Result<Decided, AllocE
     ensures { IfOk result (HasDecided asked.now database.now.records) }
 {
     match database.get(&asked.name) {
-        Some(entry) if is_same(entry.want, asked.want) => Ok(Decided::Wanted),
-        Some(entry) => Ok(Decided::Changed(entry.wanting(asked.want)?)),
+        Some(entry) => {
+            if is_same(entry.want, asked.want) {
+                return Ok(Decided::Wanted);
+            }
+            Ok(Decided::Changed(entry.wanting(asked.want)?))
+        }
         None => Ok(Decided::Refused),
     }
 }
@@ -122,6 +126,7 @@ fn note<H: Host>(
     ensures counts { CountsReply (H.state host.old) (H.state host.new) result.reply }
     ensures not_closed { IsBrokenBy Closed result.reply → ⊥ }
 {
+    administration.database.law();
     let alloc = administration.alloc;
     match note_record(alloc, host, &mut administration.database, entry) {
         Ok(()) => done(alloc, &administration.database, &asked.name),

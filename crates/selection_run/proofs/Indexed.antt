@@ -1,0 +1,93 @@
+-- The packages of records don't tell what is wanted of them.
+use Rattle.std.proofs.Common.{◌≡◌, ℕ, Bool, true, false, cond, List, [], ◌∷◌, ◌++◌, Option, Some, None, refl, sym, ap, subst, ◌∙◌}
+use Rattle.std.specs.Prelude.{IfSome}
+use Rattle.std.specs.Str.{bytes_eq}
+use Rattle.std.proofs.lemmas.Slice.Eq.{bytes_eq-Decides}
+use Rattle.name_tables.specs.Tables.{place_value}
+use Rattle.name_tables.proofs.Ordered as values
+use Rattle.recorded_packages.specs.Packages.{ArePackagesIn, ArePackagesOf, IsPackageOf, root_architecture}
+use Rattle.relation_index.specs.declared.package.Package.{Package}
+use Rattle.stated_relations.specs.Relations.{architecture_of, counted_as}
+use Rattle.status_db.proofs.Ordered.{put_is}
+use Rattle.status_db.specs.Order.{AreInOrder, IsBefore, IsBeforeAll, name_of}
+use Rattle.status_records.specs.Records.{put_record, record_in}
+use Rattle.status_records.specs.Standings.{wanting}
+use Rattle.status_records.specs.declared.record.Record.{Record}
+use Rattle.status_records.specs.declared.words.Want.{Want}
+use Rattle.selection_run.proofs.Found.{some_is}
+
+-- a record stands in a table at the place of another
+record Takes (old r : Record) (rs new : List Record) : Type 0 where
+  pub front : List Record
+  pub back : List Record
+  pub was : rs ≡ front ++ old ∷ back
+  pub is : new ≡ front ++ r ∷ back
+
+before_found : (name other : List ℕ) (rs : List Record) (old : Record) → IsBeforeAll name rs → record_in rs other ≡ Some old → IsBefore name other
+before_found name other [] old all found = absurd cc
+before_found name other (x ∷ xs) old all found = by (bytes_eq x.name other) refl (before_found name other xs old all.1) found
+  where
+    by : (b : Bool) → bytes_eq x.name other ≡ b → (record_in xs other ≡ Some old → IsBefore name other) → cond b (Some x) (record_in xs other) ≡ Some old → IsBefore name other
+    by true same rest is = subst (IsBefore name) ((bytes_eq-Decides x.name other).0 same) all.0
+    by false apart rest is = rest is
+
+-- put in the place of that of its name
+put_takes : (rs : List Record) (old r : Record) → AreInOrder rs → record_in rs r.name ≡ Some old → Takes old r rs (put_record r rs)
+put_takes [] old r order found = absurd cc
+put_takes (x ∷ xs) old r order found = by (bytes_eq x.name r.name) refl (put_takes xs old r order.1) found
+  where
+    here : x.name ≡ r.name → put_record r (x ∷ xs) ≡ r ∷ xs
+    here same =
+        sym (put_is r (x ∷ xs)) ∙ ap (place_value name_of r) (values.dropped_here name_of r.name x xs same order.0)
+        ∙ values.placed_first name_of r xs (subst (λ (n : List ℕ). IsBeforeAll n xs) same order.0)
+
+    later : IsBefore x.name r.name → put_record r (x ∷ xs) ≡ x ∷ put_record r xs
+    later before = sym (put_is r (x ∷ xs)) ∙ values.put_later name_of r x xs before ∙ ap (λ (l : List Record). x ∷ l) (put_is r xs)
+
+    by : (b : Bool) → bytes_eq x.name r.name ≡ b → (record_in xs r.name ≡ Some old → Takes old r xs (put_record r xs)) → cond b (Some x) (record_in xs r.name) ≡ Some old → Takes old r (x ∷ xs) (put_record r (x ∷ xs))
+    by true same rest is = record { front = []; back = xs; was = ap (λ (y : Record). y ∷ xs) (some_is x old is); is = here ((bytes_eq-Decides x.name r.name).0 same) }
+    by false apart rest is =
+        let takes = rest is in
+        record { front = x ∷ takes.front; back = takes.back; was = ap (λ (l : List Record). x ∷ l) takes.was; is = later (before_found x.name r.name xs old order.0 is) ∙ ap (λ (l : List Record). x ∷ l) takes.is }
+
+same_root : (front back : List Record) (want : Want) (old : Record) → root_architecture (front ++ wanting want old ∷ back) ≡ root_architecture (front ++ old ∷ back)
+same_root [] back want old = refl
+same_root (x ∷ front) back want old = ap (λ (o : Option (List ℕ)). counted_as o (architecture_of x.fields)) (same_root front back want old)
+
+same_package : (root : Option (List ℕ)) (want : Want) (old : Record) (p : Package) → IsPackageOf root old p → IsPackageOf root (wanting want old) p
+same_package root want old p is = record {
+  name = is.name;
+  architecture = is.architecture;
+  version = is.version;
+  state = is.state;
+  awaits = is.awaits;
+  reinstreq = is.reinstreq;
+  essential = is.essential;
+  configured = is.configured;
+  removed_since = is.removed_since;
+  provides = is.provides;
+  pre_depends = is.pre_depends;
+  depends = is.depends;
+  breaks = is.breaks;
+  conflicts = is.conflicts;
+  replaces = is.replaces;
+}
+
+same_packages : (root : Option (List ℕ)) (front back : List Record) (want : Want) (old : Record) (ps : List Package) → ArePackagesIn root (front ++ old ∷ back) ps → ArePackagesIn root (front ++ wanting want old ∷ back) ps
+same_packages root [] back want old [] are = absurd are
+same_packages root [] back want old (p ∷ ps) are = (same_package root want old p are.0, are.1)
+same_packages root (x ∷ front) back want old [] are = absurd are
+same_packages root (x ∷ front) back want old (p ∷ ps) are = (are.0, same_packages root front back want old ps are.1)
+
+packages_taken : (rs new : List Record) (want : Want) (old : Record) (ps : List Package) → Takes old (wanting want old) rs new → ArePackagesOf rs ps → ArePackagesOf new ps
+packages_taken rs new want old ps takes are =
+    subst (λ (l : List Record). ArePackagesOf l ps) (sym takes.is)
+    (subst (λ root. ArePackagesIn root (takes.front ++ wanting want old ∷ takes.back) ps) (sym (same_root takes.front takes.back want old))
+    (same_packages _ takes.front takes.back want old ps (subst (λ (l : List Record). ArePackagesOf l ps) takes.was are)))
+
+still : (rs : List Record) (want : Want) (old : Record) → AreInOrder rs → record_in rs old.name ≡ Some old → (o : Option (List Package)) → IfSome o (ArePackagesOf rs) → IfSome o (ArePackagesOf (put_record (wanting want old) rs))
+still rs want old order found None are = tt
+still rs want old order found (Some ps) are = packages_taken rs (put_record (wanting want old) rs) want old ps (put_takes rs old (wanting want old) order found) are
+
+pub still_indexed : (rs new : List Record) (want : Want) (old : Record) → AreInOrder rs → record_in rs old.name ≡ Some old → new ≡ put_record (wanting want old) rs → (o : Option (List Package)) → IfSome o (ArePackagesOf rs) → IfSome o (ArePackagesOf new)
+still_indexed rs new want old order found is o are = subst (λ (l : List Record). IfSome o (ArePackagesOf l)) (sym is) (still rs want old order found o are)
