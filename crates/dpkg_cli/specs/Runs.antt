@@ -5,7 +5,7 @@ use Rattle.command_words.specs.Commands.{asked_of, rehearsal_of}
 use Rattle.command_words.specs.Topics.{named_in}
 use Rattle.dpkg_words.specs.Arguments.{behind_dashes}
 use Rattle.dpkg_words.specs.Names.{speaks_dpkg}
-use Rattle.dpkg_words.specs.Selections.{selected}
+use Rattle.dpkg_words.specs.Selections.{selecting_words}
 use Rattle.dpkg_words.specs.Translated.{translated}
 use Rattle.dpkg_words.specs.declared.selections.Selected.{Selected}
 use Rattle.dpkg_words.specs.declared.selections.Selected.TheVariants as come
@@ -47,7 +47,7 @@ IsSelectedAnswer model (come.Refused line) status = status ≡ 2
 
 -- the same, unless memory is wanting before
 abbrev pub IsTextAnswer : Model → List (List ℕ) → List ℕ → ℕ → Type 0
-IsTextAnswer model front text status = IsSelectedAnswer model (selected front text) status ⊎ (status ≡ 2)
+IsTextAnswer model front text status = IsSelectedAnswer model (selecting_words front text) status ⊎ (status ≡ 2)
 
 -- What the text selects is answered that standard input has, unless none can be read.
 abbrev pub IsSelectingAnswer : Model → List (List ℕ) → ℕ → Type 0

@@ -31,7 +31,7 @@ mod watched;
 use command_line::{FAILED, run_words};
 use directories::Directories;
 use dpkg_words::{
-    Gathered, OwnWords, Printed, Selected, Translated, selected, speaks_dpkg, translate,
+    Gathered, OwnWords, Printed, Selected, Translated, selecting_words, speaks_dpkg, translate,
 };
 use fixed_lines::FixedLines;
 use gathering::archives_below;
@@ -162,7 +162,7 @@ fn run_selected<D: Disk>(rt: HostRuntime, going: Option<Going>, come: &Selected)
 fn run_text<D: Disk>(rt: HostRuntime, going: Option<Going>, front: &OwnWords, text: &str) -> u8
     ensures { IsTextAnswer D.Disk.model front.now text.now result }
 {
-    match selected(rt.alloc(), front, text) {
+    match selecting_words(rt.alloc(), front, text) {
         Ok(come) => run_selected::<D>(rt, going, &come),
         Err(_) => refuse(rt, "broken memory\n"),
     }

@@ -1,5 +1,5 @@
 -- The first line that can't be read.
-use Rattle.std.proofs.Common.{arith, ◌≡◌, ◌<◌, ◌∙◌, ◌∷◌, ◌&&◌, [], ℕ, zero, suc, Bool, true, false, List, Option, Some, None, length, take, get_or, ap, map, if◌then◌else◌, refl}
+use Rattle.std.proofs.Common.{arith, ◌≡◌, ◌<◌, ◌≤◌, ◌∙◌, ◌∷◌, ◌&&◌, [], ℕ, zero, suc, Bool, true, false, List, Option, Some, None, length, take, get_or, ap, map, if◌then◌else◌, refl}
 use Rattle.std.specs.List.{list_all}
 use Rattle.std.specs.Prelude.{option_map}
 use denote.Ref.{Bor}
@@ -16,11 +16,13 @@ both : (a b : Bool) → (a && b) ≡ true → (a ≡ true) × (b ≡ true)
 both true b e = (refl, e)
 both false b e = absurd (let h : false ≡ true = e in cc)
 
-pub none_bad : (lines : List Text) → list_all is_readable lines ≡ true → bad_line lines ≡ None
-none_bad [] all = refl
-none_bad (line ∷ lines) all =
-    let h = both (is_readable line) (list_all is_readable lines) all in
-    taken (is_readable line) _ _ h.0 ∙ ap (option_map (λ (n : ℕ). suc n)) (none_bad lines h.1)
+-- all were looked at
+pub none_bad : (lines : List (Bor Text)) (i : ℕ) → length lines ≤ i → list_all is_readable (map (λ t. t.now) (take i lines)) ≡ true → bad_line (map (λ t. t.now) lines) ≡ None
+none_bad [] i whole all = refl
+none_bad (x ∷ xs) zero whole all = absurd (omega (arith, whole))
+none_bad (x ∷ xs) (suc i) whole all =
+    let h = both (is_readable x.now) (list_all is_readable (map (λ t. t.now) (take i xs))) all in
+    taken (is_readable x.now) _ _ h.0 ∙ ap (option_map (λ (n : ℕ). suc n)) (none_bad xs i (omega (arith, whole)) h.1)
 
 -- behind lines that can be read stands one that can't
 pub bad_at : (lines : List (Bor Text)) (i : ℕ) (d : Bor Text) → i < length lines → list_all is_readable (map (λ t. t.now) (take i lines)) ≡ true → is_readable (get_or lines i d).now ≡ false

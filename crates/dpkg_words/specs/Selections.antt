@@ -75,5 +75,5 @@ abbrev pub selected_from : List Text → List Text → Selected
 selected_from front lines = unless_bad (bad_line lines) front lines
 
 -- What a text selects, by the program's own words before what is selected.
-unfoldable pub selected : List Text → Text → Selected
-selected front text = selected_from front (between 10 text)
+unfoldable pub selecting_words : List Text → Text → Selected
+selecting_words front text = selected_from front (between 10 text)

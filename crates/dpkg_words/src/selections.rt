@@ -1,7 +1,7 @@
 // What is selected on standard input.
 ghost use Rattle.std.specs.Prelude.{◌≡◌, ◌++◌, IfOk, OnOk, codes, filter, flat_map, map, string_bytes};
 ghost use Rattle.dpkg_words.specs.Arguments.{plain_name};
-ghost use Rattle.dpkg_words.specs.Selections.{bad_line, between, chosen, is_readable_by, is_remark, is_selection, is_want, is_word, selected, selected_by, selected_from, selection_of, selections_in, words_of};
+ghost use Rattle.dpkg_words.specs.Selections.{bad_line, between, chosen, is_readable_by, is_remark, is_selection, is_want, is_word, selected_by, selected_from, selection_of, selecting_words, selections_in, words_of};
 
 use crate::arguments::plain_name;
 use crate::own_words::OwnWords;
@@ -185,8 +185,8 @@ fn selected_from(alloc: Global, front: &OwnWords, lines: &[&str]) -> Result<Sele
 }
 
 /// What a text selects, whose lines are `PKG WANT`, with the program's own words before what is selected.
-pub fn selected(alloc: Global, front: &OwnWords, text: &str) -> Result<Selected, AllocError>
-    ensures { IfOk result (λ come. come ≡ selected front.now text.now) }
+pub fn selecting_words(alloc: Global, front: &OwnWords, text: &str) -> Result<Selected, AllocError>
+    ensures { IfOk result (λ come. come ≡ selecting_words front.now text.now) }
 {
     let lines = between_newlines(alloc, text)?;
     selected_from(alloc, front, lines.as_slice())
