@@ -105,6 +105,14 @@ configure_app = with_rule (with_forced (calling_app (codes "configure"))) (words
 abbrev pub removing_app : Text → App
 removing_app name = with_rule (calling_app name) (words_rule (codes "PKG") true)
 
+-- `remove-selected [--root DIR] [--wait SECONDS] [--dry-run [--changes] [--assume-failure PKG:SCRIPT:WORD]..] [--scripts-stderr]`
+abbrev pub remove_selected_app : App
+remove_selected_app = calling_app (codes "remove-selected")
+
+-- `select [--root DIR] [--wait SECONDS] [--dry-run [--changes] [--assume-failure PKG:SCRIPT:WORD]..] PKG=WANT..`
+abbrev pub select_app : App
+select_app = with_rule (changing_app (codes "select")) (words_rule (codes "PKG=WANT") true)
+
 -- `verify [--root DIR] [--tree TREE] [--owner-root] [PKG..]`
 abbrev pub verify_app : App
 verify_app = with_rule (with_rule (with_rule (rooted_app (codes "verify")) (option_rule (codes "tree"))) (flag_rule (codes "owner-root"))) (words_rule (codes "PKG") false)
@@ -128,13 +136,16 @@ abbrev pub third_apps : List App
 third_apps = rooted_app (codes "list") ∷ asking_app (codes "listfiles") (codes "PKG") ∷ removing_app (codes "purge") ∷ []
 
 abbrev pub fourth_apps : List App
-fourth_apps = removing_app (codes "remove") ∷ asking_app (codes "search") (codes "PATH") ∷ asking_app (codes "status") (codes "PKG") ∷ []
+fourth_apps = removing_app (codes "remove") ∷ remove_selected_app ∷ asking_app (codes "search") (codes "PATH") ∷ []
+
+abbrev pub fifth_apps : List App
+fifth_apps = select_app ∷ rooted_app (codes "selections") ∷ asking_app (codes "status") (codes "PKG") ∷ []
 
 abbrev pub last_apps : List App
 last_apps = truename_app ∷ undivert_app ∷ unpack_app ∷ verify_app ∷ []
 
 abbrev pub whole_app : App
-whole_app = with_all (with_all (with_all (with_all (with_all (without_help (new_app (codes "coizkerra"))) first_apps) second_apps) third_apps) fourth_apps) last_apps
+whole_app = with_all (with_all (with_all (with_all (with_all (with_all (without_help (new_app (codes "coizkerra"))) first_apps) second_apps) third_apps) fourth_apps) fifth_apps) last_apps
 
 -- the names that clap knows the subcommands by
 abbrev pub subcommand_names : List Text

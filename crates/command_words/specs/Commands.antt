@@ -8,6 +8,7 @@ use Rattle.command_words.specs.Comparisons.{operator_of}
 use Rattle.command_words.specs.Queries.{query_of}
 use Rattle.command_words.specs.Diversions.{diverting_of, undiverting_of}
 use Rattle.command_words.specs.Packages.{configuring_of, removing_of}
+use Rattle.command_words.specs.Selecting.{removing_selected_of, selecting_of}
 use Rattle.command_words.specs.Topics.{has_help_flag, is_help_flag, topic_in, topic_of}
 use Rattle.command_words.specs.declared.help.Topic.TheVariants.{Program}
 use Rattle.command_words.specs.Unpacks.{unpacking_of}
@@ -17,7 +18,7 @@ use Rattle.command_words.specs.declared.comparison.Comparison.{Comparison}
 use Rattle.command_words.specs.declared.words.Asked.{Asked}
 use Rattle.command_words.specs.declared.words.Command.{Command}
 use Rattle.command_words.specs.declared.words.Compared.{Compared}
-use Rattle.command_words.specs.declared.words.Asked.TheVariants.{Names, Version, Help, CompareVersions, Divert, Undivert, Unpack, Install, Configure, Remove, Purge, Query, Verify}
+use Rattle.command_words.specs.declared.words.Asked.TheVariants.{Names, Version, Help, CompareVersions, Divert, Undivert, Unpack, Install, Configure, Remove, Purge, Select, RemoveSelected, Query, Verify}
 
 -- the subcommand that the words enter, with the texts of its arguments
 abbrev pub entered : List Text → Option (Text × List Row)
@@ -46,6 +47,8 @@ asked_by name rows =
     else if bytes_eq name (codes "install") then option_map Install (unpacking_of rows)
     else if bytes_eq name (codes "purge") then option_map Purge (removing_of rows)
     else if bytes_eq name (codes "remove") then option_map Remove (removing_of rows)
+    else if bytes_eq name (codes "remove-selected") then option_map RemoveSelected (removing_selected_of rows)
+    else if bytes_eq name (codes "select") then option_map Select (selecting_of rows)
     else if bytes_eq name (codes "undivert") then option_map Undivert (undiverting_of rows)
     else if bytes_eq name (codes "unpack") then option_map Unpack (unpacking_of rows)
     else if bytes_eq name (codes "verify") then option_map Verify (verifying_of rows)

@@ -10,6 +10,7 @@ pub mod Queries
 pub mod Forced
 pub mod Unpacks
 pub mod Packages
+pub mod Selecting
 pub mod Diversions
 pub mod Verifications
 pub mod Commands

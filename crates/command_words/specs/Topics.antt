@@ -21,7 +21,10 @@ topic_of name =
     else if bytes_eq name (codes "listfiles") then Some topic.ListFiles
     else if bytes_eq name (codes "purge") then Some topic.Purge
     else if bytes_eq name (codes "remove") then Some topic.Remove
+    else if bytes_eq name (codes "remove-selected") then Some topic.RemoveSelected
     else if bytes_eq name (codes "search") then Some topic.Search
+    else if bytes_eq name (codes "select") then Some topic.Select
+    else if bytes_eq name (codes "selections") then Some topic.Selections
     else if bytes_eq name (codes "status") then Some topic.Status
     else if bytes_eq name (codes "truename") then Some topic.Truename
     else if bytes_eq name (codes "undivert") then Some topic.Undivert
@@ -74,7 +77,10 @@ usage_words topic.List = codes "list [--root DIR]"
 usage_words topic.ListFiles = codes "listfiles [--root DIR] PKG"
 usage_words topic.Purge = codes "purge [--root DIR] [--wait SECONDS] [--dry-run [--changes] [--assume-failure PKG:SCRIPT:WORD]..] [--scripts-stderr] PKG.."
 usage_words topic.Remove = codes "remove [--root DIR] [--wait SECONDS] [--dry-run [--changes] [--assume-failure PKG:SCRIPT:WORD]..] [--scripts-stderr] PKG.."
+usage_words topic.RemoveSelected = codes "remove-selected [--root DIR] [--wait SECONDS] [--dry-run [--changes] [--assume-failure PKG:SCRIPT:WORD]..] [--scripts-stderr]"
 usage_words topic.Search = codes "search [--root DIR] PATH"
+usage_words topic.Select = codes "select [--root DIR] [--wait SECONDS] [--dry-run [--changes] [--assume-failure PKG:SCRIPT:WORD]..] PKG=WANT.."
+usage_words topic.Selections = codes "selections [--root DIR]"
 usage_words topic.Status = codes "status [--root DIR] PKG"
 usage_words topic.Truename = codes "truename [--root DIR] [--package P] PATH"
 usage_words topic.Undivert = codes "undivert [--root DIR] [--wait SECONDS] [--dry-run [--changes] [--assume-failure PKG:SCRIPT:WORD]..] (--package P | --local) [--rename] PATH"

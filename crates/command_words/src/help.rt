@@ -19,7 +19,10 @@ pub enum Topic {
     ListFiles,
     Purge,
     Remove,
+    RemoveSelected,
     Search,
+    Select,
+    Selections,
     Status,
     Truename,
     Undivert,
@@ -36,6 +39,8 @@ const PROGRAM: &str =
   unpack TREE.., install TREE..  put the files of packages in place; install configures them too
   configure [PKG..]              settle conffiles and call postinst
   remove PKG.., purge PKG..      take packages away; with purge their conffiles too
+  select PKG=WANT.., selections  record what is wanted of packages; what is wanted of each
+  remove-selected                take away the packages that are wanted to go
   list, audit                    all packages; those with which something has to be done
   verify [PKG..], verify --tree TREE
                                  what of packages isn't as it was installed, or as a tree has it
@@ -174,12 +179,48 @@ const REMOVE: &str = "Removes packages but their conffiles, in the order that re
 Example: coizkerra remove --root /srv/root hello
 ";
 
+const REMOVE_SELECTED: &str =
+    "Removes the packages of which deinstall is wanted, and purges those of which purge is wanted, in
+the order that relations ask for.
+
+  --root DIR        the root, an absolute directory; / if it isn't given
+  --wait SECONDS    how long the lock of another program is waited for; 0 if it isn't given
+  --dry-run         the lines are told as if it were done, and nothing is changed
+  --changes         behind the lines of a dry run one for each path that would be changed
+  --assume-failure PKG:SCRIPT:WORD
+                    in a dry run this call fails, which WORD is the first argument of
+  --scripts-stderr  what scripts write goes to standard error
+
+Example: coizkerra remove-selected --root /srv/root
+";
+
 const SEARCH: &str =
     "Tells which packages have the file at PATH, a line each; status 1 where none has.
 
   --root DIR  the root, an absolute directory; / if it isn't given
 
 Example: coizkerra search --root /srv/root /usr/bin/hello
+";
+
+const SELECT: &str =
+    "Records what is wanted of packages: WANT is install, hold, deinstall or purge. What is wanted to go
+away goes by remove-selected.
+
+  --root DIR      the root, an absolute directory; / if it isn't given
+  --wait SECONDS  how long the lock of another program is waited for; 0 if it isn't given
+  --dry-run       the lines are told as if it were done, and nothing is changed
+  --changes       behind the lines of a dry run one for each path that would be changed
+  --assume-failure PKG:SCRIPT:WORD
+                  in a dry run this call fails, which WORD is the first argument of
+
+Example: coizkerra select --root /srv/root hello=hold
+";
+
+const SELECTIONS: &str = "Lists what is wanted of each package: PKG WANT, a line each.
+
+  --root DIR  the root, an absolute directory; / if it isn't given
+
+Example: coizkerra selections --root /srv/root
 ";
 
 const STATUS: &str = "Prints the record of a package.
@@ -259,7 +300,10 @@ impl Topic {
             "listfiles" => Some(Topic::ListFiles),
             "purge" => Some(Topic::Purge),
             "remove" => Some(Topic::Remove),
+            "remove-selected" => Some(Topic::RemoveSelected),
             "search" => Some(Topic::Search),
+            "select" => Some(Topic::Select),
+            "selections" => Some(Topic::Selections),
             "status" => Some(Topic::Status),
             "truename" => Some(Topic::Truename),
             "undivert" => Some(Topic::Undivert),
@@ -291,7 +335,12 @@ impl Topic {
                 "purge [--root DIR] [--wait SECONDS] [--dry-run [--changes] [--assume-failure PKG:SCRIPT:WORD]..] [--scripts-stderr] PKG..",
             Topic::Remove =>
                 "remove [--root DIR] [--wait SECONDS] [--dry-run [--changes] [--assume-failure PKG:SCRIPT:WORD]..] [--scripts-stderr] PKG..",
+            Topic::RemoveSelected =>
+                "remove-selected [--root DIR] [--wait SECONDS] [--dry-run [--changes] [--assume-failure PKG:SCRIPT:WORD]..] [--scripts-stderr]",
             Topic::Search => "search [--root DIR] PATH",
+            Topic::Select =>
+                "select [--root DIR] [--wait SECONDS] [--dry-run [--changes] [--assume-failure PKG:SCRIPT:WORD]..] PKG=WANT..",
+            Topic::Selections => "selections [--root DIR]",
             Topic::Status => "status [--root DIR] PKG",
             Topic::Truename => "truename [--root DIR] [--package P] PATH",
             Topic::Undivert =>
@@ -317,7 +366,10 @@ impl Topic {
             Topic::ListFiles => LISTFILES,
             Topic::Purge => PURGE,
             Topic::Remove => REMOVE,
+            Topic::RemoveSelected => REMOVE_SELECTED,
             Topic::Search => SEARCH,
+            Topic::Select => SELECT,
+            Topic::Selections => SELECTIONS,
             Topic::Status => STATUS,
             Topic::Truename => TRUENAME,
             Topic::Undivert => UNDIVERT,

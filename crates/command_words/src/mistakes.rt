@@ -1,10 +1,13 @@
 // What is wrong with the words of a subcommand in which clap finds no fault: one thing, with its word.
 use crate::found::{all_texts_of, flag_of, is_absolute, is_package, text_of};
 use crate::rehearsal::is_failure;
+use crate::selecting::is_selection;
 use crate::waits::wait_of;
 use clap::ArgMatches;
 use shown_lines::shown;
 use std::alloc::{AllocError, Global};
+
+const NO_WANT: &str = "has none of install hold deinstall purge behind its last =";
 
 const NO_OPERATOR: &str = "is none of lt le eq ne ge gt lt-nl le-nl ge-nl gt-nl << <= = >= >>";
 
@@ -79,6 +82,15 @@ fn of_owner(alloc: Global, found: &ArgMatches<'_>) -> Result<String, AllocError>
     }
 }
 
+fn of_selections(alloc: Global, texts: &[&str]) -> Result<String, AllocError> {
+    for text in texts {
+        if !is_selection(text) {
+            return wrong_word(alloc, "PKG=WANT", Some(text), NO_WANT);
+        }
+    }
+    wrong_word(alloc, "PKG=WANT", None, "")
+}
+
 /// What is wrong: first with the root, then with the wait, then with a rehearsal, then with what else the subcommand takes.
 pub(crate) fn mistake_text(
     alloc: Global,
@@ -104,6 +116,10 @@ pub(crate) fn mistake_text(
             wrong_word(alloc, "COMMAND", word, "isn't a subcommand")
         }
         "divert" | "undivert" => of_owner(alloc, found),
+        "select" => {
+            let texts = all_texts_of(found, "PKG=WANT");
+            of_selections(alloc, texts.unwrap_or(&[]))
+        }
         "truename" => of_package(alloc, found),
         _ => String::from_str(
             alloc,

@@ -7,6 +7,7 @@ ghost use Rattle.command_words.specs.Diversions.{diverting_of, undiverting_of};
 ghost use Rattle.command_words.specs.Packages.{configuring_of, removing_of};
 ghost use Rattle.command_words.specs.Queries.{query_of};
 ghost use Rattle.command_words.specs.Rehearsals.{rehearsal_in, rehearsed};
+ghost use Rattle.command_words.specs.Selecting.{removing_selected_of, selecting_of};
 ghost use Rattle.command_words.specs.Topics.{IsToldOf, named_in, topic_in};
 ghost use Rattle.command_words.specs.Unpacks.{unpacking_of};
 ghost use Rattle.command_words.specs.Verifications.{verifying_of};
@@ -21,6 +22,7 @@ use crate::mistakes::mistake_text;
 use crate::packages::{Configuring, Removing, configuring_of, removing_of};
 use crate::query::{Query, query_of};
 use crate::rehearsal::{Rehearsal, is_rehearsable, rehearsal_in};
+use crate::selecting::{RemovingSelected, Selecting, removing_selected_of, selecting_of};
 use crate::unpacking::{Unpacking, unpacking_of};
 use crate::verifying::{Verifying, verifying_of};
 use clap::ArgMatches;
@@ -50,6 +52,10 @@ pub enum Asked {
     Configure(Configuring),
     Remove(Removing),
     Purge(Removing),
+    /// What is wanted of packages is recorded.
+    Select(Selecting),
+    /// The packages go away of which that is wanted.
+    RemoveSelected(RemovingSelected),
     Query(Query),
     Verify(Verifying),
 }
@@ -199,6 +205,8 @@ fn asked_by(alloc: Global, name: &str, found: &ArgMatches<'_>) -> Result<Option<
         "install" => Ok(unpacking_of(alloc, found)?.map(Asked::Install)),
         "purge" => Ok(removing_of(alloc, found)?.map(Asked::Purge)),
         "remove" => Ok(removing_of(alloc, found)?.map(Asked::Remove)),
+        "remove-selected" => Ok(removing_selected_of(alloc, found)?.map(Asked::RemoveSelected)),
+        "select" => Ok(selecting_of(alloc, found)?.map(Asked::Select)),
         "undivert" => Ok(undiverting_of(alloc, found)?.map(Asked::Undivert)),
         "unpack" => Ok(unpacking_of(alloc, found)?.map(Asked::Unpack)),
         "verify" => Ok(verifying_of(alloc, found)?.map(Asked::Verify)),

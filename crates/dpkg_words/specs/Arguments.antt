@@ -58,7 +58,7 @@ tree_front name as_given o =
 abbrev pub configuring_words : Options → List Text → List Text
 configuring_words o names = behind_dashes (conffile_words o.forced (changing_words (codes "configure") o)) (plain_names names)
 
--- `remove` or `purge`
+-- `remove` or `purge`, or `remove-selected` without names
 abbrev pub removing_words : Text → Options → List Text → List Text
 removing_words name o names = behind_dashes (changing_words name o) (plain_names names)
 

@@ -33,6 +33,7 @@ question_of name =
     else if bytes_eq name (codes "listfiles") then Some action.ListFiles
     else if bytes_eq name (codes "search") then Some action.Search
     else if bytes_eq name (codes "audit") then Some action.Audit
+    else if bytes_eq name (codes "get-selections") then Some action.GetSelections
     else if bytes_eq name (codes "verify") then Some action.Verify
     else if bytes_eq name (codes "compare-versions") then Some action.CompareVersions
     else if bytes_eq name (codes "print-architecture") then Some action.PrintArchitecture
@@ -125,6 +126,7 @@ name_of action.TriggersOnly = codes "--triggers-only"
 name_of action.Remove = codes "--remove"
 name_of action.Purge = codes "--purge"
 name_of action.SetSelections = codes "--set-selections"
+name_of action.GetSelections = codes "--get-selections"
 name_of action.Status = codes "--status"
 name_of action.ListFiles = codes "--listfiles"
 name_of action.Search = codes "--search"

@@ -30,8 +30,12 @@ fn own_words(alloc: Global, name: &str, options: &Options) -> Result<OwnWords, A
     Ok(words)
 }
 
-// One that changes what is there, unless it is only rehearsed.
-fn changing_words(alloc: Global, name: &str, options: &Options) -> Result<OwnWords, AllocError>
+/// One that changes what is there, unless it is only rehearsed.
+pub(crate) fn changing_words(
+    alloc: Global,
+    name: &str,
+    options: &Options,
+) -> Result<OwnWords, AllocError>
     ensures { IfOk result (λ words. words ≡ changing_words name.now options.now) }
 {
     let mut words = own_words(alloc, name, options)?;
@@ -97,7 +101,7 @@ pub(crate) fn configuring_words(
     Ok(words)
 }
 
-/// `remove` or `purge`.
+/// `remove` or `purge`, or `remove-selected` without names.
 pub(crate) fn removing_words(
     alloc: Global,
     name: &str,
@@ -132,7 +136,7 @@ fn is_plain(architecture: &str) -> bool
     architecture == "amd64" || architecture == "all"
 }
 
-fn plain_name(name: &str) -> &str
+pub(crate) fn plain_name(name: &str) -> &str
     ensures { result.now ≡ plain_name name.now }
 {
     match cut_at_colon(name) {

@@ -6,10 +6,10 @@ const HELP: &str = "dpkg's words, carried out by coizkerra. Usage: [OPTION ..] A
 
   -i, --install FILE..    --unpack FILE..    archives, or directories as dpkg-deb -R makes them
   --configure PKG..       --configure -a, --pending
-  -r, --remove PKG..      -P, --purge PKG..
+  -r, --remove PKG..      -P, --purge PKG..      -r -a, -P -a: what is selected to go
   -s, --status PKG        -L, --listfiles PKG    -S, --search PATH
   -C, --audit             -V, --verify [PKG..]   --compare-versions A OP B
-  --set-selections        of packages to be installed, removed or purged
+  --set-selections        --get-selections       what is wanted of packages: PKG WANT
   --print-architecture    --print-foreign-architectures    --assert-FEATURE
   -h, --help              --version
 
