@@ -8,6 +8,7 @@ pub mod Waits
 pub mod Topics
 pub mod Queries
 pub mod Forced
+pub mod Triggers
 pub mod Unpacks
 pub mod Packages
 pub mod Selecting

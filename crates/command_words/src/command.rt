@@ -200,7 +200,8 @@ fn calling<'a>(alloc: Global, name: &'a str) -> Result<Command<'a>, AllocError>
     ensures app { IfOk result (λ c. app_of c ≡ calling_app name.entry.now) }
     ensures local { IfOk result (λ c. (fields_of c).has_globals ≡ false) }
 {
-    with_arg(changing(alloc, name)?, flag(alloc, "scripts-stderr"))
+    let command = with_arg(changing(alloc, name)?, flag(alloc, "scripts-stderr"))?;
+    with_arg(command, flag(alloc, "no-triggers"))
 }
 
 // A subcommand that takes trees, without these.
@@ -233,6 +234,7 @@ fn configure_command<'a>(alloc: Global) -> Result<Command<'a>, AllocError>
     ensures local { IfOk result (λ c. (fields_of c).has_globals ≡ false) }
 {
     let command = with_forced(alloc, calling(alloc, "configure")?)?;
+    let command = with_arg(command, flag(alloc, "triggers-only"))?;
     with_arg(command, words(alloc, "PKG", false))
 }
 

@@ -82,6 +82,8 @@ of all that wait for it where none is named.
   --assume-failure PKG:SCRIPT:WORD
                     in a dry run this call fails, which WORD is the first argument of
   --scripts-stderr  what scripts write goes to standard error
+  --no-triggers     triggers stay pending and aren't processed then
+  --triggers-only   triggers that are pending are processed, and no package is configured
   --force-confold   an edited conffile stays, as without a flag
   --force-confnew   the package's takes the place of an edited conffile
   --force-confmiss  a deleted conffile is made again
@@ -129,6 +131,7 @@ rounds, so that what a package needs before its unpack is configured before.
   --assume-failure PKG:SCRIPT:WORD
                       in a dry run this call fails, which WORD is the first argument of
   --scripts-stderr    what scripts write goes to standard error
+  --no-triggers       triggers stay pending and aren't processed then
   --owner-root        files get user and group 0, whoever made the tree
   --auto-deconfigure  installed packages may be deconfigured in their favour
   --force-confold     an edited conffile stays, as without a flag
@@ -162,6 +165,7 @@ const PURGE: &str = "Removes packages with their conffiles, in the order that re
   --assume-failure PKG:SCRIPT:WORD
                     in a dry run this call fails, which WORD is the first argument of
   --scripts-stderr  what scripts write goes to standard error
+  --no-triggers     triggers stay pending and aren't processed then
 
 Example: coizkerra purge --root /srv/root hello
 ";
@@ -175,6 +179,7 @@ const REMOVE: &str = "Removes packages but their conffiles, in the order that re
   --assume-failure PKG:SCRIPT:WORD
                     in a dry run this call fails, which WORD is the first argument of
   --scripts-stderr  what scripts write goes to standard error
+  --no-triggers     triggers stay pending and aren't processed then
 
 Example: coizkerra remove --root /srv/root hello
 ";
@@ -190,6 +195,7 @@ the order that relations ask for.
   --assume-failure PKG:SCRIPT:WORD
                     in a dry run this call fails, which WORD is the first argument of
   --scripts-stderr  what scripts write goes to standard error
+  --no-triggers     triggers stay pending and aren't processed then
 
 Example: coizkerra remove-selected --root /srv/root
 ";
@@ -263,6 +269,7 @@ const UNPACK: &str =
   --assume-failure PKG:SCRIPT:WORD
                       in a dry run this call fails, which WORD is the first argument of
   --scripts-stderr    what scripts write goes to standard error
+  --no-triggers       triggers stay pending and aren't processed then
   --owner-root        files get user and group 0, whoever made the tree
   --auto-deconfigure  installed packages may be deconfigured in their favour
 
@@ -322,21 +329,21 @@ impl Topic {
             Topic::Audit => "audit [--root DIR]",
             Topic::CompareVersions => "compare-versions A OP B",
             Topic::Configure =>
-                "configure [--root DIR] [--wait SECONDS] [--dry-run [--changes] [--assume-failure PKG:SCRIPT:WORD]..] [--scripts-stderr] [--force-confold | --force-confnew] [--force-confmiss] [PKG..]",
+                "configure [--root DIR] [--wait SECONDS] [--dry-run [--changes] [--assume-failure PKG:SCRIPT:WORD]..] [--scripts-stderr] [--force-confold | --force-confnew] [--force-confmiss] ([--no-triggers] [PKG..] | --triggers-only)",
             Topic::Diversions => "diversions [--root DIR]",
             Topic::Divert =>
                 "divert [--root DIR] [--wait SECONDS] [--dry-run [--changes] [--assume-failure PKG:SCRIPT:WORD]..] (--package P | --local) [--divert TARGET] [--rename] PATH",
             Topic::Help => "help [COMMAND]",
             Topic::Install =>
-                "install [--root DIR] [--wait SECONDS] [--dry-run [--changes] [--assume-failure PKG:SCRIPT:WORD]..] [--scripts-stderr] [--owner-root] [--auto-deconfigure] [--force-confold | --force-confnew] [--force-confmiss] [--as-given] TREE..",
+                "install [--root DIR] [--wait SECONDS] [--dry-run [--changes] [--assume-failure PKG:SCRIPT:WORD]..] [--scripts-stderr] [--no-triggers] [--owner-root] [--auto-deconfigure] [--force-confold | --force-confnew] [--force-confmiss] [--as-given] TREE..",
             Topic::List => "list [--root DIR]",
             Topic::ListFiles => "listfiles [--root DIR] PKG",
             Topic::Purge =>
-                "purge [--root DIR] [--wait SECONDS] [--dry-run [--changes] [--assume-failure PKG:SCRIPT:WORD]..] [--scripts-stderr] PKG..",
+                "purge [--root DIR] [--wait SECONDS] [--dry-run [--changes] [--assume-failure PKG:SCRIPT:WORD]..] [--scripts-stderr] [--no-triggers] PKG..",
             Topic::Remove =>
-                "remove [--root DIR] [--wait SECONDS] [--dry-run [--changes] [--assume-failure PKG:SCRIPT:WORD]..] [--scripts-stderr] PKG..",
+                "remove [--root DIR] [--wait SECONDS] [--dry-run [--changes] [--assume-failure PKG:SCRIPT:WORD]..] [--scripts-stderr] [--no-triggers] PKG..",
             Topic::RemoveSelected =>
-                "remove-selected [--root DIR] [--wait SECONDS] [--dry-run [--changes] [--assume-failure PKG:SCRIPT:WORD]..] [--scripts-stderr]",
+                "remove-selected [--root DIR] [--wait SECONDS] [--dry-run [--changes] [--assume-failure PKG:SCRIPT:WORD]..] [--scripts-stderr] [--no-triggers]",
             Topic::Search => "search [--root DIR] PATH",
             Topic::Select =>
                 "select [--root DIR] [--wait SECONDS] [--dry-run [--changes] [--assume-failure PKG:SCRIPT:WORD]..] PKG=WANT..",
@@ -346,7 +353,7 @@ impl Topic {
             Topic::Undivert =>
                 "undivert [--root DIR] [--wait SECONDS] [--dry-run [--changes] [--assume-failure PKG:SCRIPT:WORD]..] (--package P | --local) [--rename] PATH",
             Topic::Unpack =>
-                "unpack [--root DIR] [--wait SECONDS] [--dry-run [--changes] [--assume-failure PKG:SCRIPT:WORD]..] [--scripts-stderr] [--owner-root] [--auto-deconfigure] [--force-confold | --force-confnew] [--force-confmiss] TREE..",
+                "unpack [--root DIR] [--wait SECONDS] [--dry-run [--changes] [--assume-failure PKG:SCRIPT:WORD]..] [--scripts-stderr] [--no-triggers] [--owner-root] [--auto-deconfigure] [--force-confold | --force-confnew] [--force-confmiss] TREE..",
             Topic::Verify => "verify [--root DIR] [PKG.. | --tree TREE [--owner-root]]",
         }
     }

@@ -2,12 +2,15 @@
 use crate::found::{all_texts_of, flag_of, is_absolute, is_package, text_of};
 use crate::rehearsal::is_failure;
 use crate::selecting::is_selection;
+use crate::triggers::{is_of_triggers_only, processes_triggers};
 use crate::waits::wait_of;
 use clap::ArgMatches;
 use shown_lines::shown;
 use std::alloc::{AllocError, Global};
 
 const NO_WANT: &str = "has none of install hold deinstall purge behind its last =";
+
+const BOTH_CONFFILES: &str = "error: --force-confold and --force-confnew exclude each other";
 
 const NO_OPERATOR: &str = "is none of lt le eq ne ge gt lt-nl le-nl ge-nl gt-nl << <= = >= >>";
 
@@ -91,6 +94,20 @@ fn of_selections(alloc: Global, texts: &[&str]) -> Result<String, AllocError> {
     wrong_word(alloc, "PKG=WANT", None, "")
 }
 
+fn of_configure(alloc: Global, found: &ArgMatches<'_>) -> Result<String, AllocError> {
+    if !is_of_triggers_only(found) {
+        return String::from_str(alloc, BOTH_CONFFILES);
+    }
+    if all_texts_of(found, "PKG").is_some() {
+        return String::from_str(alloc, "error: --triggers-only and PKG exclude each other");
+    }
+    if !processes_triggers(found) {
+        let why = "error: --triggers-only and --no-triggers exclude each other";
+        return String::from_str(alloc, why);
+    }
+    String::from_str(alloc, BOTH_CONFFILES)
+}
+
 /// What is wrong: first with the root, then with the wait, then with a rehearsal, then with what else the subcommand takes.
 pub(crate) fn mistake_text(
     alloc: Global,
@@ -111,6 +128,7 @@ pub(crate) fn mistake_text(
             let word = text_of(found, "OP");
             wrong_word(alloc, "OP", word, NO_OPERATOR)
         }
+        "configure" => of_configure(alloc, found),
         "help" => {
             let word = text_of(found, "COMMAND");
             wrong_word(alloc, "COMMAND", word, "isn't a subcommand")
@@ -121,9 +139,6 @@ pub(crate) fn mistake_text(
             of_selections(alloc, texts.unwrap_or(&[]))
         }
         "truename" => of_package(alloc, found),
-        _ => String::from_str(
-            alloc,
-            "error: --force-confold and --force-confnew exclude each other",
-        ),
+        _ => String::from_str(alloc, BOTH_CONFFILES),
     }
 }

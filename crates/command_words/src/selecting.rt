@@ -6,6 +6,7 @@ ghost use Rattle.command_words.specs.Selecting.{are_selections, cut_at_last_equa
 use crate::found::{all_texts_of, is_absolute, text_of};
 use crate::selections::{Selected, Selections, Wanted};
 use crate::streams::{ScriptStreams, streams_of};
+use crate::triggers::processes_triggers;
 use crate::waits::wait_of;
 use clap::ArgMatches;
 use std::alloc::{AllocError, Global};
@@ -25,6 +26,8 @@ pub struct Selecting {
 pub struct RemovingSelected {
     pub root: Text,
     pub streams: ScriptStreams,
+    /// The triggers that are pending then are processed.
+    pub triggers: bool,
     /// As above.
     pub wait: u32,
 }
@@ -155,10 +158,11 @@ fn removing_selected_from(
     alloc: Global,
     root: Option<&str>,
     streams: ScriptStreams,
+    triggers: bool,
     wait: Option<u32>,
 ) -> Result<Option<RemovingSelected>, AllocError>
     ensures { IfOk result (λ asked. asked
-        ≡ removing_selected_from (option_map (λ s. s.now) root.entry) streams wait) }
+        ≡ removing_selected_from (option_map (λ s. s.now) root.entry) streams triggers wait) }
 {
     let (Some(root), Some(wait)) = (root, wait) else {
         return Ok(None);
@@ -170,6 +174,7 @@ fn removing_selected_from(
     Ok(Some(RemovingSelected {
         root,
         streams,
+        triggers,
         wait,
     }))
 }
@@ -182,5 +187,6 @@ pub(crate) fn removing_selected_of(
     ensures { IfOk result (λ asked. asked ≡ removing_selected_of (rows_of (found_of found.now))) }
 {
     let (root, wait) = (text_of(found, "root"), wait_of(found));
-    removing_selected_from(alloc, root, streams_of(found), wait)
+    let (streams, triggers) = (streams_of(found), processes_triggers(found));
+    removing_selected_from(alloc, root, streams, triggers, wait)
 }

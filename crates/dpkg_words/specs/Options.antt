@@ -52,7 +52,7 @@ assertion_of name =
     else if bytes_eq name (codes "assert-protected-field") then Some (action.Assert false)
     else None
 
--- options without a value; there are no triggers, no pager and no signatures here
+-- options without a value; there are no pager and no signatures here
 abbrev pub flag_of : Text → Option Flag
 flag_of name =
     if bytes_eq name (codes "no-act") then Some flag.NoAct
@@ -62,8 +62,8 @@ flag_of name =
     else if bytes_eq name (codes "pending") then Some flag.Pending
     else if bytes_eq name (codes "robot") then Some flag.Robot
     else if bytes_eq name (codes "recursive") then Some flag.Recursive
-    else if bytes_eq name (codes "triggers") then Some flag.Idle
-    else if bytes_eq name (codes "no-triggers") then Some flag.Idle
+    else if bytes_eq name (codes "triggers") then Some flag.Triggers
+    else if bytes_eq name (codes "no-triggers") then Some flag.NoTriggers
     else if bytes_eq name (codes "no-pager") then Some flag.Idle
     else if bytes_eq name (codes "no-debsig") then Some flag.Idle
     else None

@@ -2,7 +2,7 @@
 use Rattle.std.specs.Prelude.{ℕ, ◌&&◌, ◌||◌, ◌==◌, Bool, true, false, not, List, [], ◌∷◌, Option, Some, None, codes, if◌then◌else◌, is_some}
 use Rattle.std.specs.List.{list_any}
 use Rattle.std.specs.Str.{bytes_eq}
-use Rattle.dpkg_words.specs.Arguments.{asking_words, behind_dashes, changing_words, configuring_words, plain_names, removing_words, tree_front}
+use Rattle.dpkg_words.specs.Arguments.{asking_words, behind_dashes, changing_words, configuring_words, plain_names, removing_words, tree_front, triggering_words}
 use Rattle.dpkg_words.specs.Options.{Text, name_of}
 use Rattle.dpkg_words.specs.Reading.{administration_of, read_all}
 use Rattle.dpkg_words.specs.Refusals.{fault_line}
@@ -59,15 +59,15 @@ configured_by false o (w ∷ ws) = under_root o (configuring_words o (w ∷ ws))
 abbrev pub configured : Options → List Text → Translated
 configured o words = configured_by o.pending o words
 
--- `--triggers-only PKG..`, or with `--pending`: there are no triggers, so nothing has to be done
-abbrev pub triggered_by : Bool → List Text → Translated
-triggered_by true (w ∷ ws) = refusal why.Words (codes "--pending")
-triggered_by true [] = printed [] 0
-triggered_by false [] = refusal why.NoWords (codes "--triggers-only")
-triggered_by false (w ∷ ws) = printed [] 0
+-- `--triggers-only --pending`, or `--triggers-only PKG..`: all triggers that are pending, also where packages are named
+abbrev pub triggered_by : Bool → Options → List Text → Translated
+triggered_by true o (w ∷ ws) = refusal why.Words (codes "--pending")
+triggered_by true o [] = under_root o (triggering_words o)
+triggered_by false o [] = refusal why.NoWords (codes "--triggers-only")
+triggered_by false o (w ∷ ws) = under_root o (triggering_words o)
 
 abbrev pub triggered : Options → List Text → Translated
-triggered o words = triggered_by o.pending words
+triggered o words = triggered_by o.pending o words
 
 -- `--remove --pending` or `--purge --pending`: of all packages that are selected to go
 abbrev pub removed_selected : Options → List Text → Translated

@@ -1,6 +1,6 @@
 // The program's own words for what dpkg's ask for.
 ghost use Rattle.std.specs.Prelude.{◌≡◌, IfOk, OnOk};
-ghost use Rattle.dpkg_words.specs.Arguments.{asking_words, behind_dashes, changing_words, conffile_words, configuring_words, is_plain, keeps, own_words, plain_name, plain_names, removing_words, root_of, takes, tree_front};
+ghost use Rattle.dpkg_words.specs.Arguments.{asking_words, behind_dashes, calling_words, changing_words, conffile_words, configuring_words, is_plain, keeps, own_words, plain_name, plain_names, removing_words, root_of, takes, tree_front, triggering_words};
 
 use crate::forces::Forced;
 use crate::own_words::OwnWords;
@@ -43,6 +43,15 @@ pub(crate) fn changing_words(
     Ok(words)
 }
 
+// One that calls scripts. The triggers that are pending then are processed, or let be.
+fn calling_words(alloc: Global, name: &str, options: &Options) -> Result<OwnWords, AllocError>
+    ensures { IfOk result (λ words. words ≡ calling_words name.now options.now) }
+{
+    let mut words = changing_words(alloc, name, options)?;
+    words.push_if(!options.triggers, "--no-triggers")?;
+    Ok(words)
+}
+
 fn keeps(forced: Forced) -> bool
     ensures { result ≡ keeps forced }
 {
@@ -79,7 +88,7 @@ pub(crate) fn tree_front(
 ) -> Result<OwnWords, AllocError>
     ensures { IfOk result (λ words. words ≡ tree_front name.now as_given options.now) }
 {
-    let mut words = changing_words(alloc, name, options)?;
+    let mut words = calling_words(alloc, name, options)?;
     words.push_if(options.auto_deconfigure, "--auto-deconfigure")?;
     push_conffiles(&mut words, options.forced)?;
     words.push_if(as_given, "--as-given")?;
@@ -94,7 +103,7 @@ pub(crate) fn configuring_words(
 ) -> Result<OwnWords, AllocError>
     ensures { IfOk result (λ words. words ≡ configuring_words options.now names.now) }
 {
-    let mut words = changing_words(alloc, "configure", options)?;
+    let mut words = calling_words(alloc, "configure", options)?;
     push_conffiles(&mut words, options.forced)?;
     let names = plain_names(alloc, names)?;
     push_behind(&mut words, names.as_slice())?;
@@ -110,9 +119,18 @@ pub(crate) fn removing_words(
 ) -> Result<OwnWords, AllocError>
     ensures { IfOk result (λ words. words ≡ removing_words name.now options.now names.now) }
 {
-    let mut words = changing_words(alloc, name, options)?;
+    let mut words = calling_words(alloc, name, options)?;
     let names = plain_names(alloc, names)?;
     push_behind(&mut words, names.as_slice())?;
+    Ok(words)
+}
+
+/// `configure --triggers-only`, of all triggers that are pending.
+pub(crate) fn triggering_words(alloc: Global, options: &Options) -> Result<OwnWords, AllocError>
+    ensures { IfOk result (λ words. words ≡ triggering_words options.now) }
+{
+    let mut words = changing_words(alloc, "configure", options)?;
+    words.push("--triggers-only")?;
     Ok(words)
 }
 

@@ -33,6 +33,8 @@ pub(crate) enum Flag {
     Pending,
     Robot,
     Recursive,
+    Triggers,
+    NoTriggers,
     /// It changes nothing.
     Idle,
 }
@@ -115,8 +117,8 @@ fn flag_of(name: &str) -> Option<Flag>
         "pending" => Some(Flag::Pending),
         "robot" => Some(Flag::Robot),
         "recursive" => Some(Flag::Recursive),
-        "triggers" => Some(Flag::Idle),
-        "no-triggers" => Some(Flag::Idle),
+        "triggers" => Some(Flag::Triggers),
+        "no-triggers" => Some(Flag::NoTriggers),
         "no-pager" => Some(Flag::Idle),
         "no-debsig" => Some(Flag::Idle),
         _ => None,

@@ -4,6 +4,7 @@ ghost use Rattle.dpkg_words.specs.Translated.{asked_one, audited, behind_program
 
 use crate::arguments::{
     asking_words, changing_words, configuring_words, plain_names, removing_words, tree_front,
+    triggering_words,
 };
 use crate::options::{Action, name_of};
 use crate::own_words::OwnWords;
@@ -138,7 +139,7 @@ fn configured(alloc: Global, options: &Options, words: &[Text]) -> Result<Transl
     under_root(alloc, options, configuring_words(alloc, options, words)?)
 }
 
-// There are no triggers.
+// All triggers that are pending, also where packages are named.
 fn triggered(alloc: Global, options: &Options, words: &[Text]) -> Result<Translated, AllocError>
     ensures { IfOk result (λ t. t ≡ triggered options.now words.now) }
 {
@@ -148,7 +149,7 @@ fn triggered(alloc: Global, options: &Options, words: &[Text]) -> Result<Transla
     if !options.pending && words.is_empty() {
         return refusal(alloc, Why::NoWords, "--triggers-only");
     }
-    telling(alloc, "", 0)
+    under_root(alloc, options, triggering_words(alloc, options)?)
 }
 
 // All packages that are selected to go.
