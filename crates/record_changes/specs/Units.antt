@@ -51,7 +51,7 @@ pub data IsChange (asked : RecordChange) (before after : Held) (u : AUnit) (s t 
   unknown : entry_of asked before.records.records ≡ None → IsRefusedUnit Unknown asked.name u → IsLeftAlone before after s t → IsChange asked before after u s t
   made : (r : Record) → entry_of asked before.records.records ≡ Some r → IsMade asked.change r → IsDone asked.name before.records.records u → IsLeftAlone before after s t
       → IsChange asked before after u s t
-  changed : (r : Record) → entry_of asked before.records.records ≡ Some r → (IsMade asked.change r → ⊥) → IsDone asked.name after.records.records u → IsRecorded asked r before after s t
+  noted : (r : Record) → entry_of asked before.records.records ≡ Some r → (IsMade asked.change r → ⊥) → IsDone asked.name after.records.records u → IsRecorded asked r before after s t
       → IsChange asked before after u s t
 
 -- the note is being written: the records are those of before, or those with what was asked
