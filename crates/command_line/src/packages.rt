@@ -13,7 +13,7 @@ use crate::hosts::Hosts;
 use administration::AdministrationFault;
 use command_words::{Forced, ScriptStreams, Selected, Selections, Wanted};
 use conffiles::{Changed, ConfPolicy};
-use dpkg_session::{Report, Selection, Session, Watcher};
+use dpkg_session::{Change, RecordChange, Report, Session, Watcher};
 use host_core::Host;
 use status_records::Want;
 use std::alloc::{AllocError, Global};
@@ -29,6 +29,8 @@ pub(crate) enum Work {
     Select(Selections),
     /// Packages go as it is recorded.
     RemoveSelected,
+    /// The triggers that are pending are processed.
+    ProcessTriggers,
 }
 
 fn changed_of(confnew: bool) -> Changed
@@ -83,14 +85,14 @@ fn want_of(wanted: Wanted) -> Want
 }
 
 // What is to be recorded of what words tell.
-fn selections_of(alloc: Global, told: &[Selected]) -> Result<Vec<Selection>, AllocError>
+fn selections_of(alloc: Global, told: &[Selected]) -> Result<Vec<RecordChange>, AllocError>
     ensures { IfOk result (λ selections. selections.items ≡ selections_of told.now) }
 {
     let mut selections = Vec::new(alloc);
     for selected in told {
         let name = selected.name.copy()?;
-        let want = want_of(selected.want);
-        selections.push(Selection { name, want })?;
+        let change = Change::Want(want_of(selected.want));
+        selections.push(RecordChange { name, change })?;
     }
     Ok(selections)
 }
@@ -128,9 +130,10 @@ fn carry_out<H: Host, W: Watcher>(
         }
         Work::Select(told) => {
             let selections = selections_of(alloc, told.as_slice())?;
-            Ok(session.select(selections, watcher))
+            Ok(session.change(selections, watcher))
         }
         Work::RemoveSelected => Ok(session.remove_selected(watcher)),
+        Work::ProcessTriggers => Ok(session.process_triggers(watcher)),
     }
 }
 
