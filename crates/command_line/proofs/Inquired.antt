@@ -40,6 +40,7 @@ answered_behind inquiry.List answer s t reads from = (from.0, (from.1.0, kept s 
 answered_behind (inquiry.ListFiles name) answer s t reads from = (from.0, (from.1.0, from.1.1, from.1.2, kept s t (λ w. HasOneList w from.1.0 name from.1.2 from.1.1) reads from.1.3, from.1.4), from.2)
 answered_behind (inquiry.Search path) answer s t reads from =
     (from.0, (from.1.0, from.1.1, from.1.2, from.1.3, kept s t (λ w. HasFollowed from.1.0 from.1.1 from.1.2 from.1.3 w × IsWhole w path from.1.2.aliases) reads from.1.4, from.1.5), from.2)
+answered_behind inquiry.Selections answer s t reads from = (from.0, (from.1.0, kept s t (λ w. HasRecords w from.1.0) reads from.1.1, from.1.2), from.2)
 answered_behind (inquiry.Status name) answer s t reads from = (from.0, (from.1.0, kept s t (λ w. HasRecords w from.1.0) reads from.1.1, from.1.2), from.2)
 answered_behind (inquiry.Truename user path) answer s t reads from = (from.0, (from.1.0, kept s t (HasWays path from.1.0) reads from.1.1, from.1.2), from.2)
 
@@ -60,6 +61,9 @@ unread_fault (inquiry.ListFiles name) w host.Declined = inl tt
 unread_fault (inquiry.Search place) w host.Device = inl tt
 unread_fault (inquiry.Search place) w host.NoMemory = inl tt
 unread_fault (inquiry.Search place) w host.Declined = inl tt
+unread_fault inquiry.Selections w host.Device = tt
+unread_fault inquiry.Selections w host.NoMemory = tt
+unread_fault inquiry.Selections w host.Declined = tt
 unread_fault (inquiry.Status name) w host.Device = tt
 unread_fault (inquiry.Status name) w host.NoMemory = tt
 unread_fault (inquiry.Status name) w host.Declined = tt

@@ -9,6 +9,7 @@ use Rattle.diversions.specs.Entries.{is_owner}
 use Rattle.command_words.specs.CommandLine.{whole_app}
 use Rattle.command_words.specs.Commands.{asked_by, asked_in, asked_of, comparison_of, entered, flagged, flagged_by, parsed_of, unless_faulty}
 use Rattle.command_words.specs.Packages.{configuring_of, removing_of}
+use Rattle.command_words.specs.Selecting.{removing_selected_of, selecting_of}
 use Rattle.command_words.specs.Unpacks.{unpacking_of}
 use Rattle.command_words.specs.Verifications.{verifying_of}
 use Rattle.command_words.specs.Diversions.{owner_from, owner_of, undiverting_from, undiverting_of, with_target}
@@ -21,7 +22,7 @@ use Rattle.command_words.specs.declared.diverting.Diverting.{Diverting}
 use Rattle.command_words.specs.declared.diverting.Undiverting.{Undiverting}
 use Rattle.command_words.specs.declared.help.Topic.TheVariants.{Program}
 use Rattle.command_words.specs.declared.words.Asked.{Asked}
-use Rattle.command_words.specs.declared.words.Asked.TheVariants.{CompareVersions, Configure, Divert, Help, Install, Names, Purge, Query, Remove, Undivert, Unpack, Verify, Version}
+use Rattle.command_words.specs.declared.words.Asked.TheVariants.{CompareVersions, Configure, Divert, Help, Install, Names, Purge, Query, Remove, RemoveSelected, Select, Undivert, Unpack, Verify, Version}
 use Rattle.command_line.specs.Changes.{owner_in}
 
 abbrev IsNamed : Asked → Type 0
@@ -36,6 +37,8 @@ IsNamed (Install u) = Unit {0}
 IsNamed (Configure c) = Unit {0}
 IsNamed (Remove r) = Unit {0}
 IsNamed (Purge r) = Unit {0}
+IsNamed (Select x) = Unit {0}
+IsNamed (RemoveSelected x) = Unit {0}
 IsNamed (Query q) = Unit {0}
 IsNamed (Verify v) = Unit {0}
 
@@ -104,10 +107,12 @@ by_named name rows =
     (if_named (bytes_eq name (codes "install")) _ _ (map_named Install (unpacking_of rows) (λ u. tt))
     (if_named (bytes_eq name (codes "purge")) _ _ (map_named Purge (removing_of rows) (λ r. tt))
     (if_named (bytes_eq name (codes "remove")) _ _ (map_named Remove (removing_of rows) (λ r. tt))
+    (if_named (bytes_eq name (codes "remove-selected")) _ _ (map_named RemoveSelected (removing_selected_of rows) (λ x. tt))
+    (if_named (bytes_eq name (codes "select")) _ _ (map_named Select (selecting_of rows) (λ x. tt))
     (if_named (bytes_eq name (codes "undivert")) _ _ (undivert_asked (undiverting_of rows) undivert)
     (if_named (bytes_eq name (codes "unpack")) _ _ (map_named Unpack (unpacking_of rows) (λ u. tt))
     (if_named (bytes_eq name (codes "verify")) _ _ (map_named Verify (verifying_of rows) (λ v. tt))
-    (map_named Query (query_of name rows) (λ q. tt)))))))))))
+    (map_named Query (query_of name rows) (λ q. tt)))))))))))))
 
 in_named : (sub : Option (Text × List Row)) → Named (asked_in sub)
 in_named None = tt

@@ -65,18 +65,20 @@ all_within outer inner within owners earlier (c ∷ cs) h =
 
 -- what was found by a look
 found_within : (outer inner : Around) → Within outer inner → (word : List ℕ) (read : Result ControlFile TreeFault) → IsLookedAt inner word read → IsLookedAt outer word read
-found_within outer inner within word read (inl r) = inl (record {
-  state = r.state;
-  behind = within.tree word r.state r.behind;
-  end = r.end;
-  read_as = r.read_as;
-  silent = r.silent;
-  reads = r.reads;
-  given = within.seen r.end r.given;
-  counts = r.counts;
-})
-found_within outer inner within word read (inr (inl failed)) = inr (inl (failed.0, within.failed failed.1))
-found_within outer inner within word read (inr (inr memory)) = inr (inr memory)
+found_within outer inner within word read (some, inl r) = (
+  some,
+  inl (record {
+    state = r.state;
+    behind = within.tree word r.state r.behind;
+    end = r.end;
+    read_as = r.read_as;
+    silent = r.silent;
+    reads = r.reads;
+    given = within.seen r.end r.given;
+    counts = r.counts;
+  }),
+)
+found_within outer inner within word read (some, inr failed) = (some, inr (failed.0, within.failed failed.1))
 
 pub looked_within : (outer inner : Around) → Within outer inner → (word : List ℕ) (found : Option ControlFile) → HasLooked inner word found → HasLooked outer word found
 looked_within outer inner within word found h = (h.0, found_within outer inner within word h.0 h.1, h.2)

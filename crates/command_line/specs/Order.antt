@@ -1,5 +1,5 @@
 -- In which rounds an install takes its trees, of which the control files are looked at first (Policy 7.2).
-use Rattle.std.specs.Prelude.{◌≡◌, ◌⊎◌, ◌||◌, ⊤, ℕ, Bool, IsTrue, List, [], ◌∷◌, length, map, nat_le, slice_index_or, MatchBool, Option, Some, None, Result, Ok, Err}
+use Rattle.std.specs.Prelude.{◌≡◌, ◌≢◌, ◌⊎◌, ◌||◌, ⊤, ℕ, Bool, IsTrue, List, [], ◌∷◌, length, map, nat_le, slice_index_or, MatchBool, Option, Some, None, Result, Ok, Err}
 use Rattle.host_core.specs.Host.{Reads, Silent, State}
 use Rattle.host_core.specs.World.{World}
 use Rattle.install_order.specs.Rounds.{AreRounds}
@@ -31,9 +31,10 @@ pub record IsLooking (a : Around) (word : List ℕ) (read : Result ControlFile T
   pub given : a.seen end
   pub counts : CountsTree state end read
 
--- what is found for a word, unless no host could be opened for it: the device failed, or memory was wanting
+-- What is found for a word: what a look finds, or that the device failed on opening a host for it. A look for which memory is wanting
+-- finds nothing, and ends the command.
 abbrev pub IsLookedAt : Around → List ℕ → Result ControlFile TreeFault → Type 0
-IsLookedAt a word read = IsLooking a word read ⊎ (((read ≡ Err tree_faults.Device) × a.failed) ⊎ (read ≡ Err tree_faults.NoMemory))
+IsLookedAt a word read = (read ≢ Err tree_faults.NoMemory) × (IsLooking a word read ⊎ ((read ≡ Err tree_faults.Device) × a.failed))
 
 -- one that can't be read needs nothing of others, and meets nothing
 abbrev pub looked_as : Result ControlFile TreeFault → Option ControlFile

@@ -1,5 +1,5 @@
--- What is asked of packages by their names, and what came of it.
-use Rattle.std.specs.Prelude.{ℕ, Bool, true, false, IsNone, List, Option, Result, Ok, Err, if◌then◌else◌}
+-- What is asked of packages by their names, or by what is wanted of them, and what came of it.
+use Rattle.std.specs.Prelude.{ℕ, Bool, IsNone, List, Option, Result, Ok, Err, if◌then◌else◌, map}
 use Rattle.host_core.specs.Events.{Event}
 use Rattle.host_core.specs.Host.{Since, State}
 use Rattle.host_core.specs.World.{World}
@@ -7,6 +7,8 @@ use Rattle.command_line.specs.declared.fault.NotOpened.{NotOpened}
 use Rattle.diversions.specs.Ways.{Ways}
 use Rattle.file_lists.specs.declared.paths.PackageList.{PackageList}
 use Rattle.status_records.specs.declared.record.Record.{Record}
+use Rattle.status_records.specs.declared.words.Want.{Want}
+use Rattle.status_records.specs.declared.words.Want.TheVariants as want
 use Rattle.conffiles.specs.declared.decisions.Changed.{Changed}
 use Rattle.conffiles.specs.declared.decisions.Changed.TheVariants.{Keep, Install}
 use Rattle.conffiles.specs.declared.decisions.ConfPolicy.{ConfPolicy}
@@ -16,9 +18,19 @@ use Rattle.unit_reports.specs.declared.report.Report.{Report}
 use Rattle.unit_reports.specs.declared.report.Unit.{Unit as AUnit}
 use Rattle.configure_run.specs.Run as configuring
 use Rattle.removal_run.specs.Run as removing
+use Rattle.removal_run.specs.Selected.{selected_names}
+use Rattle.removal_run.specs.declared.extents.Extents.TheVariants.{Removed, Purged, Selected}
+use Rattle.record_changes.specs.Run as changing
+use Rattle.record_changes.specs.declared.change.Change.TheVariants as change
+use Rattle.record_changes.specs.declared.change.RecordChange.{RecordChange}
+use Rattle.trigger_run.specs.Pending.{pending_names}
+use Rattle.trigger_run.specs.Run as triggering
 use Rattle.dpkg_session.specs.Asked.{names_asked}
 use Rattle.command_words.specs.declared.forced.Forced.{Forced}
 use Rattle.command_words.specs.declared.packages.Configuring.{Configuring}
+use Rattle.command_words.specs.declared.selections.Selected.{Selected as Told}
+use Rattle.command_words.specs.declared.selections.Wanted.{Wanted}
+use Rattle.command_words.specs.declared.selections.Wanted.TheVariants as wanted
 use Rattle.command_line.specs.Endings.{HasEnded}
 use Rattle.command_line.specs.Roots.{Around, Given, IsOpenedOn, IsRootFault, held_anew}
 use Rattle.command_line.specs.declared.ending.Ended.{Ended}
@@ -36,23 +48,46 @@ policy_of f = record { changed = changed_of f.confnew; missing = f.confmiss }
 abbrev pub work_of : Configuring → Work
 work_of c = work.Configure c.names (policy_of c.forced)
 
+-- what is to be wanted, as a record has it
+abbrev pub want_of : Wanted → Want
+want_of wanted.Install = want.Install
+want_of wanted.Hold = want.Hold
+want_of wanted.Deinstall = want.Deinstall
+want_of wanted.Purge = want.Purge
+
+-- what is to be recorded of what words tell
+abbrev pub selection_of : Told → RecordChange
+selection_of told = record { name = told.name; change = change.Want (want_of told.want) }
+
+abbrev pub selections_of : List Told → List RecordChange
+selections_of told = map selection_of told
+
 -- all units of it, as a session carries them out
 abbrev pub IsWorkedBy : Work → List AUnit → Held → Held → State → State → Type 0
 IsWorkedBy (work.Configure names policy) us before after s t = configuring.IsConfigureRun (names_asked names before.records.records) policy us before after s t
-IsWorkedBy (work.Remove names) us before after s t = removing.IsRemovalRun names false us before after s t
-IsWorkedBy (work.Purge names) us before after s t = removing.IsRemovalRun names true us before after s t
+IsWorkedBy (work.Remove names) us before after s t = removing.IsRemovalRun names Removed us before after s t
+IsWorkedBy (work.Purge names) us before after s t = removing.IsRemovalRun names Purged us before after s t
+IsWorkedBy (work.Select told) us before after s t = changing.IsChangeRun (selections_of told) us before after s t
+IsWorkedBy work.RemoveSelected us before after s t = removing.IsRemovalRun (selected_names before.records.records) Selected us before after s t
+IsWorkedBy work.ProcessTriggers us before after s t = triggering.IsTriggerRun (pending_names before.records.records) us before after s t
 
 -- its first units, up to one that may have been broken off
 abbrev pub IsWorkedUpTo : Work → List AUnit → Option AUnit → Held → State → State → Type 0
 IsWorkedUpTo (work.Configure names policy) us last before s t = configuring.HasRun (names_asked names before.records.records) policy us last before s t
-IsWorkedUpTo (work.Remove names) us last before s t = removing.HasRun names false us last before s t
-IsWorkedUpTo (work.Purge names) us last before s t = removing.HasRun names true us last before s t
+IsWorkedUpTo (work.Remove names) us last before s t = removing.HasRun names Removed us last before s t
+IsWorkedUpTo (work.Purge names) us last before s t = removing.HasRun names Purged us last before s t
+IsWorkedUpTo (work.Select told) us last before s t = changing.HasRun (selections_of told) us last before s t
+IsWorkedUpTo work.RemoveSelected us last before s t = removing.HasRun (selected_names before.records.records) Selected us last before s t
+IsWorkedUpTo work.ProcessTriggers us last before s t = triggering.HasRun (pending_names before.records.records) us last before s t
 
 -- at each moment of it
 abbrev pub IsWorking : Work → Held → State → List Event → World → Type 0
 IsWorking (work.Configure names policy) before s so_far now = configuring.IsAmidRun (names_asked names before.records.records) policy before s so_far now
-IsWorking (work.Remove names) before s so_far now = removing.IsAmidRun names false before s so_far now
-IsWorking (work.Purge names) before s so_far now = removing.IsAmidRun names true before s so_far now
+IsWorking (work.Remove names) before s so_far now = removing.IsAmidRun names Removed before s so_far now
+IsWorking (work.Purge names) before s so_far now = removing.IsAmidRun names Purged before s so_far now
+IsWorking (work.Select told) before s so_far now = changing.IsAmidRun (selections_of told) before s so_far now
+IsWorking work.RemoveSelected before s so_far now = removing.IsAmidRun (selected_names before.records.records) Selected before s so_far now
+IsWorking work.ProcessTriggers before s so_far now = triggering.IsAmidRun (pending_names before.records.records) before s so_far now
 
 -- The units are those of the work, from what was held before to what is held then; all of them, unless one was broken off. In any
 -- case the calls that are told are the host's own list, and each world since is one of a moment of the work.

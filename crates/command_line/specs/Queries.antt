@@ -10,7 +10,7 @@ use Rattle.administration.specs.declared.fault.AdministrationFault.TheVariants a
 use Rattle.opening.specs.Parts.{IsDamage}
 use Rattle.inquiries.specs.Glances.{IsGlance}
 use Rattle.inquiries.specs.declared.glance.Glance.{Glance}
-use Rattle.inquiries.specs.Read.{AreDiversions, AreFiles, IsAllDamage, IsAudit, IsFilesDamage, IsList, IsSearch, IsStatus, IsTruename, diversions_parts, records_parts}
+use Rattle.inquiries.specs.Read.{AreDiversions, AreFiles, AreSelections, IsAllDamage, IsAudit, IsFilesDamage, IsList, IsSearch, IsStatus, IsTruename, diversions_parts, records_parts}
 use Rattle.dpkg_session.specs.Standing.{CountsRefusal}
 use Rattle.shown_lines.specs.Lines.{line}
 use Rattle.command_words.specs.declared.query.Query.{Query}
@@ -36,6 +36,7 @@ inquiry_of question.Diversions = Ok inquiry.Diversions
 inquiry_of question.List = Ok inquiry.List
 inquiry_of (question.ListFiles name) = Ok (inquiry.ListFiles name)
 inquiry_of (question.Search path) = on_path inquiry.Search path
+inquiry_of question.Selections = Ok inquiry.Selections
 inquiry_of (question.Status name) = Ok (inquiry.Status name)
 inquiry_of (question.Truename user path) = on_path (inquiry.Truename user) path
 
@@ -64,6 +65,7 @@ IsAnsweredFrom s inquiry.Diversions answer = (text : List ℕ) × AreDiversions 
 IsAnsweredFrom s inquiry.List answer = (text : List ℕ) × IsList s text × (answer ≡ text_answer text)
 IsAnsweredFrom s (inquiry.ListFiles name) answer = (text : Option (List ℕ)) × AreFiles name s text × (answer ≡ package_answer name text)
 IsAnsweredFrom s (inquiry.Search path) answer = (text : List ℕ) × IsSearch path s text × (answer ≡ search_answer text)
+IsAnsweredFrom s inquiry.Selections answer = (text : List ℕ) × AreSelections s text × (answer ≡ text_answer text)
 IsAnsweredFrom s (inquiry.Status name) answer = (text : Option (List ℕ)) × IsStatus name s text × (answer ≡ package_answer name text)
 IsAnsweredFrom s (inquiry.Truename user path) answer = (text : List ℕ) × IsTruename user path s text × (answer ≡ text_answer text)
 
@@ -74,6 +76,7 @@ IsUnread inquiry.Diversions w fault = IsDamage diversions_parts w fault
 IsUnread inquiry.List w fault = IsDamage records_parts w fault
 IsUnread (inquiry.ListFiles name) w fault = IsFilesDamage name w fault
 IsUnread (inquiry.Search path) w fault = IsAllDamage w fault
+IsUnread inquiry.Selections w fault = IsDamage records_parts w fault
 IsUnread (inquiry.Status name) w fault = IsDamage records_parts w fault
 IsUnread (inquiry.Truename user path) w fault = IsDamage diversions_parts w fault
 
@@ -84,6 +87,7 @@ reads_info inquiry.Diversions = false
 reads_info inquiry.List = false
 reads_info (inquiry.ListFiles name) = true
 reads_info (inquiry.Search path) = true
+reads_info inquiry.Selections = false
 reads_info (inquiry.Status name) = false
 reads_info (inquiry.Truename user path) = false
 

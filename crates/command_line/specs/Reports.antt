@@ -30,7 +30,7 @@ use Rattle.command_words.specs.Topics.{HasScreen, IsScreen, version_line}
 use Rattle.command_words.specs.declared.comparison.Comparison.{Comparison}
 use Rattle.command_words.specs.declared.help.Topic.{Topic}
 use Rattle.command_words.specs.declared.words.Asked.{Asked}
-use Rattle.command_words.specs.declared.words.Asked.TheVariants.{Names, Version, CompareVersions, Help, Configure, Divert, Install, Purge, Query, Remove, Undivert, Unpack, Verify}
+use Rattle.command_words.specs.declared.words.Asked.TheVariants.{Names, Version, CompareVersions, Help, Configure, Divert, Install, Purge, Query, Remove, RemoveSelected, Select, Undivert, Unpack, Verify}
 use Rattle.command_words.specs.declared.unpacking.Unpacking.{Unpacking}
 
 -- the names of the subcommands, one a line
@@ -131,6 +131,8 @@ IsAnswerTo a (Install u) answer = IsTreesAnswer a (Some (policy_of u.forced)) u 
 IsAnswerTo a (Configure c) answer = IsWorkAnswer a c.root (work_of c) answer
 IsAnswerTo a (Remove r) answer = IsWorkAnswer a r.root (work.Remove r.names) answer
 IsAnswerTo a (Purge r) answer = IsWorkAnswer a r.root (work.Purge r.names) answer
+IsAnswerTo a (Select x) answer = IsWorkAnswer a x.root (work.Select x.selections) answer
+IsAnswerTo a (RemoveSelected x) answer = IsWorkAnswer a x.root work.RemoveSelected answer
 
 -- for want of memory
 abbrev pub memory_answer : Answer
@@ -161,6 +163,8 @@ prints (Some (Install u)) = true
 prints (Some (Configure c)) = true
 prints (Some (Remove r)) = true
 prints (Some (Purge r)) = true
+prints (Some (Select x)) = true
+prints (Some (RemoveSelected x)) = true
 prints None = false
 
 -- only for these is a root opened: not for a question about a text that names no path, nor for such a diversion
@@ -178,6 +182,8 @@ opens_root (Some (Install u)) = true
 opens_root (Some (Configure c)) = true
 opens_root (Some (Remove r)) = true
 opens_root (Some (Purge r)) = true
+opens_root (Some (Select x)) = true
+opens_root (Some (RemoveSelected x)) = true
 opens_root None = false
 
 -- an answer is written to what standard output and standard error held, and its status returned
@@ -211,6 +217,8 @@ has_units (Some (Install u)) = true
 has_units (Some (Configure c)) = true
 has_units (Some (Remove r)) = true
 has_units (Some (Purge r)) = true
+has_units (Some (Select x)) = true
+has_units (Some (RemoveSelected x)) = true
 has_units None = false
 
 -- memory was wanting behind the first lines of an answer

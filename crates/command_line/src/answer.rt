@@ -32,9 +32,9 @@ use crate::steady::Unanswered;
 use crate::unpacking::{Done, unpack};
 use crate::verifying::check_under;
 use command_words::{
-    Asked, Comparison, Configuring, Diverting, Query, Removing, ScriptStreams, Topic, Undiverting,
-    Unpacking, Verdict, Verifying, WordsFault, bad_version_line, command_of, help_text,
-    subcommand_names, version_text,
+    Asked, Comparison, Configuring, Diverting, Query, Removing, RemovingSelected, ScriptStreams,
+    Selecting, Topic, Undiverting, Unpacking, Verdict, Verifying, WordsFault, bad_version_line,
+    command_of, help_text, subcommand_names, version_text,
 };
 use conffiles::ConfPolicy;
 use dpkg_session::{Installed, Report, Unit};
@@ -455,6 +455,53 @@ fn purged<S: Hosts, O: Write>(
     worked(alloc, hosts, &root, streams, wait, &work, out)
 }
 
+fn selected<S: Hosts, O: Write>(
+    alloc: Global,
+    hosts: &mut S,
+    asked: Selecting,
+    out: &mut O,
+) -> Result<Left, AllocError>
+    ensures ended { (ended : Result (AnEnded AReport) ANotOpened)
+        × HasEndedWork (around S.Hosts hosts.old hosts.new) asked.root
+        (Work.Select asked.selections) ended
+        × IsLeft (work_answer ended) (O.contents out.old) (O.contents out.new) result }
+    ensures bound { IfOk result (λ left. status_left left ≤ 2) }
+    ensures below { S.below hosts.new ≡ S.below hosts.old }
+{
+    let Selecting {
+        root,
+        selections,
+        wait,
+    } = asked;
+    let work = Work::Select(selections);
+    worked(alloc, hosts, &root, ScriptStreams::Own, wait, &work, out)
+}
+
+fn removed_selected<S: Hosts, O: Write>(
+    alloc: Global,
+    hosts: &mut S,
+    asked: &RemovingSelected,
+    out: &mut O,
+) -> Result<Left, AllocError>
+    ensures ended { (ended : Result (AnEnded AReport) ANotOpened)
+        × HasEndedWork (around S.Hosts hosts.old hosts.new) asked.now.root Work.RemoveSelected
+        ended × IsLeft (work_answer ended) (O.contents out.old) (O.contents out.new)
+        result }
+    ensures bound { IfOk result (λ left. status_left left ≤ 2) }
+    ensures below { S.below hosts.new ≡ S.below hosts.old }
+{
+    let work = Work::RemoveSelected;
+    worked(
+        alloc,
+        hosts,
+        &asked.root,
+        asked.streams,
+        asked.wait,
+        &work,
+        out,
+    )
+}
+
 fn diverted<S: Hosts>(alloc: Global, hosts: &mut S, asked: &Diverting) -> Result<Answer, AllocError>
     requires { is_owner (owner_in asked.now.owner) ≡ true }
     ensures answered { (answer : AnAnswer)
@@ -604,6 +651,8 @@ pub(crate) fn answer_to<S: Hosts, O: Write>(
         Ok(Asked::Configure(asked)) => configured(alloc, hosts, asked, out),
         Ok(Asked::Remove(asked)) => removed(alloc, hosts, asked, out),
         Ok(Asked::Purge(asked)) => purged(alloc, hosts, asked, out),
+        Ok(Asked::Select(asked)) => selected(alloc, hosts, asked, out),
+        Ok(Asked::RemoveSelected(asked)) => removed_selected(alloc, hosts, &asked, out),
         Err(WordsFault::Usage(text)) => Ok(Left::Rest(complained(alloc, text))),
         Err(WordsFault::NoMemory) => Err(AllocError),
     }

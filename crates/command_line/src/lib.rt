@@ -17,10 +17,14 @@
 //! For `install` it is the same with two reports for each round that was begun, that of the unpacks
 //! and that of what was configured then, whose lines are told one after the other. The rounds are
 //! those of install_order by the control files of the trees, which are looked at first, and by the
-//! packages that are recorded (`AreRoundsOf`); or one round of all trees, where they are to be taken
-//! as given. Behind a unit that was broken off no round is begun (`HasInstalledRounds`). For `configure`, `remove` and `purge`
-//! it tells likewise by the report of the units of the named packages. For `divert` and `undivert`
-//! it tells likewise how the one unit ended, of a change as the words ask for it, on the
+//! packages that are recorded (`AreRoundsOf`); or one round of all trees, where they are to be
+//! taken as given. Only its own fault, or a counted one of the host, has a tree count as none
+//! there: where memory is wanting for a look, nothing is done (`IsLookedAt`). Behind a unit that
+//! was broken off no round is begun (`HasInstalledRounds`). For `configure`, `remove` and `purge`
+//! it tells likewise by the report of the units of the named packages. For `select` and
+//! `remove-selected` it does so of what is to be wanted of packages, as words tell it, and of the
+//! packages that go because it is recorded that this is wanted. For `divert` and `undivert` it
+//! tells likewise how the one unit ended, of a change as the words ask for it, on the
 //! administration that was opened; a path or target that no package may ship is told on standard
 //! error before the root is opened.
 //!

@@ -1,9 +1,10 @@
 // The rounds of an install: its trees are looked at first, one after another.
-ghost use Rattle.std.specs.Prelude.{◌≡◌, ◌++◌, ◌∷◌, ◌<◌, [], IsTrue, List, ℕ, IfOk, OnOk, Option, false, length, map};
+ghost use Rattle.std.specs.Prelude.{◌≡◌, ◌≢◌, ◌++◌, ◌∷◌, ◌<◌, [], IsTrue, List, ℕ, Err, IfOk, OnOk, Option, false, length, map};
 ghost use Rattle.std.specs.List.{All};
 ghost use Rattle.host_core.specs.Host.{Reads, Silent, State};
 ghost use Rattle.package_tree.specs.Fault.{CountsTree};
 ghost use Rattle.package_tree.specs.declared.control_file.ControlFile.{ControlFile as AControlFile};
+ghost use Rattle.package_tree.specs.declared.fault.TreeFault.TheVariants.{NoMemory};
 ghost use Rattle.command_line.specs.Order.{AreLookedAt, AreRoundsOf, HasLooked, IsLookedAs, IsLookedAt, IsOrdered, is_one_round, words_at};
 ghost use Rattle.command_line.specs.Reading.{HaveGoneOn};
 ghost use Rattle.command_line.specs.Roots.{around};
@@ -32,14 +33,15 @@ fn look_on<H: Host>(alloc: Global, host: &mut H) -> Result<ControlFile, TreeFaul
     }
 }
 
-// What is found for a word; a tree that can't be opened has the host's fault.
+// What is found for a word, unless memory is wanting; a tree that can't be opened has the host's fault.
 fn look<S: Hosts>(
     alloc: Global,
     hosts: &mut S,
     owners: TreeOwners,
     word: &str,
 ) -> Result<ControlFile, TreeFault>
-    ensures read { IsLookedAt (around S.Hosts hosts.old hosts.new) word.now result }
+    ensures read { result ≢ Err NoMemory
+        → IsLookedAt (around S.Hosts hosts.old hosts.new) word.now result }
     ensures on { HaveGoneOn S.Hosts hosts.old hosts.new }
 {
     match hosts.open_tree(word, owners) {
@@ -59,13 +61,14 @@ fn look_at<S: Hosts>(
     hosts: &mut S,
     owners: TreeOwners,
     word: &str,
-) -> Option<ControlFile>
-    ensures read { HasLooked (around S.Hosts hosts.old hosts.new) word.now result }
+) -> Result<Option<ControlFile>, AllocError>
+    ensures read { IfOk result (HasLooked (around S.Hosts hosts.old hosts.new) word.now) }
     ensures on { HaveGoneOn S.Hosts hosts.old hosts.new }
 {
     match look(alloc, hosts, owners, word) {
-        Ok(file) => Some(file),
-        Err(_) => None,
+        Ok(file) => Ok(Some(file)),
+        Err(TreeFault::NoMemory) => Err(AllocError),
+        Err(_) => Ok(None),
     }
 }
 
@@ -85,7 +88,9 @@ fn look_at_all<S: Hosts>(
     let Some((word, words)) = words.split_first() else {
         return Ok(());
     };
-    let found = look_at(alloc, hosts, owners, word.as_str());
+    let Ok(found) = look_at(alloc, hosts, owners, word.as_str()) else {
+        return Err(AllocError);
+    };
     if looked.push(found).is_err() {
         return Err(AllocError);
     }

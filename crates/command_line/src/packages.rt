@@ -1,8 +1,9 @@
-// Packages are configured, removed or purged by their names: the root is opened to do it.
+// Packages are configured, removed or purged by their names, or by what is wanted of them, which is recorded too: the root is
+// opened to do it.
 ghost use Rattle.std.specs.Prelude.{◌≡◌, ◌≤◌, false, IfErr, IfOk, OnErr, is_some, option_map};
 ghost use Rattle.unit_reports.specs.Held.{held_by};
 ghost use Rattle.unit_reports.specs.Watching.{IsTold};
-ghost use Rattle.command_line.specs.Packages.{HasWorked, HasWorkedToEnd, HasWorkedUnder, IsWorkedOn, changed_of, policy_of};
+ghost use Rattle.command_line.specs.Packages.{HasWorked, HasWorkedToEnd, HasWorkedUnder, IsWorkedOn, changed_of, policy_of, selections_of, want_of};
 ghost use Rattle.command_line.specs.Printing.{AreTold};
 ghost use Rattle.command_line.specs.Roots.{IsGivenUpOn, IsRootFault, around};
 
@@ -10,10 +11,11 @@ use crate::ending::{Ended, end};
 use crate::fault::{NotOpened, RootFault};
 use crate::hosts::Hosts;
 use administration::AdministrationFault;
-use command_words::{Forced, ScriptStreams};
+use command_words::{Forced, ScriptStreams, Selected, Selections, Wanted};
 use conffiles::{Changed, ConfPolicy};
-use dpkg_session::{Report, Session, Watcher};
+use dpkg_session::{Change, RecordChange, Report, Session, Watcher};
 use host_core::Host;
+use status_records::Want;
 use std::alloc::{AllocError, Global};
 use texts::{Text, Texts};
 
@@ -23,6 +25,12 @@ pub(crate) enum Work {
     Configure(Option<Texts>, ConfPolicy),
     Remove(Texts),
     Purge(Texts),
+    /// What is wanted of packages is recorded.
+    Select(Selections),
+    /// Packages go as it is recorded.
+    RemoveSelected,
+    /// The triggers that are pending are processed.
+    ProcessTriggers,
 }
 
 fn changed_of(confnew: bool) -> Changed
@@ -65,6 +73,30 @@ fn listed_if_named(alloc: Global, names: &Option<Texts>) -> Result<Option<Vec<Te
     }
 }
 
+fn want_of(wanted: Wanted) -> Want
+    ensures { result ≡ want_of wanted }
+{
+    match wanted {
+        Wanted::Install => Want::Install,
+        Wanted::Hold => Want::Hold,
+        Wanted::Deinstall => Want::Deinstall,
+        Wanted::Purge => Want::Purge,
+    }
+}
+
+// What is to be recorded of what words tell.
+fn selections_of(alloc: Global, told: &[Selected]) -> Result<Vec<RecordChange>, AllocError>
+    ensures { IfOk result (λ selections. selections.items ≡ selections_of told.now) }
+{
+    let mut selections = Vec::new(alloc);
+    for selected in told {
+        let name = selected.name.copy()?;
+        let change = Change::Want(want_of(selected.want));
+        selections.push(RecordChange { name, change })?;
+    }
+    Ok(selections)
+}
+
 // The report of an open session.
 fn carry_out<H: Host, W: Watcher>(
     alloc: Global,
@@ -96,6 +128,12 @@ fn carry_out<H: Host, W: Watcher>(
             let names = listed(alloc, names.as_slice())?;
             Ok(session.purge(names, watcher))
         }
+        Work::Select(told) => {
+            let selections = selections_of(alloc, told.as_slice())?;
+            Ok(session.change(selections, watcher))
+        }
+        Work::RemoveSelected => Ok(session.remove_selected(watcher)),
+        Work::ProcessTriggers => Ok(session.process_triggers(watcher)),
     }
 }
 

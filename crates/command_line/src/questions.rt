@@ -14,7 +14,9 @@ use crate::steady::{Unanswered, settle};
 use administration::AdministrationFault;
 use command_words::Question;
 use host_core::{Host, HostFault, RootPath};
-use inquiries::{Glance, audit, list, list_diversions, list_files, search, status, truename};
+use inquiries::{
+    Glance, audit, list, list_diversions, list_files, search, selections, status, truename,
+};
 use shown_lines::line;
 use std::alloc::{AllocError, Global};
 use texts::{Bytes, Text};
@@ -27,6 +29,7 @@ pub(crate) enum Inquiry {
     List,
     ListFiles(Text),
     Search(RootPath),
+    Selections,
     Status(Text),
     Truename {
         package: Option<Text>,
@@ -69,6 +72,7 @@ pub(crate) fn inquiry_of(
         Question::List => Ok(Ok(Inquiry::List)),
         Question::ListFiles(name) => Ok(Ok(Inquiry::ListFiles(name))),
         Question::Search(path) => search_of(alloc, path),
+        Question::Selections => Ok(Ok(Inquiry::Selections)),
         Question::Status(name) => Ok(Ok(Inquiry::Status(name))),
         Question::Truename { package, path } => truename_of(alloc, package, path),
     }
@@ -134,6 +138,7 @@ fn inquire<H: Host>(
             Ok(package_answer(alloc, name, listing)?)
         }
         Inquiry::Search(path) => Ok(search_answer(alloc, search(alloc, host, path)?)),
+        Inquiry::Selections => Ok(text_answer(alloc, selections(alloc, host)?)),
         Inquiry::Status(name) => {
             let entry = status(alloc, host, name)?;
             Ok(package_answer(alloc, name, entry)?)
@@ -155,6 +160,7 @@ fn reads_info(asked: &Inquiry) -> bool
         Inquiry::List => false,
         Inquiry::ListFiles(_) => true,
         Inquiry::Search(_) => true,
+        Inquiry::Selections => false,
         Inquiry::Status(_) => false,
         Inquiry::Truename { .. } => false,
     }

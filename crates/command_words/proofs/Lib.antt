@@ -2,3 +2,4 @@ mod Asking
 mod Adding
 mod Waiting
 mod Rehearsing
+mod CutAtEquals

@@ -82,11 +82,11 @@ undivert_app = with_diverted (with_owner (changing_app (codes "undivert")))
 abbrev pub with_forced : App → App
 with_forced a = with_rule (with_rule (with_rule a (flag_rule (codes "force-confold"))) (flag_rule (codes "force-confnew"))) (flag_rule (codes "force-confmiss"))
 
--- one that calls scripts: `--scripts-stderr`
+-- one that calls scripts: `--scripts-stderr` and `--no-triggers`
 abbrev pub calling_app : Text → App
-calling_app name = with_rule (changing_app name) (flag_rule (codes "scripts-stderr"))
+calling_app name = with_rule (with_rule (changing_app name) (flag_rule (codes "scripts-stderr"))) (flag_rule (codes "no-triggers"))
 
--- `install [--root DIR] [--wait SECONDS] [--dry-run [--changes] [--assume-failure PKG:SCRIPT:WORD]..] [--scripts-stderr] [--owner-root] [--auto-deconfigure]
+-- `install [--root DIR] [--wait SECONDS] [--dry-run [--changes] [--assume-failure PKG:SCRIPT:WORD]..] [--scripts-stderr] [--no-triggers] [--owner-root] [--auto-deconfigure]
 -- [--force-confold | --force-confnew] [--force-confmiss] [--as-given] TREE..`; `unpack` likewise, without `--as-given`
 abbrev pub unpacking_app : Text → App
 unpacking_app name = with_forced (with_rule (with_rule (calling_app name) (flag_rule (codes "owner-root"))) (flag_rule (codes "auto-deconfigure")))
@@ -97,13 +97,22 @@ install_app = with_rule (with_rule (unpacking_app (codes "install")) (flag_rule 
 abbrev pub unpack_app : App
 unpack_app = with_rule (unpacking_app (codes "unpack")) (words_rule (codes "TREE") true)
 
--- `configure [--root DIR] [--wait SECONDS] [--dry-run [--changes] [--assume-failure PKG:SCRIPT:WORD]..] [--scripts-stderr] [--force-confold | --force-confnew] [--force-confmiss] [PKG..]`
+-- `configure [--root DIR] [--wait SECONDS] [--dry-run [--changes] [--assume-failure PKG:SCRIPT:WORD]..] [--scripts-stderr] [--force-confold | --force-confnew] [--force-confmiss]
+-- ([--no-triggers] [PKG..] | --triggers-only)`
 abbrev pub configure_app : App
-configure_app = with_rule (with_forced (calling_app (codes "configure"))) (words_rule (codes "PKG") false)
+configure_app = with_rule (with_rule (with_forced (calling_app (codes "configure"))) (flag_rule (codes "triggers-only"))) (words_rule (codes "PKG") false)
 
--- `remove [--root DIR] [--wait SECONDS] [--dry-run [--changes] [--assume-failure PKG:SCRIPT:WORD]..] [--scripts-stderr] PKG..`; `purge` likewise
+-- `remove [--root DIR] [--wait SECONDS] [--dry-run [--changes] [--assume-failure PKG:SCRIPT:WORD]..] [--scripts-stderr] [--no-triggers] PKG..`; `purge` likewise
 abbrev pub removing_app : Text → App
 removing_app name = with_rule (calling_app name) (words_rule (codes "PKG") true)
+
+-- `remove-selected [--root DIR] [--wait SECONDS] [--dry-run [--changes] [--assume-failure PKG:SCRIPT:WORD]..] [--scripts-stderr] [--no-triggers]`
+abbrev pub remove_selected_app : App
+remove_selected_app = calling_app (codes "remove-selected")
+
+-- `select [--root DIR] [--wait SECONDS] [--dry-run [--changes] [--assume-failure PKG:SCRIPT:WORD]..] PKG=WANT..`
+abbrev pub select_app : App
+select_app = with_rule (changing_app (codes "select")) (words_rule (codes "PKG=WANT") true)
 
 -- `verify [--root DIR] [--tree TREE] [--owner-root] [PKG..]`
 abbrev pub verify_app : App
@@ -128,13 +137,16 @@ abbrev pub third_apps : List App
 third_apps = rooted_app (codes "list") ∷ asking_app (codes "listfiles") (codes "PKG") ∷ removing_app (codes "purge") ∷ []
 
 abbrev pub fourth_apps : List App
-fourth_apps = removing_app (codes "remove") ∷ asking_app (codes "search") (codes "PATH") ∷ asking_app (codes "status") (codes "PKG") ∷ []
+fourth_apps = removing_app (codes "remove") ∷ remove_selected_app ∷ asking_app (codes "search") (codes "PATH") ∷ []
+
+abbrev pub fifth_apps : List App
+fifth_apps = select_app ∷ rooted_app (codes "selections") ∷ asking_app (codes "status") (codes "PKG") ∷ []
 
 abbrev pub last_apps : List App
 last_apps = truename_app ∷ undivert_app ∷ unpack_app ∷ verify_app ∷ []
 
 abbrev pub whole_app : App
-whole_app = with_all (with_all (with_all (with_all (with_all (without_help (new_app (codes "coizkerra"))) first_apps) second_apps) third_apps) fourth_apps) last_apps
+whole_app = with_all (with_all (with_all (with_all (with_all (with_all (without_help (new_app (codes "coizkerra"))) first_apps) second_apps) third_apps) fourth_apps) fifth_apps) last_apps
 
 -- the names that clap knows the subcommands by
 abbrev pub subcommand_names : List Text

@@ -8,6 +8,8 @@ use Rattle.command_words.specs.Comparisons.{operator_of}
 use Rattle.command_words.specs.Queries.{query_of}
 use Rattle.command_words.specs.Diversions.{diverting_of, undiverting_of}
 use Rattle.command_words.specs.Packages.{configuring_of, removing_of}
+use Rattle.command_words.specs.Selecting.{removing_selected_of, selecting_of}
+use Rattle.command_words.specs.Triggers.{is_of_triggers_only, processing_of}
 use Rattle.command_words.specs.Topics.{has_help_flag, is_help_flag, topic_in, topic_of}
 use Rattle.command_words.specs.declared.help.Topic.TheVariants.{Program}
 use Rattle.command_words.specs.Unpacks.{unpacking_of}
@@ -17,7 +19,7 @@ use Rattle.command_words.specs.declared.comparison.Comparison.{Comparison}
 use Rattle.command_words.specs.declared.words.Asked.{Asked}
 use Rattle.command_words.specs.declared.words.Command.{Command}
 use Rattle.command_words.specs.declared.words.Compared.{Compared}
-use Rattle.command_words.specs.declared.words.Asked.TheVariants.{Names, Version, Help, CompareVersions, Divert, Undivert, Unpack, Install, Configure, Remove, Purge, Query, Verify}
+use Rattle.command_words.specs.declared.words.Asked.TheVariants.{Names, Version, Help, CompareVersions, Divert, Undivert, Unpack, Install, Configure, ProcessTriggers, Remove, Purge, Select, RemoveSelected, Query, Verify}
 
 -- the subcommand that the words enter, with the texts of its arguments
 abbrev pub entered : List Text → Option (Text × List Row)
@@ -36,16 +38,22 @@ comparison_from _ _ _ = None
 abbrev pub comparison_of : List Row → Option Comparison
 comparison_of rows = comparison_from (first_of (codes "A") rows) (first_of (codes "OP") rows) (first_of (codes "B") rows)
 
+-- packages to be configured, or triggers alone to be processed
+abbrev pub configure_asked : List Row → Option Asked
+configure_asked rows = if is_of_triggers_only rows then option_map ProcessTriggers (processing_of rows) else option_map Configure (configuring_of rows)
+
 -- what a subcommand asks for with these texts
 abbrev pub asked_by : Text → List Row → Option Asked
 asked_by name rows =
     if bytes_eq name (codes "compare-versions") then option_map CompareVersions (comparison_of rows)
-    else if bytes_eq name (codes "configure") then option_map Configure (configuring_of rows)
+    else if bytes_eq name (codes "configure") then configure_asked rows
     else if bytes_eq name (codes "divert") then option_map Divert (diverting_of rows)
     else if bytes_eq name (codes "help") then option_map Help (topic_in (first_of (codes "COMMAND") rows))
     else if bytes_eq name (codes "install") then option_map Install (unpacking_of rows)
     else if bytes_eq name (codes "purge") then option_map Purge (removing_of rows)
     else if bytes_eq name (codes "remove") then option_map Remove (removing_of rows)
+    else if bytes_eq name (codes "remove-selected") then option_map RemoveSelected (removing_selected_of rows)
+    else if bytes_eq name (codes "select") then option_map Select (selecting_of rows)
     else if bytes_eq name (codes "undivert") then option_map Undivert (undiverting_of rows)
     else if bytes_eq name (codes "unpack") then option_map Unpack (unpacking_of rows)
     else if bytes_eq name (codes "verify") then option_map Verify (verifying_of rows)

@@ -8,8 +8,10 @@ pub mod Waits
 pub mod Topics
 pub mod Queries
 pub mod Forced
+pub mod Triggers
 pub mod Unpacks
 pub mod Packages
+pub mod Selecting
 pub mod Diversions
 pub mod Verifications
 pub mod Commands

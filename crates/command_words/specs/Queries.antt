@@ -20,6 +20,7 @@ question_of name rows =
     else if bytes_eq name (codes "list") then Some question.List
     else if bytes_eq name (codes "listfiles") then option_map question.ListFiles (first_of (codes "PKG") rows)
     else if bytes_eq name (codes "search") then option_map question.Search (first_of (codes "PATH") rows)
+    else if bytes_eq name (codes "selections") then Some question.Selections
     else if bytes_eq name (codes "status") then option_map question.Status (first_of (codes "PKG") rows)
     else if bytes_eq name (codes "truename") then truename_from (first_of (codes "package") rows) (first_of (codes "PATH") rows)
     else None

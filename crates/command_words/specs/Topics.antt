@@ -21,7 +21,10 @@ topic_of name =
     else if bytes_eq name (codes "listfiles") then Some topic.ListFiles
     else if bytes_eq name (codes "purge") then Some topic.Purge
     else if bytes_eq name (codes "remove") then Some topic.Remove
+    else if bytes_eq name (codes "remove-selected") then Some topic.RemoveSelected
     else if bytes_eq name (codes "search") then Some topic.Search
+    else if bytes_eq name (codes "select") then Some topic.Select
+    else if bytes_eq name (codes "selections") then Some topic.Selections
     else if bytes_eq name (codes "status") then Some topic.Status
     else if bytes_eq name (codes "truename") then Some topic.Truename
     else if bytes_eq name (codes "undivert") then Some topic.Undivert
@@ -65,20 +68,23 @@ abbrev pub usage_words : Topic → List ℕ
 usage_words topic.Program = codes "COMMAND .."
 usage_words topic.Audit = codes "audit [--root DIR]"
 usage_words topic.CompareVersions = codes "compare-versions A OP B"
-usage_words topic.Configure = codes "configure [--root DIR] [--wait SECONDS] [--dry-run [--changes] [--assume-failure PKG:SCRIPT:WORD]..] [--scripts-stderr] [--force-confold | --force-confnew] [--force-confmiss] [PKG..]"
+usage_words topic.Configure = codes "configure [--root DIR] [--wait SECONDS] [--dry-run [--changes] [--assume-failure PKG:SCRIPT:WORD]..] [--scripts-stderr] [--force-confold | --force-confnew] [--force-confmiss] ([--no-triggers] [PKG..] | --triggers-only)"
 usage_words topic.Diversions = codes "diversions [--root DIR]"
 usage_words topic.Divert = codes "divert [--root DIR] [--wait SECONDS] [--dry-run [--changes] [--assume-failure PKG:SCRIPT:WORD]..] (--package P | --local) [--divert TARGET] [--rename] PATH"
 usage_words topic.Help = codes "help [COMMAND]"
-usage_words topic.Install = codes "install [--root DIR] [--wait SECONDS] [--dry-run [--changes] [--assume-failure PKG:SCRIPT:WORD]..] [--scripts-stderr] [--owner-root] [--auto-deconfigure] [--force-confold | --force-confnew] [--force-confmiss] [--as-given] TREE.."
+usage_words topic.Install = codes "install [--root DIR] [--wait SECONDS] [--dry-run [--changes] [--assume-failure PKG:SCRIPT:WORD]..] [--scripts-stderr] [--no-triggers] [--owner-root] [--auto-deconfigure] [--force-confold | --force-confnew] [--force-confmiss] [--as-given] TREE.."
 usage_words topic.List = codes "list [--root DIR]"
 usage_words topic.ListFiles = codes "listfiles [--root DIR] PKG"
-usage_words topic.Purge = codes "purge [--root DIR] [--wait SECONDS] [--dry-run [--changes] [--assume-failure PKG:SCRIPT:WORD]..] [--scripts-stderr] PKG.."
-usage_words topic.Remove = codes "remove [--root DIR] [--wait SECONDS] [--dry-run [--changes] [--assume-failure PKG:SCRIPT:WORD]..] [--scripts-stderr] PKG.."
+usage_words topic.Purge = codes "purge [--root DIR] [--wait SECONDS] [--dry-run [--changes] [--assume-failure PKG:SCRIPT:WORD]..] [--scripts-stderr] [--no-triggers] PKG.."
+usage_words topic.Remove = codes "remove [--root DIR] [--wait SECONDS] [--dry-run [--changes] [--assume-failure PKG:SCRIPT:WORD]..] [--scripts-stderr] [--no-triggers] PKG.."
+usage_words topic.RemoveSelected = codes "remove-selected [--root DIR] [--wait SECONDS] [--dry-run [--changes] [--assume-failure PKG:SCRIPT:WORD]..] [--scripts-stderr] [--no-triggers]"
 usage_words topic.Search = codes "search [--root DIR] PATH"
+usage_words topic.Select = codes "select [--root DIR] [--wait SECONDS] [--dry-run [--changes] [--assume-failure PKG:SCRIPT:WORD]..] PKG=WANT.."
+usage_words topic.Selections = codes "selections [--root DIR]"
 usage_words topic.Status = codes "status [--root DIR] PKG"
 usage_words topic.Truename = codes "truename [--root DIR] [--package P] PATH"
 usage_words topic.Undivert = codes "undivert [--root DIR] [--wait SECONDS] [--dry-run [--changes] [--assume-failure PKG:SCRIPT:WORD]..] (--package P | --local) [--rename] PATH"
-usage_words topic.Unpack = codes "unpack [--root DIR] [--wait SECONDS] [--dry-run [--changes] [--assume-failure PKG:SCRIPT:WORD]..] [--scripts-stderr] [--owner-root] [--auto-deconfigure] [--force-confold | --force-confnew] [--force-confmiss] TREE.."
+usage_words topic.Unpack = codes "unpack [--root DIR] [--wait SECONDS] [--dry-run [--changes] [--assume-failure PKG:SCRIPT:WORD]..] [--scripts-stderr] [--no-triggers] [--owner-root] [--auto-deconfigure] [--force-confold | --force-confnew] [--force-confmiss] TREE.."
 usage_words topic.Verify = codes "verify [--root DIR] [PKG.. | --tree TREE [--owner-root]]"
 
 -- a screen: how the words of the topic are put, and what is told of it

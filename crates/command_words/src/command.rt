@@ -2,14 +2,14 @@
 ghost use Rattle.std.specs.Prelude.{◌≡◌, IfOk, codes, false, string_bytes, true};
 ghost use Rattle.clap.specs.Words.{app_of, new_app, rule_of, with_rule, with_subcommand};
 ghost use Rattle.clap.specs.declared.builder.command.Command.TheViews.{out-Command as fields_of};
-ghost use Rattle.command_words.specs.CommandLine.{are_ascending, asking_app, calling_app, changing_app, compare_versions_app, configure_app, divert_app, first_apps, flag_rule, fourth_apps, help_app, install_app, last_apps, lines, maybe_word_rule, option_rule, options_rule, removing_app, root_rule, rooted_app, second_apps, subcommand_names, third_apps, truename_app, undivert_app, unpack_app, unpacking_app, verify_app, whole_app, with_all, with_diverted, with_forced, with_owner, with_rehearsal, without_help, word_rule, words_rule};
+ghost use Rattle.command_words.specs.CommandLine.{are_ascending, asking_app, calling_app, changing_app, compare_versions_app, configure_app, divert_app, fifth_apps, first_apps, flag_rule, fourth_apps, help_app, install_app, last_apps, lines, maybe_word_rule, option_rule, options_rule, removing_app, root_rule, rooted_app, second_apps, select_app, subcommand_names, third_apps, truename_app, undivert_app, unpack_app, unpacking_app, verify_app, whole_app, with_all, with_diverted, with_forced, with_owner, with_rehearsal, without_help, word_rule, words_rule};
 
 use clap::{Arg, ArgAction, Command};
 use std::alloc::{AllocError, Global};
 
 // The names of the subcommands that the command below has, one a line.
 const NAMES: &str = "audit\ncompare-versions\nconfigure\ndiversions\ndivert\nhelp\ninstall\n\
-list\nlistfiles\npurge\nremove\nsearch\nstatus\ntruename\nundivert\nunpack\nverify\n";
+list\nlistfiles\npurge\nremove\nremove-selected\nsearch\nselect\nselections\nstatus\ntruename\nundivert\nunpack\nverify\n";
 
 /// The names of the subcommands, one a line, in the order of their bytes.
 pub fn subcommand_names(alloc: Global) -> Result<String, AllocError>
@@ -200,7 +200,8 @@ fn calling<'a>(alloc: Global, name: &'a str) -> Result<Command<'a>, AllocError>
     ensures app { IfOk result (λ c. app_of c ≡ calling_app name.entry.now) }
     ensures local { IfOk result (λ c. (fields_of c).has_globals ≡ false) }
 {
-    with_arg(changing(alloc, name)?, flag(alloc, "scripts-stderr"))
+    let command = with_arg(changing(alloc, name)?, flag(alloc, "scripts-stderr"))?;
+    with_arg(command, flag(alloc, "no-triggers"))
 }
 
 // A subcommand that takes trees, without these.
@@ -233,6 +234,7 @@ fn configure_command<'a>(alloc: Global) -> Result<Command<'a>, AllocError>
     ensures local { IfOk result (λ c. (fields_of c).has_globals ≡ false) }
 {
     let command = with_forced(alloc, calling(alloc, "configure")?)?;
+    let command = with_arg(command, flag(alloc, "triggers-only"))?;
     with_arg(command, words(alloc, "PKG", false))
 }
 
@@ -242,6 +244,14 @@ fn removing<'a>(alloc: Global, name: &'a str) -> Result<Command<'a>, AllocError>
     ensures local { IfOk result (λ c. (fields_of c).has_globals ≡ false) }
 {
     with_arg(calling(alloc, name)?, words(alloc, "PKG", true))
+}
+
+// What is to be wanted of packages.
+fn select_command<'a>(alloc: Global) -> Result<Command<'a>, AllocError>
+    ensures app { IfOk result (λ c. app_of c ≡ select_app) }
+    ensures local { IfOk result (λ c. (fields_of c).has_globals ≡ false) }
+{
+    with_arg(changing(alloc, "select")?, words(alloc, "PKG=WANT", true))
 }
 
 fn verify_command<'a>(alloc: Global) -> Result<Command<'a>, AllocError>
@@ -299,7 +309,15 @@ fn with_fourth<'a>(alloc: Global, whole: Command<'a>) -> Result<Command<'a>, All
     ensures { IfOk result (λ c. app_of c ≡ with_all (app_of whole.entry) fourth_apps) }
 {
     let whole = with(whole, removing(alloc, "remove")?)?;
-    let whole = with(whole, asking(alloc, "search", "PATH")?)?;
+    let whole = with(whole, calling(alloc, "remove-selected")?)?;
+    with(whole, asking(alloc, "search", "PATH")?)
+}
+
+fn with_fifth<'a>(alloc: Global, whole: Command<'a>) -> Result<Command<'a>, AllocError>
+    ensures { IfOk result (λ c. app_of c ≡ with_all (app_of whole.entry) fifth_apps) }
+{
+    let whole = with(whole, select_command(alloc)?)?;
+    let whole = with(whole, rooted(alloc, "selections")?)?;
     with(whole, asking(alloc, "status", "PKG")?)
 }
 
@@ -318,5 +336,6 @@ pub(crate) fn whole_command<'a>(alloc: Global) -> Result<Command<'a>, AllocError
 {
     let whole = with_first(alloc, without_help(Command::new(alloc, "coizkerra")))?;
     let whole = with_third(alloc, with_second(alloc, whole)?)?;
-    with_last(alloc, with_fourth(alloc, whole)?)
+    let whole = with_fifth(alloc, with_fourth(alloc, whole)?)?;
+    with_last(alloc, whole)
 }

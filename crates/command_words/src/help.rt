@@ -19,7 +19,10 @@ pub enum Topic {
     ListFiles,
     Purge,
     Remove,
+    RemoveSelected,
     Search,
+    Select,
+    Selections,
     Status,
     Truename,
     Undivert,
@@ -36,6 +39,8 @@ const PROGRAM: &str =
   unpack TREE.., install TREE..  put the files of packages in place; install configures them too
   configure [PKG..]              settle conffiles and call postinst
   remove PKG.., purge PKG..      take packages away; with purge their conffiles too
+  select PKG=WANT.., selections  record what is wanted of packages; what is wanted of each
+  remove-selected                take away the packages that are wanted to go
   list, audit                    all packages; those with which something has to be done
   verify [PKG..], verify --tree TREE
                                  what of packages isn't as it was installed, or as a tree has it
@@ -77,6 +82,8 @@ of all that wait for it where none is named.
   --assume-failure PKG:SCRIPT:WORD
                     in a dry run this call fails, which WORD is the first argument of
   --scripts-stderr  what scripts write goes to standard error
+  --no-triggers     triggers stay pending and aren't processed then
+  --triggers-only   triggers that are pending are processed, and no package is configured
   --force-confold   an edited conffile stays, as without a flag
   --force-confnew   the package's takes the place of an edited conffile
   --force-confmiss  a deleted conffile is made again
@@ -124,6 +131,7 @@ rounds, so that what a package needs before its unpack is configured before.
   --assume-failure PKG:SCRIPT:WORD
                       in a dry run this call fails, which WORD is the first argument of
   --scripts-stderr    what scripts write goes to standard error
+  --no-triggers       triggers stay pending and aren't processed then
   --owner-root        files get user and group 0, whoever made the tree
   --auto-deconfigure  installed packages may be deconfigured in their favour
   --force-confold     an edited conffile stays, as without a flag
@@ -157,6 +165,7 @@ const PURGE: &str = "Removes packages with their conffiles, in the order that re
   --assume-failure PKG:SCRIPT:WORD
                     in a dry run this call fails, which WORD is the first argument of
   --scripts-stderr  what scripts write goes to standard error
+  --no-triggers     triggers stay pending and aren't processed then
 
 Example: coizkerra purge --root /srv/root hello
 ";
@@ -170,8 +179,25 @@ const REMOVE: &str = "Removes packages but their conffiles, in the order that re
   --assume-failure PKG:SCRIPT:WORD
                     in a dry run this call fails, which WORD is the first argument of
   --scripts-stderr  what scripts write goes to standard error
+  --no-triggers     triggers stay pending and aren't processed then
 
 Example: coizkerra remove --root /srv/root hello
+";
+
+const REMOVE_SELECTED: &str =
+    "Removes the packages of which deinstall is wanted, and purges those of which purge is wanted, in
+the order that relations ask for.
+
+  --root DIR        the root, an absolute directory; / if it isn't given
+  --wait SECONDS    how long the lock of another program is waited for; 0 if it isn't given
+  --dry-run         the lines are told as if it were done, and nothing is changed
+  --changes         behind the lines of a dry run one for each path that would be changed
+  --assume-failure PKG:SCRIPT:WORD
+                    in a dry run this call fails, which WORD is the first argument of
+  --scripts-stderr  what scripts write goes to standard error
+  --no-triggers     triggers stay pending and aren't processed then
+
+Example: coizkerra remove-selected --root /srv/root
 ";
 
 const SEARCH: &str =
@@ -180,6 +206,27 @@ const SEARCH: &str =
   --root DIR  the root, an absolute directory; / if it isn't given
 
 Example: coizkerra search --root /srv/root /usr/bin/hello
+";
+
+const SELECT: &str =
+    "Records what is wanted of packages: WANT is install, hold, deinstall or purge. What is wanted to go
+away goes by remove-selected.
+
+  --root DIR      the root, an absolute directory; / if it isn't given
+  --wait SECONDS  how long the lock of another program is waited for; 0 if it isn't given
+  --dry-run       the lines are told as if it were done, and nothing is changed
+  --changes       behind the lines of a dry run one for each path that would be changed
+  --assume-failure PKG:SCRIPT:WORD
+                  in a dry run this call fails, which WORD is the first argument of
+
+Example: coizkerra select --root /srv/root hello=hold
+";
+
+const SELECTIONS: &str = "Lists what is wanted of each package: PKG WANT, a line each.
+
+  --root DIR  the root, an absolute directory; / if it isn't given
+
+Example: coizkerra selections --root /srv/root
 ";
 
 const STATUS: &str = "Prints the record of a package.
@@ -222,6 +269,7 @@ const UNPACK: &str =
   --assume-failure PKG:SCRIPT:WORD
                       in a dry run this call fails, which WORD is the first argument of
   --scripts-stderr    what scripts write goes to standard error
+  --no-triggers       triggers stay pending and aren't processed then
   --owner-root        files get user and group 0, whoever made the tree
   --auto-deconfigure  installed packages may be deconfigured in their favour
 
@@ -259,7 +307,10 @@ impl Topic {
             "listfiles" => Some(Topic::ListFiles),
             "purge" => Some(Topic::Purge),
             "remove" => Some(Topic::Remove),
+            "remove-selected" => Some(Topic::RemoveSelected),
             "search" => Some(Topic::Search),
+            "select" => Some(Topic::Select),
+            "selections" => Some(Topic::Selections),
             "status" => Some(Topic::Status),
             "truename" => Some(Topic::Truename),
             "undivert" => Some(Topic::Undivert),
@@ -278,26 +329,31 @@ impl Topic {
             Topic::Audit => "audit [--root DIR]",
             Topic::CompareVersions => "compare-versions A OP B",
             Topic::Configure =>
-                "configure [--root DIR] [--wait SECONDS] [--dry-run [--changes] [--assume-failure PKG:SCRIPT:WORD]..] [--scripts-stderr] [--force-confold | --force-confnew] [--force-confmiss] [PKG..]",
+                "configure [--root DIR] [--wait SECONDS] [--dry-run [--changes] [--assume-failure PKG:SCRIPT:WORD]..] [--scripts-stderr] [--force-confold | --force-confnew] [--force-confmiss] ([--no-triggers] [PKG..] | --triggers-only)",
             Topic::Diversions => "diversions [--root DIR]",
             Topic::Divert =>
                 "divert [--root DIR] [--wait SECONDS] [--dry-run [--changes] [--assume-failure PKG:SCRIPT:WORD]..] (--package P | --local) [--divert TARGET] [--rename] PATH",
             Topic::Help => "help [COMMAND]",
             Topic::Install =>
-                "install [--root DIR] [--wait SECONDS] [--dry-run [--changes] [--assume-failure PKG:SCRIPT:WORD]..] [--scripts-stderr] [--owner-root] [--auto-deconfigure] [--force-confold | --force-confnew] [--force-confmiss] [--as-given] TREE..",
+                "install [--root DIR] [--wait SECONDS] [--dry-run [--changes] [--assume-failure PKG:SCRIPT:WORD]..] [--scripts-stderr] [--no-triggers] [--owner-root] [--auto-deconfigure] [--force-confold | --force-confnew] [--force-confmiss] [--as-given] TREE..",
             Topic::List => "list [--root DIR]",
             Topic::ListFiles => "listfiles [--root DIR] PKG",
             Topic::Purge =>
-                "purge [--root DIR] [--wait SECONDS] [--dry-run [--changes] [--assume-failure PKG:SCRIPT:WORD]..] [--scripts-stderr] PKG..",
+                "purge [--root DIR] [--wait SECONDS] [--dry-run [--changes] [--assume-failure PKG:SCRIPT:WORD]..] [--scripts-stderr] [--no-triggers] PKG..",
             Topic::Remove =>
-                "remove [--root DIR] [--wait SECONDS] [--dry-run [--changes] [--assume-failure PKG:SCRIPT:WORD]..] [--scripts-stderr] PKG..",
+                "remove [--root DIR] [--wait SECONDS] [--dry-run [--changes] [--assume-failure PKG:SCRIPT:WORD]..] [--scripts-stderr] [--no-triggers] PKG..",
+            Topic::RemoveSelected =>
+                "remove-selected [--root DIR] [--wait SECONDS] [--dry-run [--changes] [--assume-failure PKG:SCRIPT:WORD]..] [--scripts-stderr] [--no-triggers]",
             Topic::Search => "search [--root DIR] PATH",
+            Topic::Select =>
+                "select [--root DIR] [--wait SECONDS] [--dry-run [--changes] [--assume-failure PKG:SCRIPT:WORD]..] PKG=WANT..",
+            Topic::Selections => "selections [--root DIR]",
             Topic::Status => "status [--root DIR] PKG",
             Topic::Truename => "truename [--root DIR] [--package P] PATH",
             Topic::Undivert =>
                 "undivert [--root DIR] [--wait SECONDS] [--dry-run [--changes] [--assume-failure PKG:SCRIPT:WORD]..] (--package P | --local) [--rename] PATH",
             Topic::Unpack =>
-                "unpack [--root DIR] [--wait SECONDS] [--dry-run [--changes] [--assume-failure PKG:SCRIPT:WORD]..] [--scripts-stderr] [--owner-root] [--auto-deconfigure] [--force-confold | --force-confnew] [--force-confmiss] TREE..",
+                "unpack [--root DIR] [--wait SECONDS] [--dry-run [--changes] [--assume-failure PKG:SCRIPT:WORD]..] [--scripts-stderr] [--no-triggers] [--owner-root] [--auto-deconfigure] [--force-confold | --force-confnew] [--force-confmiss] TREE..",
             Topic::Verify => "verify [--root DIR] [PKG.. | --tree TREE [--owner-root]]",
         }
     }
@@ -317,7 +373,10 @@ impl Topic {
             Topic::ListFiles => LISTFILES,
             Topic::Purge => PURGE,
             Topic::Remove => REMOVE,
+            Topic::RemoveSelected => REMOVE_SELECTED,
             Topic::Search => SEARCH,
+            Topic::Select => SELECT,
+            Topic::Selections => SELECTIONS,
             Topic::Status => STATUS,
             Topic::Truename => TRUENAME,
             Topic::Undivert => UNDIVERT,

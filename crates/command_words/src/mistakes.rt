@@ -1,10 +1,16 @@
 // What is wrong with the words of a subcommand in which clap finds no fault: one thing, with its word.
 use crate::found::{all_texts_of, flag_of, is_absolute, is_package, text_of};
 use crate::rehearsal::is_failure;
+use crate::selecting::is_selection;
+use crate::triggers::{is_of_triggers_only, processes_triggers};
 use crate::waits::wait_of;
 use clap::ArgMatches;
 use shown_lines::shown;
 use std::alloc::{AllocError, Global};
+
+const NO_WANT: &str = "has none of install hold deinstall purge behind its last =";
+
+const BOTH_CONFFILES: &str = "error: --force-confold and --force-confnew exclude each other";
 
 const NO_OPERATOR: &str = "is none of lt le eq ne ge gt lt-nl le-nl ge-nl gt-nl << <= = >= >>";
 
@@ -79,6 +85,29 @@ fn of_owner(alloc: Global, found: &ArgMatches<'_>) -> Result<String, AllocError>
     }
 }
 
+fn of_selections(alloc: Global, texts: &[&str]) -> Result<String, AllocError> {
+    for text in texts {
+        if !is_selection(text) {
+            return wrong_word(alloc, "PKG=WANT", Some(text), NO_WANT);
+        }
+    }
+    wrong_word(alloc, "PKG=WANT", None, "")
+}
+
+fn of_configure(alloc: Global, found: &ArgMatches<'_>) -> Result<String, AllocError> {
+    if !is_of_triggers_only(found) {
+        return String::from_str(alloc, BOTH_CONFFILES);
+    }
+    if all_texts_of(found, "PKG").is_some() {
+        return String::from_str(alloc, "error: --triggers-only and PKG exclude each other");
+    }
+    if !processes_triggers(found) {
+        let why = "error: --triggers-only and --no-triggers exclude each other";
+        return String::from_str(alloc, why);
+    }
+    String::from_str(alloc, BOTH_CONFFILES)
+}
+
 /// What is wrong: first with the root, then with the wait, then with a rehearsal, then with what else the subcommand takes.
 pub(crate) fn mistake_text(
     alloc: Global,
@@ -99,15 +128,17 @@ pub(crate) fn mistake_text(
             let word = text_of(found, "OP");
             wrong_word(alloc, "OP", word, NO_OPERATOR)
         }
+        "configure" => of_configure(alloc, found),
         "help" => {
             let word = text_of(found, "COMMAND");
             wrong_word(alloc, "COMMAND", word, "isn't a subcommand")
         }
         "divert" | "undivert" => of_owner(alloc, found),
+        "select" => {
+            let texts = all_texts_of(found, "PKG=WANT");
+            of_selections(alloc, texts.unwrap_or(&[]))
+        }
         "truename" => of_package(alloc, found),
-        _ => String::from_str(
-            alloc,
-            "error: --force-confold and --force-confnew exclude each other",
-        ),
+        _ => String::from_str(alloc, BOTH_CONFFILES),
     }
 }

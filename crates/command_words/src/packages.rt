@@ -6,6 +6,7 @@ ghost use Rattle.command_words.specs.Packages.{configuring_from, configuring_of,
 use crate::forced::{Forced, forced_of};
 use crate::found::{all_texts_of, copies, is_absolute, text_of};
 use crate::streams::{ScriptStreams, streams_of};
+use crate::triggers::processes_triggers;
 use crate::waits::wait_of;
 use clap::ArgMatches;
 use std::alloc::{AllocError, Global};
@@ -18,6 +19,8 @@ pub struct Configuring {
     pub root: Text,
     pub names: Option<Texts>,
     pub streams: ScriptStreams,
+    /// The triggers that are pending then are processed.
+    pub triggers: bool,
     pub forced: Forced,
     /// For how many seconds another program's lock is waited for.
     pub wait: u32,
@@ -29,6 +32,8 @@ pub struct Removing {
     pub root: Text,
     pub names: Texts,
     pub streams: ScriptStreams,
+    /// As above.
+    pub triggers: bool,
     /// As above.
     pub wait: u32,
 }
@@ -47,11 +52,12 @@ fn configuring_from(
     root: Option<&str>,
     names: Option<Texts>,
     streams: ScriptStreams,
+    triggers: bool,
     forced: Option<Forced>,
     wait: Option<u32>,
 ) -> Result<Option<Configuring>, AllocError>
     ensures { IfOk result (λ asked. asked
-        ≡ configuring_from (option_map (λ s. s.now) root.entry) names streams forced wait) }
+        ≡ configuring_from (option_map (λ s. s.now) root.entry) names streams triggers forced wait) }
 {
     let (Some(root), Some(forced), Some(wait)) = (root, forced, wait) else {
         return Ok(None);
@@ -64,6 +70,7 @@ fn configuring_from(
         root,
         names,
         streams,
+        triggers,
         forced,
         wait,
     }))
@@ -82,6 +89,7 @@ pub(crate) fn configuring_of(
         text_of(found, "root"),
         names,
         streams_of(found),
+        processes_triggers(found),
         forced_of(found),
         wait_of(found),
     )
@@ -92,10 +100,11 @@ fn removing_from(
     root: Option<&str>,
     names: Option<Texts>,
     streams: ScriptStreams,
+    triggers: bool,
     wait: Option<u32>,
 ) -> Result<Option<Removing>, AllocError>
     ensures { IfOk result (λ asked. asked ≡ removing_from (option_map (λ s. s.now) root.entry) names
-        streams wait) }
+        streams triggers wait) }
 {
     let (Some(root), Some(names), Some(wait)) = (root, names, wait) else {
         return Ok(None);
@@ -108,6 +117,7 @@ fn removing_from(
         root,
         names,
         streams,
+        triggers,
         wait,
     }))
 }
@@ -121,5 +131,6 @@ pub(crate) fn removing_of(
 {
     let names = names_of(alloc, found)?;
     let (root, wait) = (text_of(found, "root"), wait_of(found));
-    removing_from(alloc, root, names, streams_of(found), wait)
+    let (streams, triggers) = (streams_of(found), processes_triggers(found));
+    removing_from(alloc, root, names, streams, triggers, wait)
 }

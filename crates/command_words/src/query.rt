@@ -19,6 +19,8 @@ pub enum Question {
     ListFiles(Text),
     /// The packages that have a path.
     Search(Text),
+    /// What is wanted of packages.
+    Selections,
     /// The record of a package.
     Status(Text),
     /// Where a path is: for the package, or for all without one.
@@ -66,6 +68,7 @@ fn question_of(
         "list" => Ok(Some(Question::List)),
         "listfiles" => Ok(given(alloc, found, "PKG")?.map(Question::ListFiles)),
         "search" => Ok(given(alloc, found, "PATH")?.map(Question::Search)),
+        "selections" => Ok(Some(Question::Selections)),
         "status" => Ok(given(alloc, found, "PKG")?.map(Question::Status)),
         "truename" => truename_from(alloc, text_of(found, "package"), text_of(found, "PATH")),
         _ => Ok(None),

@@ -7,6 +7,7 @@ use crate::forced::{Forced, forced_of};
 use crate::found::{all_texts_of, copies, flag_of, is_absolute, text_of};
 use crate::owners::{TreeOwners, owners_of};
 use crate::streams::{ScriptStreams, streams_of};
+use crate::triggers::processes_triggers;
 use crate::waits::wait_of;
 use clap::ArgMatches;
 use std::alloc::{AllocError, Global};
@@ -22,6 +23,8 @@ pub struct Unpacking {
     pub auto_deconfigure: bool,
     pub owners: TreeOwners,
     pub streams: ScriptStreams,
+    /// The triggers that are pending then are processed.
+    pub triggers: bool,
     pub forced: Forced,
     /// An install takes the trees in the order given, all in one round.
     pub as_given: bool,
@@ -36,6 +39,7 @@ fn unpacking_from(
     auto_deconfigure: bool,
     owners: TreeOwners,
     streams: ScriptStreams,
+    triggers: bool,
     forced: Option<Forced>,
     as_given: bool,
     wait: Option<u32>,
@@ -43,7 +47,7 @@ fn unpacking_from(
     ensures { IfOk result (λ asked. asked
         ≡ unpacking_from (option_map (λ s. s.now) root.entry)
         (option_map (λ s. map (λ t. t.now) s.now) trees.entry)
-        auto_deconfigure owners streams forced as_given wait) }
+        auto_deconfigure owners streams triggers forced as_given wait) }
 {
     let (Some(root), Some(trees), Some(forced), Some(wait)) = (root, trees, forced, wait) else {
         return Ok(None);
@@ -59,6 +63,7 @@ fn unpacking_from(
         auto_deconfigure,
         owners,
         streams,
+        triggers,
         forced,
         as_given,
         wait,
@@ -79,6 +84,7 @@ pub(crate) fn unpacking_of(
         flag_of(found, "auto-deconfigure"),
         owners_of(found),
         streams_of(found),
+        processes_triggers(found),
         forced_of(found),
         flag_of(found, "as-given"),
         wait_of(found),

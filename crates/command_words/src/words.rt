@@ -2,12 +2,14 @@
 ghost use Rattle.std.specs.Prelude.{◌≡◌, ◌⊎◌, IfErr, IfOk, None, Some, codes, map, option_map, string_bytes};
 ghost use Rattle.clap.specs.Words.{first_of, found_of, kind_of, rows_of, subcommand_rows_of};
 ghost use Rattle.clap.specs.declared.error.kind.ErrorKind.TheVariants.{OutOfMemory};
-ghost use Rattle.command_words.specs.Commands.{asked_by, asked_in, asked_of, asked_with, comparison_from, comparison_in, comparison_of, entered, flagged, flagged_by, parsed_of, rehearsal_of, rehearsal_with, rehearsed_in};
+ghost use Rattle.command_words.specs.Commands.{asked_by, asked_in, asked_of, asked_with, comparison_from, comparison_in, comparison_of, configure_asked, entered, flagged, flagged_by, parsed_of, rehearsal_of, rehearsal_with, rehearsed_in};
 ghost use Rattle.command_words.specs.Diversions.{diverting_of, undiverting_of};
 ghost use Rattle.command_words.specs.Packages.{configuring_of, removing_of};
 ghost use Rattle.command_words.specs.Queries.{query_of};
 ghost use Rattle.command_words.specs.Rehearsals.{rehearsal_in, rehearsed};
+ghost use Rattle.command_words.specs.Selecting.{removing_selected_of, selecting_of};
 ghost use Rattle.command_words.specs.Topics.{IsToldOf, named_in, topic_in};
+ghost use Rattle.command_words.specs.Triggers.{is_of_triggers_only, processing_of};
 ghost use Rattle.command_words.specs.Unpacks.{unpacking_of};
 ghost use Rattle.command_words.specs.Verifications.{verifying_of};
 ghost use Rattle.command_words.specs.declared.words.WordsFault.TheVariants.{NoMemory};
@@ -21,6 +23,8 @@ use crate::mistakes::mistake_text;
 use crate::packages::{Configuring, Removing, configuring_of, removing_of};
 use crate::query::{Query, query_of};
 use crate::rehearsal::{Rehearsal, is_rehearsable, rehearsal_in};
+use crate::selecting::{RemovingSelected, Selecting, removing_selected_of, selecting_of};
+use crate::triggers::{ProcessingTriggers, is_of_triggers_only, processing_of};
 use crate::unpacking::{Unpacking, unpacking_of};
 use crate::verifying::{Verifying, verifying_of};
 use clap::ArgMatches;
@@ -48,8 +52,14 @@ pub enum Asked {
     /// The trees are unpacked, and then their packages are configured.
     Install(Unpacking),
     Configure(Configuring),
+    /// The triggers that are pending are processed, and nothing else is done.
+    ProcessTriggers(ProcessingTriggers),
     Remove(Removing),
     Purge(Removing),
+    /// What is wanted of packages is recorded.
+    Select(Selecting),
+    /// The packages go away of which that is wanted.
+    RemoveSelected(RemovingSelected),
     Query(Query),
     Verify(Verifying),
 }
@@ -187,18 +197,30 @@ fn comparison_asked(alloc: Global, found: &ArgMatches<'_>) -> Result<Option<Aske
     }
 }
 
+// Packages are configured, or triggers alone are processed.
+fn configure_asked(alloc: Global, found: &ArgMatches<'_>) -> Result<Option<Asked>, AllocError>
+    ensures { IfOk result (λ asked. asked ≡ configure_asked (rows_of (found_of found.now))) }
+{
+    if is_of_triggers_only(found) {
+        return Ok(processing_of(alloc, found)?.map(Asked::ProcessTriggers));
+    }
+    Ok(configuring_of(alloc, found)?.map(Asked::Configure))
+}
+
 // What a subcommand asks for, unless its words have a mistake.
 fn asked_by(alloc: Global, name: &str, found: &ArgMatches<'_>) -> Result<Option<Asked>, AllocError>
     ensures { IfOk result (λ asked. asked ≡ asked_by name.now (rows_of (found_of found.now))) }
 {
     match name {
         "compare-versions" => comparison_asked(alloc, found),
-        "configure" => Ok(configuring_of(alloc, found)?.map(Asked::Configure)),
+        "configure" => configure_asked(alloc, found),
         "divert" => Ok(diverting_of(alloc, found)?.map(Asked::Divert)),
         "help" => Ok(topic_in(text_of(found, "COMMAND")).map(Asked::Help)),
         "install" => Ok(unpacking_of(alloc, found)?.map(Asked::Install)),
         "purge" => Ok(removing_of(alloc, found)?.map(Asked::Purge)),
         "remove" => Ok(removing_of(alloc, found)?.map(Asked::Remove)),
+        "remove-selected" => Ok(removing_selected_of(alloc, found)?.map(Asked::RemoveSelected)),
+        "select" => Ok(selecting_of(alloc, found)?.map(Asked::Select)),
         "undivert" => Ok(undiverting_of(alloc, found)?.map(Asked::Undivert)),
         "unpack" => Ok(unpacking_of(alloc, found)?.map(Asked::Unpack)),
         "verify" => Ok(verifying_of(alloc, found)?.map(Asked::Verify)),

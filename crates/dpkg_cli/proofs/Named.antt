@@ -20,5 +20,5 @@ pub want_answer : (model : Model) (come : Translated) → IsDpkgAnswer model com
 want_answer model (Ours words) = (0, 0, (memory_answer, _, none_told (rehearsal_of words) (asked_of words), inr (inl refl), inl refl))
 want_answer model (Gathers gathered) = inr refl
 want_answer model (Prints printed) = inr refl
-want_answer model Selects = inr refl
+want_answer model (Selects front) = inr refl
 want_answer model (Refused line) = refl

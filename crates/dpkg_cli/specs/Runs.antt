@@ -5,7 +5,10 @@ use Rattle.command_words.specs.Commands.{asked_of, rehearsal_of}
 use Rattle.command_words.specs.Topics.{named_in}
 use Rattle.dpkg_words.specs.Arguments.{behind_dashes}
 use Rattle.dpkg_words.specs.Names.{speaks_dpkg}
+use Rattle.dpkg_words.specs.Selections.{selecting_words}
 use Rattle.dpkg_words.specs.Translated.{translated}
+use Rattle.dpkg_words.specs.declared.selections.Selected.{Selected}
+use Rattle.dpkg_words.specs.declared.selections.Selected.TheVariants as come
 use Rattle.dpkg_words.specs.declared.translation.Gathered.{Gathered}
 use Rattle.dpkg_words.specs.declared.translation.Translated.{Translated}
 use Rattle.dpkg_words.specs.declared.translation.Translated.TheVariants.{Ours, Gathers, Prints, Selects, Refused}
@@ -35,13 +38,28 @@ IsAnswered model words status = (before after : ℕ)
 abbrev pub IsGatheredAnswer : Model → Gathered → ℕ → Type 0
 IsGatheredAnswer model gathered status = ((files : List (List ℕ)) × IsAnswered model (behind_dashes gathered.front files) status) ⊎ (status ≡ 2)
 
+-- What a text selects: the words by which it is recorded are answered, nothing is run where no package is selected, and a line
+-- that can't be read ends with 2.
+abbrev pub IsSelectedAnswer : Model → Selected → ℕ → Type 0
+IsSelectedAnswer model (come.Ours words) status = IsAnswered model words status
+IsSelectedAnswer model come.Nothing status = status ≡ 0
+IsSelectedAnswer model (come.Refused line) status = status ≡ 2
+
+-- the same, unless memory is wanting before
+abbrev pub IsTextAnswer : Model → List (List ℕ) → List ℕ → ℕ → Type 0
+IsTextAnswer model front text status = IsSelectedAnswer model (selecting_words front text) status ⊎ (status ≡ 2)
+
+-- What the text selects is answered that standard input has, unless none can be read.
+abbrev pub IsSelectingAnswer : Model → List (List ℕ) → ℕ → Type 0
+IsSelectingAnswer model front status = ((text : List ℕ) × IsTextAnswer model front text status) ⊎ (status ≡ 2)
+
 -- What dpkg's words come to: the program's own words are answered, a text is printed with its status, or with 2 where that can't
--- be done, selections are taken or not, and a refusal ends with 2.
+-- be done, what standard input selects is answered, and a refusal ends with 2.
 abbrev pub IsDpkgAnswer : Model → Translated → ℕ → Type 0
 IsDpkgAnswer model (Ours words) status = IsAnswered model words status
 IsDpkgAnswer model (Gathers gathered) status = IsGatheredAnswer model gathered status
 IsDpkgAnswer model (Prints printed) status = (status ≡ printed.status) ⊎ (status ≡ 2)
-IsDpkgAnswer model Selects status = (status ≡ 0) ⊎ (status ≡ 2)
+IsDpkgAnswer model (Selects front) status = IsSelectingAnswer model front status
 IsDpkgAnswer model (Refused line) status = status ≡ 2
 
 -- whether words are dpkg's, by the program's name in front of them

@@ -11,10 +11,10 @@
 //! ends with that status; that `main` calls these is read.
 #![tactic(auto)]
 
-ghost use Rattle.std.specs.Prelude.{◌≡◌, ◌≤◌, ◌⊎◌, map, string_bytes};
+ghost use Rattle.std.specs.Prelude.{◌≡◌, ◌≤◌, ◌⊎◌, IfSome, map, string_bytes};
 ghost use Rattle.std.specs.Process.{exit_status};
 ghost use Rattle.dpkg_words.specs.Translated.{translated};
-ghost use Rattle.dpkg_cli.specs.Runs.{IsAnswered, IsDpkgAnswer, IsGatheredAnswer, IsNamedAnswer, are_dpkgs};
+ghost use Rattle.dpkg_cli.specs.Runs.{IsAnswered, IsDpkgAnswer, IsGatheredAnswer, IsNamedAnswer, IsSelectedAnswer, IsSelectingAnswer, IsTextAnswer, are_dpkgs};
 
 mod architectures;
 mod archives;
@@ -32,7 +32,8 @@ mod watched;
 use command_line::{FAILED, run_words};
 use directories::Directories;
 use dpkg_words::{
-    Gathered, Printed, Translated, are_set_anyway, speaks_dpkg, status_fd, translate,
+    Gathered, OwnWords, Printed, Selected, Translated, selecting_words, speaks_dpkg, status_fd,
+    translate,
 };
 use fixed_lines::FixedLines;
 use gathering::archives_below;
@@ -42,7 +43,7 @@ use progress::{Beside, Going, Line, going_through};
 use standard_streams::fill_missing;
 use status_fd::StatusFd;
 use std::cell::Cell;
-use std::io::{ErrorKind, Input, IsTerminal, Write};
+use std::io::{ErrorKind, Input, IsTerminal, Read, Write};
 use std::process::ExitCode;
 use std::rt::Env;
 use std::{env, io};
@@ -169,13 +170,39 @@ fn refuse(rt: HostRuntime, line: &str) -> u8
     give(io::writer(&stderr), line, FAILED)
 }
 
-// Takes what standard input selects, where the commands set it themselves.
-fn select(rt: HostRuntime) -> u8
-    ensures { (result ≡ 0) ⊎ (result ≡ 2) }
+fn run_selected<D: Disk>(rt: HostRuntime, going: Option<Going>, come: &Selected) -> u8
+    ensures { IsSelectedAnswer D.Disk.model come.now result }
 {
-    match io::read_to_string(rt.alloc(), rt.reader()) {
-        Ok(lines) if are_set_anyway(lines.as_str().as_bytes()) => 0,
-        Ok(_) => refuse(rt, "error: no package can be held here\n"),
+    match come {
+        Selected::Ours(words) => run::<D>(rt, going, words.as_slice()),
+        Selected::Nothing => 0,
+        Selected::Refused(line) => refuse(rt, line.as_str()),
+    }
+}
+
+// What a text selects, by the words that stand before it.
+fn run_text<D: Disk>(rt: HostRuntime, going: Option<Going>, front: &OwnWords, text: &str) -> u8
+    ensures { IsTextAnswer D.Disk.model front.now text.now result }
+{
+    match selecting_words(rt.alloc(), front, text) {
+        Ok(come) => run_selected::<D>(rt, going, &come),
+        Err(_) => refuse(rt, "broken memory\n"),
+    }
+}
+
+// The same of what is read, to its end, before anything is done.
+fn run_selecting<D: Disk, R: Read + Drop>(
+    rt: HostRuntime,
+    going: Option<Going>,
+    front: &OwnWords,
+    reader: R,
+) -> u8
+    ensures answered { IsSelectingAnswer D.Disk.model front.now result }
+    ensures read { IfSome (R.remaining reader) (λ text.
+        IsTextAnswer D.Disk.model front.now text result) }
+{
+    match io::read_to_string(rt.alloc(), reader) {
+        Ok(text) => run_text::<D>(rt, going, front, text.as_str()),
         Err(_) => refuse(rt, "error: standard input can't be read\n"),
     }
 }
@@ -207,7 +234,7 @@ fn run_translated<D: Disk>(rt: HostRuntime, going: Option<Going>, translated: &T
         Translated::Ours(words) => run::<D>(rt, going, words.as_slice()),
         Translated::Gathers(gathered) => run_gathered::<D>(rt, going, gathered),
         Translated::Prints(printed) => print(rt, printed),
-        Translated::Selects => select(rt),
+        Translated::Selects(front) => run_selecting::<D, _>(rt, going, front, rt.reader()),
         Translated::Refused(line) => refuse(rt, line.as_str()),
     }
 }

@@ -43,7 +43,7 @@ one_record : (r s : Record) → Some r ≡ Some s → r ≡ s
 one_record r s e = ap (or_record r) e
 
 -- it has that name
-is_named : (rs : List Record) (name : List ℕ) (r : Record) → record_in rs name ≡ Some r → r.name ≡ name
+pub is_named : (rs : List Record) (name : List ℕ) (r : Record) → record_in rs name ≡ Some r → r.name ≡ name
 is_named [] name r found = cc
 is_named (x ∷ rs) name r found = by (bytes_eq x.name name) refl (is_named rs name r) found
   where

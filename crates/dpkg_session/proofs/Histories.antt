@@ -20,8 +20,9 @@ use Rattle.status_db.specs.Notes.{note_path}
 use Rattle.status_db.specs.Recorded.{Recorded}
 use Rattle.status_records.specs.declared.record.Record.{Record}
 use Rattle.unit_reports.specs.Held.{Held}
-use Rattle.dpkg_session.specs.History.{Configured, Diverted, HasDone, Installed, IsCommand, IsHistory, KeepsRest, Merged, Ran, Removed, Stands, Undiverted, Unpacked}
+use Rattle.dpkg_session.specs.History.{Changed, Configured, Diverted, HasDone, Installed, IsCommand, IsHistory, KeepsRest, Merged, Ran, Removed, Stands, Triggered, Undiverted, Unpacked}
 use Rattle.dpkg_session.proofs.Carries.{carries_found}
+use Rattle.dpkg_session.proofs.Changes.{changes_carry}
 use Rattle.dpkg_session.proofs.Configures.{configure_carries}
 use Rattle.dpkg_session.proofs.Found.{found_run}
 use Rattle.dpkg_session.proofs.InstallStandings.{install_found}
@@ -29,6 +30,7 @@ use Rattle.dpkg_session.proofs.Removes.{removal_carries}
 use Rattle.dpkg_session.proofs.Retabled.{found_diverted, found_undiverted}
 use Rattle.dpkg_session.proofs.Runs.{ready_run}
 use Rattle.dpkg_session.proofs.Standings.{order_standing, standing_found}
+use Rattle.dpkg_session.proofs.Triggers.{triggers_carry}
 
 -- the administration is read from its own paths alone
 
@@ -80,7 +82,9 @@ done_stands (Diverted asked unit) before after s t done h found =
 done_stands (Undiverted asked unit) before after s t done h found =
     kept_rest before after t.world done.1 (found_undiverted before.records before.lists asked before.ways after.ways unit s t done.0 h found)
 done_stands (Configured names policy units) before after s t done h found = carries_found before after s t (configure_carries names policy units before after s t done) h found
-done_stands (Removed names purge units) before after s t done h found = carries_found before after s t (removal_carries names purge units before after s t done) h found
+done_stands (Removed names extents units) before after s t done h found = carries_found before after s t (removal_carries names extents units before after s t done) h found
+done_stands (Changed changes units) before after s t done h found = carries_found before after s t (changes_carry changes units before after s t done) h found
+done_stands (Triggered names units) before after s t done h found = carries_found before after s t (triggers_carry names units before after s t done) h found
 done_stands Merged before after s t done h found =
     subst (λ (x : Held). Stands x t.world) (sym done.0) (found_noted before.records.records before.records.notes before.lists before.ways.entries s.world t.world found (done.1 h))
 done_stands (Installed auto candidates policy unpacked configured) before after s t done h found = install_found auto candidates policy unpacked configured before after s t done h found

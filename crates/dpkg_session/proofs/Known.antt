@@ -49,7 +49,7 @@ all_placed P r (x ∷ xs) here all = by (is_lt (slice_cmp nat_cmp x.name r.name)
 all_dropped : (P : Record → Type 0) (name : List ℕ) (rs : List Record) → AllByRecursion P rs → AllByRecursion P (drop_record name rs)
 all_dropped P name rs all = all_filter P (λ r. not (bytes_eq r.name name)) rs all
 
-all_put : (P : Record → Type 0) (r : Record) (rs : List Record) → P r → AllByRecursion P rs → AllByRecursion P (put_record r rs)
+pub all_put : (P : Record → Type 0) (r : Record) (rs : List Record) → P r → AllByRecursion P rs → AllByRecursion P (put_record r rs)
 all_put P r rs here all = all_placed P r (drop_record r.name rs) here (all_dropped P r.name rs all)
 
 -- all records are of their own names

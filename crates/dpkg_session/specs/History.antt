@@ -9,9 +9,13 @@ use Rattle.host_core.specs.World.{World, KeepsBut, SameOn}
 use Rattle.host_core.specs.Host.{State}
 use Rattle.opening.specs.Opened.{IsFound}
 use Rattle.opening.specs.Parts.{OpensAndMerges}
+use Rattle.record_changes.specs.Run.{IsChangeRun}
+use Rattle.record_changes.specs.declared.change.RecordChange.{RecordChange}
 use Rattle.removal_run.specs.Run.{IsRemovalRun}
+use Rattle.removal_run.specs.declared.extents.Extents.{Extents}
 use Rattle.status_db.specs.Held.{is_record_place}
 use Rattle.status_db.specs.Noting.{AreNoted}
+use Rattle.trigger_run.specs.Run.{IsTriggerRun}
 use Rattle.dpkg_session.specs.declared.asked.Diverting.{Diverting}
 use Rattle.dpkg_session.specs.declared.asked.Undiverting.{Undiverting}
 use Rattle.dpkg_session.specs.declared.report.Candidate.{Candidate}
@@ -31,7 +35,11 @@ pub data Ran : Type 0 where
   -- the names of the packages that were to be configured
   Configured : (names : List (List ℕ)) (policy : ConfPolicy) (units : List AUnit) → Ran
   -- of those that were to be removed, or purged
-  Removed : (names : List (List ℕ)) (purge : Bool) (units : List AUnit) → Ran
+  Removed : (names : List (List ℕ)) (extents : Extents) (units : List AUnit) → Ran
+  -- what was to be changed of records
+  Changed : (changes : List RecordChange) (units : List AUnit) → Ran
+  -- the names of the packages whose triggers were to be processed
+  Triggered : (names : List (List ℕ)) (units : List AUnit) → Ran
   -- trees that were to be unpacked and configured, with the units of both
   Installed : (auto_deconfigure : Bool) (candidates : List Candidate) (policy : ConfPolicy) (unpacked configured : List AUnit) → Ran
   -- the end of a command, behind its units: all notes were merged
@@ -49,7 +57,9 @@ HasDone (Diverted asked unit) before after s t =
     HasDiverted asked before.records.records before.lists before.ways after.ways unit s t × KeepsRest before after
 HasDone (Undiverted asked unit) before after s t = HasUndiverted asked before.ways after.ways unit s t × KeepsRest before after
 HasDone (Configured names policy units) before after s t = IsConfigureRun names policy units before after s t
-HasDone (Removed names purge units) before after s t = IsRemovalRun names purge units before after s t
+HasDone (Removed names extents units) before after s t = IsRemovalRun names extents units before after s t
+HasDone (Changed changes units) before after s t = IsChangeRun changes units before after s t
+HasDone (Triggered names units) before after s t = IsTriggerRun names units before after s t
 HasDone (Installed auto_deconfigure candidates policy unpacked configured) before after s t = IsInstall auto_deconfigure candidates policy unpacked configured before after s t
 HasDone Merged before after s t = (after ≡ merged before) × (IsTrue t.honest → AreNoted before.records.records 0 s.world t.world)
 

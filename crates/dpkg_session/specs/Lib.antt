@@ -13,3 +13,4 @@ pub mod Checkpoints
 pub mod Diversions
 pub mod Asked
 pub mod Installs
+pub mod Activated

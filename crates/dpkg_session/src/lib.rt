@@ -77,6 +77,7 @@
 #![tactic(auto)]
 
 mod asked;
+mod changing;
 mod checkpointing;
 mod configuring;
 mod displacing;
@@ -86,10 +87,12 @@ mod growing;
 mod installing;
 mod laws;
 mod overriding;
+mod processing;
 mod read_packages;
 mod recorded;
 mod refusal;
 mod removing;
+mod removing_selected;
 mod report;
 mod seen;
 mod session;
@@ -101,13 +104,17 @@ mod undiverting;
 mod units;
 mod unpacking;
 mod unpacks;
+mod watching;
 
 pub use asked::{Diverting, Undiverting};
 pub use installing::Installed;
 pub use laws::history_stands;
+pub use record_changes::{Change, RecordChange};
+pub use removal_run::Extents;
 pub use report::Candidate;
 pub use session::Session;
 pub use trees::Trees;
+pub use trigger_watch::{Hits, TriggerWatch};
 pub use unit_reports::{
     Breakage, Failure, Refusal, Reply, Report, Rule, Touched, Unit, Unwatched, Watcher,
 };

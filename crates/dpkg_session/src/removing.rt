@@ -6,6 +6,7 @@ ghost use Rattle.host_core.specs.Loss.{IsAnswered};
 ghost use Rattle.dpkg_session.specs.PowerLoss.{LosesLikeAStop, StandsOnceAnswered};
 ghost use Rattle.recorded_packages.specs.Packages.{ArePackagesOf};
 ghost use Rattle.removal_run.specs.Run.{HasRun, IsAmidRun, IsRemovalRun};
+ghost use Rattle.removal_run.specs.declared.extents.Extents.TheVariants.{Purged, Removed};
 ghost use Rattle.held_administration.specs.Order.{IsInOrder};
 ghost use Rattle.unit_reports.specs.Held.{held_by};
 ghost use Rattle.unit_reports.specs.Units.{CountsLast, IsBrokenBy, IsClosedReport, TellsCalls};
@@ -18,17 +19,17 @@ use crate::table_units::no_memory;
 use diversions::Diversions;
 use held_administration::Administration;
 use host_core::Host;
-use removal_run::remove_packages;
+use removal_run::{Extents, remove_packages};
 use texts::Text;
 use unit_reports::{Report, Watcher};
 
-// Removes packages of these names, or purges them, beside the packages of the records.
-fn remove_named<H: Host, W: Watcher>(
+/// Removes packages of these names, or purges them, beside the packages of the records.
+pub(crate) fn remove_named<H: Host, W: Watcher>(
     host: &mut H,
     administration: &mut Administration,
     diversions: &Diversions,
     names: Vec<Text>,
-    purge: bool,
+    extents: Extents,
     watcher: &mut W,
 ) -> Report
     requires order { Needs (H.state host.old)
@@ -36,13 +37,13 @@ fn remove_named<H: Host, W: Watcher>(
     requires open { IsOpen diversions.now.ways administration.old }
     requires indexed { IfSome administration.old.packages
         (ArePackagesOf administration.old.database.records) }
-    ensures whole { IsNone result.last → IsRemovalRun names.items purge result.units.items
+    ensures whole { IsNone result.last → IsRemovalRun names.items extents result.units.items
         (held_by administration.old diversions.now) (held_by administration.new diversions.now)
         (H.state host.old) (H.state host.new) }
-    ensures part { HasRun names.items purge result.units.items result.last
+    ensures part { HasRun names.items extents result.units.items result.last
         (held_by administration.old diversions.now) (H.state host.old) (H.state host.new) }
     ensures told { TellsCalls (H.state host.old) (H.state host.new) result }
-    ensures any_moment { Since (IsAmidRun names.items purge
+    ensures any_moment { Since (IsAmidRun names.items extents
         (held_by administration.old diversions.now) (H.state host.old)) (H.state host.old)
         (H.state host.new) }
     ensures counts { CountsLast (H.state host.old) (H.state host.new) result.last }
@@ -68,7 +69,7 @@ fn remove_named<H: Host, W: Watcher>(
                 &mut known,
                 diversions,
                 names,
-                purge,
+                extents,
                 watcher,
             );
             administration.packages = Some(known);
@@ -80,22 +81,22 @@ fn remove_named<H: Host, W: Watcher>(
 
 impl<H: Host> Session<H> {
     // Removes packages, or purges them.
-    fn take<W: Watcher>(&mut self, names: Vec<Text>, purge: bool, watcher: &mut W) -> Report
+    fn take<W: Watcher>(&mut self, names: Vec<Text>, extents: Extents, watcher: &mut W) -> Report
         ensures whole { self.old.closed ≡ false → IsNone result.last
-            → IsRemovalRun names.items purge result.units.items
+            → IsRemovalRun names.items extents result.units.items
             (held_by self.old.administration self.old.diversions)
             (held_by self.new.administration self.new.diversions) (H.state self.old.host)
             (H.state self.new.host) }
-        ensures part { self.old.closed ≡ false → HasRun names.items purge result.units.items
+        ensures part { self.old.closed ≡ false → HasRun names.items extents result.units.items
             result.last (held_by self.old.administration self.old.diversions)
             (H.state self.old.host) (H.state self.new.host) }
         ensures told { TellsCalls (H.state self.old.host) (H.state self.new.host) result }
         ensures any_moment { self.old.closed ≡ false
-            → Since (IsAmidRun names.items purge
+            → Since (IsAmidRun names.items extents
             (held_by self.old.administration self.old.diversions) (H.state self.old.host))
             (H.state self.old.host) (H.state self.new.host) }
         ensures loss { self.old.closed ≡ false
-            → LosesLikeAStop (IsAmidRun names.items purge
+            → LosesLikeAStop (IsAmidRun names.items extents
             (held_by self.old.administration self.old.diversions) (H.state self.old.host))
             (H.state self.old.host) (H.state self.new.host) }
         ensures stands { self.old.closed ≡ false → IsNone result.last
@@ -125,7 +126,7 @@ impl<H: Host> Session<H> {
             &mut self.administration,
             &self.diversions,
             names,
-            purge,
+            extents,
             watcher,
         );
         self.closed = report.last.is_some();
@@ -136,20 +137,20 @@ impl<H: Host> Session<H> {
     /// ask for, and each is told as it is finished; one that is broken off closes the session.
     pub fn remove<W: Watcher>(&mut self, names: Vec<Text>, watcher: &mut W) -> Report
         ensures whole { self.old.closed ≡ false → IsNone result.last
-            → IsRemovalRun names.items false result.units.items
+            → IsRemovalRun names.items Removed result.units.items
             (held_by self.old.administration self.old.diversions)
             (held_by self.new.administration self.new.diversions) (H.state self.old.host)
             (H.state self.new.host) }
-        ensures part { self.old.closed ≡ false → HasRun names.items false result.units.items
+        ensures part { self.old.closed ≡ false → HasRun names.items Removed result.units.items
             result.last (held_by self.old.administration self.old.diversions)
             (H.state self.old.host) (H.state self.new.host) }
         ensures told { TellsCalls (H.state self.old.host) (H.state self.new.host) result }
         ensures any_moment { self.old.closed ≡ false
-            → Since (IsAmidRun names.items false
+            → Since (IsAmidRun names.items Removed
             (held_by self.old.administration self.old.diversions) (H.state self.old.host))
             (H.state self.old.host) (H.state self.new.host) }
         ensures loss { self.old.closed ≡ false
-            → LosesLikeAStop (IsAmidRun names.items false
+            → LosesLikeAStop (IsAmidRun names.items Removed
             (held_by self.old.administration self.old.diversions) (H.state self.old.host))
             (H.state self.old.host) (H.state self.new.host) }
         ensures stands { self.old.closed ≡ false → IsNone result.last
@@ -171,26 +172,26 @@ impl<H: Host> Session<H> {
         ensures watched { IsTold W.tells (H.state self.old.host) watcher.old result.units.items
             watcher.new }
     {
-        self.take(names, false, watcher)
+        self.take(names, Extents::Removed, watcher)
     }
 
     /// Removes packages with their configuration files, or these alone where a package is removed already.
     pub fn purge<W: Watcher>(&mut self, names: Vec<Text>, watcher: &mut W) -> Report
         ensures whole { self.old.closed ≡ false → IsNone result.last
-            → IsRemovalRun names.items true result.units.items
+            → IsRemovalRun names.items Purged result.units.items
             (held_by self.old.administration self.old.diversions)
             (held_by self.new.administration self.new.diversions) (H.state self.old.host)
             (H.state self.new.host) }
-        ensures part { self.old.closed ≡ false → HasRun names.items true result.units.items
+        ensures part { self.old.closed ≡ false → HasRun names.items Purged result.units.items
             result.last (held_by self.old.administration self.old.diversions)
             (H.state self.old.host) (H.state self.new.host) }
         ensures told { TellsCalls (H.state self.old.host) (H.state self.new.host) result }
         ensures any_moment { self.old.closed ≡ false
-            → Since (IsAmidRun names.items true
+            → Since (IsAmidRun names.items Purged
             (held_by self.old.administration self.old.diversions) (H.state self.old.host))
             (H.state self.old.host) (H.state self.new.host) }
         ensures loss { self.old.closed ≡ false
-            → LosesLikeAStop (IsAmidRun names.items true
+            → LosesLikeAStop (IsAmidRun names.items Purged
             (held_by self.old.administration self.old.diversions) (H.state self.old.host))
             (H.state self.old.host) (H.state self.new.host) }
         ensures stands { self.old.closed ≡ false → IsNone result.last
@@ -212,6 +213,6 @@ impl<H: Host> Session<H> {
         ensures watched { IsTold W.tells (H.state self.old.host) watcher.old result.units.items
             watcher.new }
     {
-        self.take(names, true, watcher)
+        self.take(names, Extents::Purged, watcher)
     }
 }

@@ -18,6 +18,10 @@ own_words name o = codes "coizkerra" ∷ name ∷ codes "--root" ∷ root_of o.i
 abbrev pub changing_words : Text → Options → List Text
 changing_words name o = own_words name o ++ cond o.no_act (codes "--dry-run" ∷ []) []
 
+-- one that calls scripts: the triggers that are pending then are processed, or let be
+abbrev pub calling_words : Text → Options → List Text
+calling_words name o = changing_words name o ++ cond (not o.triggers) (codes "--no-triggers" ∷ []) []
+
 -- an edited conffile stays: by confdef, whatever else is forced, or by confold without confnew
 abbrev pub keeps : Forced → Bool
 keeps f = f.confdef || (f.confold && not f.confnew)
@@ -52,15 +56,19 @@ plain_names names = map plain_name names
 -- `install` or `unpack`, before the files; an install takes them as given
 abbrev pub tree_front : Text → Bool → Options → List Text
 tree_front name as_given o =
-    conffile_words o.forced (changing_words name o ++ cond o.auto_deconfigure (codes "--auto-deconfigure" ∷ []) []) ++ cond as_given (codes "--as-given" ∷ []) []
+    conffile_words o.forced (calling_words name o ++ cond o.auto_deconfigure (codes "--auto-deconfigure" ∷ []) []) ++ cond as_given (codes "--as-given" ∷ []) []
 
 -- `configure`, of all packages that wait for it where none is named
 abbrev pub configuring_words : Options → List Text → List Text
-configuring_words o names = behind_dashes (conffile_words o.forced (changing_words (codes "configure") o)) (plain_names names)
+configuring_words o names = behind_dashes (conffile_words o.forced (calling_words (codes "configure") o)) (plain_names names)
 
--- `remove` or `purge`
+-- `remove` or `purge`, or `remove-selected` without names
 abbrev pub removing_words : Text → Options → List Text → List Text
-removing_words name o names = behind_dashes (changing_words name o) (plain_names names)
+removing_words name o names = behind_dashes (calling_words name o) (plain_names names)
+
+-- `configure --triggers-only`, of all triggers that are pending
+abbrev pub triggering_words : Options → List Text
+triggering_words o = changing_words (codes "configure") o ++ codes "--triggers-only" ∷ []
 
 -- a question
 abbrev pub asking_words : Text → Options → List Text → List Text

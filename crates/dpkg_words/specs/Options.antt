@@ -33,6 +33,7 @@ question_of name =
     else if bytes_eq name (codes "listfiles") then Some action.ListFiles
     else if bytes_eq name (codes "search") then Some action.Search
     else if bytes_eq name (codes "audit") then Some action.Audit
+    else if bytes_eq name (codes "get-selections") then Some action.GetSelections
     else if bytes_eq name (codes "verify") then Some action.Verify
     else if bytes_eq name (codes "compare-versions") then Some action.CompareVersions
     else if bytes_eq name (codes "print-architecture") then Some action.PrintArchitecture
@@ -51,7 +52,7 @@ assertion_of name =
     else if bytes_eq name (codes "assert-protected-field") then Some (action.Assert false)
     else None
 
--- options without a value; there are no triggers, no pager and no signatures here
+-- options without a value; there are no pager and no signatures here
 abbrev pub flag_of : Text → Option Flag
 flag_of name =
     if bytes_eq name (codes "no-act") then Some flag.NoAct
@@ -61,8 +62,8 @@ flag_of name =
     else if bytes_eq name (codes "pending") then Some flag.Pending
     else if bytes_eq name (codes "robot") then Some flag.Robot
     else if bytes_eq name (codes "recursive") then Some flag.Recursive
-    else if bytes_eq name (codes "triggers") then Some flag.Idle
-    else if bytes_eq name (codes "no-triggers") then Some flag.Idle
+    else if bytes_eq name (codes "triggers") then Some flag.Triggers
+    else if bytes_eq name (codes "no-triggers") then Some flag.NoTriggers
     else if bytes_eq name (codes "no-pager") then Some flag.Idle
     else if bytes_eq name (codes "no-debsig") then Some flag.Idle
     else None
@@ -125,6 +126,7 @@ name_of action.TriggersOnly = codes "--triggers-only"
 name_of action.Remove = codes "--remove"
 name_of action.Purge = codes "--purge"
 name_of action.SetSelections = codes "--set-selections"
+name_of action.GetSelections = codes "--get-selections"
 name_of action.Status = codes "--status"
 name_of action.ListFiles = codes "--listfiles"
 name_of action.Search = codes "--search"

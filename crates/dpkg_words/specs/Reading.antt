@@ -32,6 +32,7 @@ start = record {
     pending = false;
     robot = false;
     recursive = false;
+    triggers = true;
     forced = nothing;
   };
   wants = None;
@@ -50,12 +51,15 @@ with_action word action r =
     if is_some r.options.action then faulty why.Conflict word r
     else record r { options = record r.options { action = Some action } }
 
+-- of two that contradict each other the later one holds
 abbrev pub with_flag : Flag → Options → Options
 with_flag flag.NoAct o = record o { no_act = true }
 with_flag flag.AutoDeconfigure o = record o { auto_deconfigure = true }
 with_flag flag.Pending o = record o { pending = true }
 with_flag flag.Robot o = record o { robot = true }
 with_flag flag.Recursive o = record o { recursive = true }
+with_flag flag.Triggers o = record o { triggers = true }
+with_flag flag.NoTriggers o = record o { triggers = false }
 with_flag flag.Idle o = o
 
 -- an option without a value, or one whose value the next word is

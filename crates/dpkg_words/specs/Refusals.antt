@@ -1,5 +1,6 @@
 -- Why dpkg's words aren't carried out, in a line.
-use Rattle.std.specs.Prelude.{◌++◌, codes}
+use Rattle.std.specs.Prelude.{ℕ, ◌++◌, codes}
+use Rattle.std.specs.Fmt.{decimal}
 use Rattle.shown_lines.specs.Lines.{shown}
 use Rattle.dpkg_words.specs.Options.{Text}
 use Rattle.dpkg_words.specs.declared.refusals.Why.{Why}
@@ -19,7 +20,10 @@ why_text why.OneWord = codes "one word is taken behind "
 why_text why.ThreeWords = codes "VERSION OPERATOR VERSION are wanted behind "
 why_text why.Words = codes "no word is taken behind "
 why_text why.Pattern = codes "only an absolute path can be searched for, and not "
-why_text why.Pending = codes "--pending isn't taken with "
 
 abbrev pub fault_line : Why → Text → Text
 fault_line why word = codes "error: " ++ (why_text why ++ (shown word ++ codes "\n"))
+
+-- which line of standard input can't be read
+abbrev pub line_fault : ℕ → Text
+line_fault number = codes "error: PKG WANT is wanted in line " ++ (decimal number ++ codes "\n")

@@ -2,7 +2,7 @@
 use Rattle.std.specs.Prelude.{ℕ, ◌&&◌, ◌||◌, ◌==◌, Bool, true, false, not, List, [], ◌∷◌, Option, Some, None, codes, if◌then◌else◌, is_some}
 use Rattle.std.specs.List.{list_any}
 use Rattle.std.specs.Str.{bytes_eq}
-use Rattle.dpkg_words.specs.Arguments.{asking_words, behind_dashes, configuring_words, plain_names, removing_words, tree_front}
+use Rattle.dpkg_words.specs.Arguments.{asking_words, behind_dashes, changing_words, configuring_words, plain_names, removing_words, tree_front, triggering_words}
 use Rattle.dpkg_words.specs.Options.{Text, name_of}
 use Rattle.dpkg_words.specs.Reading.{administration_of, read_all}
 use Rattle.dpkg_words.specs.Refusals.{fault_line}
@@ -59,19 +59,24 @@ configured_by false o (w ∷ ws) = under_root o (configuring_words o (w ∷ ws))
 abbrev pub configured : Options → List Text → Translated
 configured o words = configured_by o.pending o words
 
--- `--triggers-only PKG..`, or with `--pending`: there are no triggers, so nothing has to be done
-abbrev pub triggered_by : Bool → List Text → Translated
-triggered_by true (w ∷ ws) = refusal why.Words (codes "--pending")
-triggered_by true [] = printed [] 0
-triggered_by false [] = refusal why.NoWords (codes "--triggers-only")
-triggered_by false (w ∷ ws) = printed [] 0
+-- `--triggers-only --pending`, or `--triggers-only PKG..`: all triggers that are pending, also where packages are named
+abbrev pub triggered_by : Bool → Options → List Text → Translated
+triggered_by true o (w ∷ ws) = refusal why.Words (codes "--pending")
+triggered_by true o [] = under_root o (triggering_words o)
+triggered_by false o [] = refusal why.NoWords (codes "--triggers-only")
+triggered_by false o (w ∷ ws) = under_root o (triggering_words o)
 
 abbrev pub triggered : Options → List Text → Translated
-triggered o words = triggered_by o.pending words
+triggered o words = triggered_by o.pending o words
 
--- `--remove PKG..` or `--purge PKG..`; which packages wait for it is not known, since selections are none of ours
+-- `--remove --pending` or `--purge --pending`: of all packages that are selected to go
+abbrev pub removed_selected : Options → List Text → Translated
+removed_selected o [] = under_root o (removing_words (codes "remove-selected") o [])
+removed_selected o (w ∷ ws) = refusal why.Words (codes "--pending")
+
+-- `--remove PKG..` or `--purge PKG..`
 abbrev pub removed_by : Bool → Action → Text → Options → List Text → Translated
-removed_by true asked name o words = refusal why.Pending (name_of asked)
+removed_by true asked name o words = removed_selected o words
 removed_by false asked name o [] = refusal why.NoWords (name_of asked)
 removed_by false asked name o (w ∷ ws) = under_root o (removing_words name o (w ∷ ws))
 
@@ -79,9 +84,14 @@ abbrev pub removed : Action → Text → Options → List Text → Translated
 removed asked name o words = removed_by o.pending asked name o words
 
 -- `--set-selections`, on standard input
-abbrev pub selecting : List Text → Translated
-selecting [] = Selects
-selecting (w ∷ ws) = refusal why.Words (codes "--set-selections")
+abbrev pub selecting : Options → List Text → Translated
+selecting o [] = rooted o (Selects (changing_words (codes "select") o))
+selecting o (w ∷ ws) = refusal why.Words (codes "--set-selections")
+
+-- `--get-selections`, of all packages
+abbrev pub selections : Options → List Text → Translated
+selections o [] = under_root o (asking_words (codes "selections") o [])
+selections o (w ∷ ws) = refusal why.Words (codes "--get-selections")
 
 -- `--status PKG` or `--listfiles PKG`
 abbrev pub asked_one : Action → Text → Options → List Text → Translated
@@ -135,7 +145,8 @@ done action.Configure o words = configured o words
 done action.TriggersOnly o words = triggered o words
 done action.Remove o words = removed action.Remove (codes "remove") o words
 done action.Purge o words = removed action.Purge (codes "purge") o words
-done action.SetSelections o words = selecting words
+done action.SetSelections o words = selecting o words
+done action.GetSelections o words = selections o words
 done action.Status o words = asked_one action.Status (codes "status") o words
 done action.ListFiles o words = asked_one action.ListFiles (codes "listfiles") o words
 done action.Search o words = searched o words

@@ -1,6 +1,6 @@
 // The program's own words for what dpkg's ask for.
 ghost use Rattle.std.specs.Prelude.{◌≡◌, IfOk, OnOk};
-ghost use Rattle.dpkg_words.specs.Arguments.{asking_words, behind_dashes, changing_words, conffile_words, configuring_words, is_plain, keeps, own_words, plain_name, plain_names, removing_words, root_of, takes, tree_front};
+ghost use Rattle.dpkg_words.specs.Arguments.{asking_words, behind_dashes, calling_words, changing_words, conffile_words, configuring_words, is_plain, keeps, own_words, plain_name, plain_names, removing_words, root_of, takes, tree_front, triggering_words};
 
 use crate::forces::Forced;
 use crate::own_words::OwnWords;
@@ -30,12 +30,25 @@ fn own_words(alloc: Global, name: &str, options: &Options) -> Result<OwnWords, A
     Ok(words)
 }
 
-// One that changes what is there, unless it is only rehearsed.
-fn changing_words(alloc: Global, name: &str, options: &Options) -> Result<OwnWords, AllocError>
+/// One that changes what is there, unless it is only rehearsed.
+pub(crate) fn changing_words(
+    alloc: Global,
+    name: &str,
+    options: &Options,
+) -> Result<OwnWords, AllocError>
     ensures { IfOk result (λ words. words ≡ changing_words name.now options.now) }
 {
     let mut words = own_words(alloc, name, options)?;
     words.push_if(options.no_act, "--dry-run")?;
+    Ok(words)
+}
+
+// One that calls scripts. The triggers that are pending then are processed, or let be.
+fn calling_words(alloc: Global, name: &str, options: &Options) -> Result<OwnWords, AllocError>
+    ensures { IfOk result (λ words. words ≡ calling_words name.now options.now) }
+{
+    let mut words = changing_words(alloc, name, options)?;
+    words.push_if(!options.triggers, "--no-triggers")?;
     Ok(words)
 }
 
@@ -75,7 +88,7 @@ pub(crate) fn tree_front(
 ) -> Result<OwnWords, AllocError>
     ensures { IfOk result (λ words. words ≡ tree_front name.now as_given options.now) }
 {
-    let mut words = changing_words(alloc, name, options)?;
+    let mut words = calling_words(alloc, name, options)?;
     words.push_if(options.auto_deconfigure, "--auto-deconfigure")?;
     push_conffiles(&mut words, options.forced)?;
     words.push_if(as_given, "--as-given")?;
@@ -90,14 +103,14 @@ pub(crate) fn configuring_words(
 ) -> Result<OwnWords, AllocError>
     ensures { IfOk result (λ words. words ≡ configuring_words options.now names.now) }
 {
-    let mut words = changing_words(alloc, "configure", options)?;
+    let mut words = calling_words(alloc, "configure", options)?;
     push_conffiles(&mut words, options.forced)?;
     let names = plain_names(alloc, names)?;
     push_behind(&mut words, names.as_slice())?;
     Ok(words)
 }
 
-/// `remove` or `purge`.
+/// `remove` or `purge`, or `remove-selected` without names.
 pub(crate) fn removing_words(
     alloc: Global,
     name: &str,
@@ -106,9 +119,18 @@ pub(crate) fn removing_words(
 ) -> Result<OwnWords, AllocError>
     ensures { IfOk result (λ words. words ≡ removing_words name.now options.now names.now) }
 {
-    let mut words = changing_words(alloc, name, options)?;
+    let mut words = calling_words(alloc, name, options)?;
     let names = plain_names(alloc, names)?;
     push_behind(&mut words, names.as_slice())?;
+    Ok(words)
+}
+
+/// `configure --triggers-only`, of all triggers that are pending.
+pub(crate) fn triggering_words(alloc: Global, options: &Options) -> Result<OwnWords, AllocError>
+    ensures { IfOk result (λ words. words ≡ triggering_words options.now) }
+{
+    let mut words = changing_words(alloc, "configure", options)?;
+    words.push("--triggers-only")?;
     Ok(words)
 }
 
@@ -132,7 +154,7 @@ fn is_plain(architecture: &str) -> bool
     architecture == "amd64" || architecture == "all"
 }
 
-fn plain_name(name: &str) -> &str
+pub(crate) fn plain_name(name: &str) -> &str
     ensures { result.now ≡ plain_name name.now }
 {
     match cut_at_colon(name) {

@@ -4,7 +4,9 @@
 //!
 //! `translate` gives of dpkg's words exactly what its definition has (specs/), which is a table in
 //! dpkg's terms: the program's own words, also with directories behind which archives are to be
-//! found, a text with a status, or a refusal that names the option that isn't taken. `speaks_dpkg` tells by which names of the program its words are dpkg's.
+//! found, a text with a status, or a refusal that names the option that isn't taken. `selecting_words` gives
+//! of a text the words by which what it selects is recorded, or tells the first line that can't be
+//! read. `speaks_dpkg` tells by which names of the program its words are dpkg's.
 #![tactic(auto)]
 
 mod arguments;
@@ -22,6 +24,6 @@ mod words;
 
 pub use names::speaks_dpkg;
 pub use own_words::OwnWords;
-pub use selections::are_set_anyway;
+pub use selections::{Selected, selecting_words};
 pub use status_fds::status_fd;
 pub use translation::{Gathered, Printed, Translated, translate};

@@ -23,6 +23,8 @@ pub(crate) struct Options {
     pub(crate) robot: bool,
     /// Words are directories, of which all archives are taken.
     pub(crate) recursive: bool,
+    /// Triggers that are pending behind the action are processed.
+    pub(crate) triggers: bool,
     pub(crate) forced: Forced,
 }
 
@@ -58,6 +60,7 @@ fn start(alloc: Global) -> Result<Reading, AllocError>
         pending: false,
         robot: false,
         recursive: false,
+        triggers: true,
         forced: Forced::none(),
     };
     Ok(Reading {
@@ -119,6 +122,14 @@ fn with_flag(flag: Flag, options: Options) -> Options
         },
         Flag::Recursive => Options {
             recursive: true,
+            ..options
+        },
+        Flag::Triggers => Options {
+            triggers: true,
+            ..options
+        },
+        Flag::NoTriggers => Options {
+            triggers: false,
             ..options
         },
         Flag::Idle => options,

@@ -1,7 +1,8 @@
 // Why dpkg's words aren't carried out.
 ghost use Rattle.std.specs.Prelude.{◌≡◌, ◌++◌, IfOk, codes, string_bytes};
+ghost use Rattle.std.specs.Fmt.{decimal};
 ghost use Rattle.shown_lines.specs.Lines.{shown};
-ghost use Rattle.dpkg_words.specs.Refusals.{fault_line, why_text};
+ghost use Rattle.dpkg_words.specs.Refusals.{fault_line, line_fault, why_text};
 
 use shown_lines::shown;
 use std::alloc::{AllocError, Global};
@@ -23,7 +24,6 @@ pub(crate) enum Why {
     ThreeWords,
     Words,
     Pattern,
-    Pending,
 }
 
 fn why_text(why: Why) -> &'static str
@@ -43,7 +43,6 @@ fn why_text(why: Why) -> &'static str
         Why::ThreeWords => "VERSION OPERATOR VERSION are wanted behind ",
         Why::Words => "no word is taken behind ",
         Why::Pattern => "only an absolute path can be searched for, and not ",
-        Why::Pending => "--pending isn't taken with ",
     }
 }
 
@@ -52,6 +51,20 @@ fn line_of(alloc: Global, why: &str, word: &str) -> Result<String, AllocError>
         ≡ codes "error: " ++ (why.now ++ (word.now ++ codes "\n"))) }
 {
     format!(in alloc; "error: {why}{word}\n")
+}
+
+fn line_text(alloc: Global, number: usize) -> Result<String, AllocError>
+    ensures { IfOk result (λ text. string_bytes text
+        ≡ codes "error: PKG WANT is wanted in line " ++ (decimal number ++ codes "\n")) }
+{
+    format!(in alloc; "error: PKG WANT is wanted in line {number}\n")
+}
+
+/// The line that tells which line of standard input can't be read.
+pub(crate) fn line_fault(alloc: Global, number: usize) -> Result<Text, AllocError>
+    ensures { IfOk result (λ text. text ≡ line_fault number) }
+{
+    Ok(Text::new(line_text(alloc, number)?))
 }
 
 /// The line that tells it.

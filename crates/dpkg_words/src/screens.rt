@@ -6,10 +6,11 @@ const HELP: &str = "dpkg's words, carried out by coizkerra. Usage: [OPTION ..] A
 
   -i, --install FILE..    --unpack FILE..    archives, or directories as dpkg-deb -R makes them
   --configure PKG..       --configure -a, --pending
-  -r, --remove PKG..      -P, --purge PKG..
+  --triggers-only PKG..   --triggers-only -a     the triggers that are pending, of all packages
+  -r, --remove PKG..      -P, --purge PKG..      -r -a, -P -a: what is selected to go
   -s, --status PKG        -L, --listfiles PKG    -S, --search PATH
   -C, --audit             -V, --verify [PKG..]   --compare-versions A OP B
-  --set-selections        of packages to be installed, removed or purged
+  --set-selections        --get-selections       what is wanted of packages: PKG WANT
   --print-architecture    --print-foreign-architectures    --assert-FEATURE
   -h, --help              --version
 
@@ -17,10 +18,11 @@ const HELP: &str = "dpkg's words, carried out by coizkerra. Usage: [OPTION ..] A
   -B, --auto-deconfigure  installed packages may be deconfigured in favour of one that is unpacked
   --no-act, --dry-run, --simulate
                           the lines are told as if it were done, and nothing is changed
+  --no-triggers           triggers stay pending and aren't processed then; not so with --triggers
   --force-confold, --force-confdef, --force-confnew, --force-confmiss
 
-Taken, and without effect: other --force-X and --refuse-X, --triggers, --no-triggers,
---triggers-only, --no-pager, --no-debsig, --log, --status-fd, --status-logger, --abort-after, -D.
+Taken, and without effect: other --force-X and --refuse-X, --no-pager, --no-debsig, --log,
+--status-fd, --status-logger, --abort-after, -D.
 What is printed are coizkerra's own lines: coizkerra help.
 ";
 

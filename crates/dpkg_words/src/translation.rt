@@ -1,8 +1,11 @@
 // What dpkg's words come to.
 ghost use Rattle.std.specs.Prelude.{◌≡◌, IfOk, map, string_bytes};
-ghost use Rattle.dpkg_words.specs.Translated.{asked_one, audited, behind_program, compared, configured, done, ended_by, is_pattern, is_rooted, is_searchable, is_sign, over_files, printed, refusal, removed, rooted, searched, selecting, status_for, told, translated, translated_from, trees, triggered, under_root, verified};
+ghost use Rattle.dpkg_words.specs.Translated.{asked_one, audited, behind_program, compared, configured, done, ended_by, is_pattern, is_rooted, is_searchable, is_sign, over_files, printed, refusal, removed, removed_selected, rooted, searched, selecting, selections, status_for, told, translated, translated_from, trees, triggered, under_root, verified};
 
-use crate::arguments::{asking_words, configuring_words, plain_names, removing_words, tree_front};
+use crate::arguments::{
+    asking_words, changing_words, configuring_words, plain_names, removing_words, tree_front,
+    triggering_words,
+};
 use crate::options::{Action, name_of};
 use crate::own_words::OwnWords;
 use crate::reading::{Options, Outcome, Reading, administration_of, read_all};
@@ -33,8 +36,8 @@ pub enum Translated {
     /// The same, behind which all archives below some directories come.
     Gathers(Gathered),
     Prints(Printed),
-    /// What standard input selects is looked at.
-    Selects,
+    /// The same, behind which what standard input selects comes.
+    Selects(OwnWords),
     /// A line for standard error; the status is 2.
     Refused(Text),
 }
@@ -136,7 +139,7 @@ fn configured(alloc: Global, options: &Options, words: &[Text]) -> Result<Transl
     under_root(alloc, options, configuring_words(alloc, options, words)?)
 }
 
-// There are no triggers.
+// All triggers that are pending, also where packages are named.
 fn triggered(alloc: Global, options: &Options, words: &[Text]) -> Result<Translated, AllocError>
     ensures { IfOk result (λ t. t ≡ triggered options.now words.now) }
 {
@@ -146,7 +149,22 @@ fn triggered(alloc: Global, options: &Options, words: &[Text]) -> Result<Transla
     if !options.pending && words.is_empty() {
         return refusal(alloc, Why::NoWords, "--triggers-only");
     }
-    telling(alloc, "", 0)
+    under_root(alloc, options, triggering_words(alloc, options)?)
+}
+
+// All packages that are selected to go.
+fn removed_selected(
+    alloc: Global,
+    options: &Options,
+    words: &[Text],
+) -> Result<Translated, AllocError>
+    ensures { IfOk result (λ t. t ≡ removed_selected options.now words.now) }
+{
+    if !words.is_empty() {
+        return refusal(alloc, Why::Words, "--pending");
+    }
+    let own = removing_words(alloc, "remove-selected", options, words)?;
+    under_root(alloc, options, own)
 }
 
 fn removed(
@@ -159,7 +177,7 @@ fn removed(
     ensures { IfOk result (λ t. t ≡ removed action name.now options.now words.now) }
 {
     if options.pending {
-        return refusal(alloc, Why::Pending, name_of(action));
+        return removed_selected(alloc, options, words);
     }
     if words.is_empty() {
         return refusal(alloc, Why::NoWords, name_of(action));
@@ -167,13 +185,24 @@ fn removed(
     under_root(alloc, options, removing_words(alloc, name, options, words)?)
 }
 
-fn selecting(alloc: Global, words: &[Text]) -> Result<Translated, AllocError>
-    ensures { IfOk result (λ t. t ≡ selecting words.now) }
+fn selecting(alloc: Global, options: &Options, words: &[Text]) -> Result<Translated, AllocError>
+    ensures { IfOk result (λ t. t ≡ selecting options.now words.now) }
 {
     if !words.is_empty() {
         return refusal(alloc, Why::Words, "--set-selections");
     }
-    Ok(Translated::Selects)
+    let front = changing_words(alloc, "select", options)?;
+    rooted(alloc, options, Translated::Selects(front))
+}
+
+fn selections(alloc: Global, options: &Options, words: &[Text]) -> Result<Translated, AllocError>
+    ensures { IfOk result (λ t. t ≡ selections options.now words.now) }
+{
+    if !words.is_empty() {
+        return refusal(alloc, Why::Words, "--get-selections");
+    }
+    let asked = asking_words(alloc, "selections", options, words)?;
+    under_root(alloc, options, asked)
 }
 
 // A question about one package.
@@ -296,7 +325,8 @@ fn done(
         Action::TriggersOnly => triggered(alloc, options, words),
         Action::Remove => removed(alloc, action, "remove", options, words),
         Action::Purge => removed(alloc, action, "purge", options, words),
-        Action::SetSelections => selecting(alloc, words),
+        Action::SetSelections => selecting(alloc, options, words),
+        Action::GetSelections => selections(alloc, options, words),
         Action::Status => asked_one(alloc, action, "status", options, words),
         Action::ListFiles => asked_one(alloc, action, "listfiles", options, words),
         Action::Search => searched(alloc, options, words),

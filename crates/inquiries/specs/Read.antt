@@ -23,6 +23,7 @@ use Rattle.opening.specs.Parts.{Part, Root, Records, Diversions, IsDamage, IsFin
 use Rattle.queries.specs.Files.{files_text, search_text}
 use Rattle.queries.specs.Places.{diversions_text, truename_text}
 use Rattle.queries.specs.Records.{audit_text, list_text, status_text}
+use Rattle.queries.specs.Selections.{selections_text}
 use Rattle.status_db.specs.Held.{HasRecords}
 use Rattle.status_records.specs.Records.{record_in}
 use Rattle.status_records.specs.declared.record.Record.{Record}
@@ -42,6 +43,9 @@ Sight = World → World
 -- the answers from the records that stand on a host
 abbrev pub IsList : State → List ℕ → Type 0
 IsList s text = (table : List Record) × Needs s (λ w. HasRecords w table) × (text ≡ list_text table)
+
+abbrev pub AreSelections : State → List ℕ → Type 0
+AreSelections s text = (table : List Record) × Needs s (λ w. HasRecords w table) × (text ≡ selections_text table)
 
 abbrev pub IsStatus : List ℕ → State → Option (List ℕ) → Type 0
 IsStatus name s text = (table : List Record) × Needs s (λ w. HasRecords w table) × (text ≡ status_text table name)

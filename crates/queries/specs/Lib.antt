@@ -2,3 +2,4 @@ pub mod Paths
 pub mod Records
 pub mod Files
 pub mod Places
+pub mod Selections

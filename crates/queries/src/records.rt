@@ -40,7 +40,11 @@ fn place_of(ordered: &[&Record], entry: &Record) -> usize
     ordered.len()
 }
 
-fn by_name<'a>(alloc: Global, records: &'a [Record]) -> Result<Vec<&'a Record>, AllocError>
+/// The records in the order of their names' bytes.
+pub(crate) fn by_name<'a>(
+    alloc: Global,
+    records: &'a [Record],
+) -> Result<Vec<&'a Record>, AllocError>
     ensures { IfOk result (λ ordered. map (λ r. r.now) ordered.items ≡ by_name records.now) }
 {
     let mut ordered = Vec::new(alloc);

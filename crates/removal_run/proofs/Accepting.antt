@@ -5,10 +5,12 @@ use Rattle.std.specs.Str.{bytes_eq}
 use Rattle.std.proofs.lemmas.Bool.{true≢false, false≢true}
 use Rattle.std.proofs.lemmas.Slice.Eq.{bytes_eq-Decides}
 use Rattle.status_records.specs.declared.record.Record.{Record}
+use Rattle.removal_run.specs.Extents.{purges_of}
 use Rattle.removal_run.specs.Names.{is_among, without}
-use Rattle.removal_run.specs.Refusals.{accepted, rule_for, rule_of}
+use Rattle.removal_run.specs.Refusals.{accepted, rule_under, rule_of}
 use Rattle.removal_run.specs.Turns.{AreAccepted}
 use Rattle.removal_run.specs.Units.{AreOthersKept}
+use Rattle.removal_run.specs.declared.extents.Extents.{Extents}
 
 same_name : (name other : List ℕ) → bytes_eq name other ≡ true → name ≡ other
 same_name name other e = (bytes_eq-Decides name other).0 e
@@ -33,15 +35,15 @@ none_is None e = refl
 none_is (Some x) e = absurd (false≢true e)
 
 -- those that wait in the beginning
-pub accepted_first : (purge : Bool) (records : List Record) (names : List (List ℕ)) → AreAccepted purge records (accepted purge records names)
-accepted_first purge records names = λ name h. none_is (rule_for purge records name) (among_filter (λ n. is_none (rule_for purge records n)) names name h).1
+pub accepted_first : (extents : Extents) (records : List Record) (names : List (List ℕ)) → AreAccepted extents records (accepted extents records names)
+accepted_first extents records names = λ name h. none_is (rule_under extents records name) (among_filter (λ n. is_none (rule_under extents records n)) names name h).1
 
 -- those that wait behind a removal
-pub accepted_next : (purge : Bool) (old new : List Record) (waiting : List (List ℕ)) (name : List ℕ) → AreOthersKept name old new → AreAccepted purge old waiting → AreAccepted purge new (without name waiting)
-accepted_next purge old new waiting name kept are = λ other h.
+pub accepted_next : (extents : Extents) (old new : List Record) (waiting : List (List ℕ)) (name : List ℕ) → AreOthersKept name old new → AreAccepted extents old waiting → AreAccepted extents new (without name waiting)
+accepted_next extents old new waiting name kept are = λ other h.
     let w = among_filter (λ n. not (bytes_eq n name)) waiting other h in
     let apart : other ≢ name = λ same. false≢true (sym (ap not ((bytes_eq-Decides other name).1 same)) ∙ w.1) in
-    ap (rule_of purge) (kept other apart) ∙ are other w.0
+    ap (λ entry. rule_of (purges_of extents entry) entry) (kept other apart) ∙ are other w.0
 
 -- who still waits, waited before
 pub waited : (name other : List ℕ) (names : List (List ℕ)) → IsTrue (is_among (without name names) other) → IsTrue (is_among names other)

@@ -6,7 +6,8 @@ use Rattle.unit_reports.specs.Units.{IsRefusedUnit, calls_of}
 use Rattle.unit_reports.specs.declared.refusal.Refusal.{Refusal}
 use Rattle.unit_reports.specs.declared.refusal.Rule.{Rule}
 use Rattle.unit_reports.specs.declared.report.Unit.{Unit as AUnit}
-use Rattle.removal_run.specs.Refusals.{AreRefused, accepted, refused_first, refusals, rule_for}
+use Rattle.removal_run.specs.Refusals.{AreRefused, accepted, refused_first, refusals, rule_under}
+use Rattle.removal_run.specs.declared.extents.Extents.{Extents}
 
 -- a unit for each of more refusals
 pub refused_more : (rs ss : List Refusal) (us vs : List AUnit) → AreRefused rs us → AreRefused ss vs → AreRefused (rs ++ ss) (us ++ vs)
@@ -26,35 +27,35 @@ first_behind : (name : List ℕ) (rule : Option Rule) (rs ss : List Refusal) →
 first_behind name None rs ss = refl
 first_behind name (Some rule) rs ss = refl
 
-module _ (purge : Bool) (records : List Record) where
-  pub refusals_more : (names : List (List ℕ)) (name : List ℕ) → refusals purge records (names ++ name ∷ []) ≡ refusals purge records names ++ refused_first name (rule_for purge records name) []
+module _ (extents : Extents) (records : List Record) where
+  pub refusals_more : (names : List (List ℕ)) (name : List ℕ) → refusals extents records (names ++ name ∷ []) ≡ refusals extents records names ++ refused_first name (rule_under extents records name) []
   refusals_more [] name = refl
-  refusals_more (n ∷ names) name = ap (refused_first n (rule_for purge records n)) (refusals_more names name) ∙ first_behind n (rule_for purge records n) (refusals purge records names) (refused_first name (rule_for purge records name) [])
+  refusals_more (n ∷ names) name = ap (refused_first n (rule_under extents records n)) (refusals_more names name) ∙ first_behind n (rule_under extents records n) (refusals extents records names) (refused_first name (rule_under extents records name) [])
 
   is_fine : List ℕ → Bool
-  is_fine name = is_none (rule_for purge records name)
+  is_fine name = is_none (rule_under extents records name)
 
-  pub accepted_more : (names : List (List ℕ)) (name : List ℕ) → accepted purge records (names ++ name ∷ []) ≡ accepted purge records names ++ accepted purge records (name ∷ [])
+  pub accepted_more : (names : List (List ℕ)) (name : List ℕ) → accepted extents records (names ++ name ∷ []) ≡ accepted extents records names ++ accepted extents records (name ∷ [])
   accepted_more [] name = refl
-  accepted_more (n ∷ names) name = by (is_none (rule_for purge records n)) (accepted_more names name)
+  accepted_more (n ∷ names) name = by (is_none (rule_under extents records n)) (accepted_more names name)
     where
-      by : (b : Bool) → accepted purge records (names ++ name ∷ []) ≡ accepted purge records names ++ accepted purge records (name ∷ [])
-          → cond b (n ∷ accepted purge records (names ++ name ∷ [])) (accepted purge records (names ++ name ∷ [])) ≡ cond b (n ∷ accepted purge records names) (accepted purge records names) ++ accepted purge records (name ∷ [])
+      by : (b : Bool) → accepted extents records (names ++ name ∷ []) ≡ accepted extents records names ++ accepted extents records (name ∷ [])
+          → cond b (n ∷ accepted extents records (names ++ name ∷ [])) (accepted extents records (names ++ name ∷ [])) ≡ cond b (n ∷ accepted extents records names) (accepted extents records names) ++ accepted extents records (name ∷ [])
       by true rest = ap (λ (l : List (List ℕ)). n ∷ l) rest
       by false rest = rest
 
   -- a name that a rule refuses
-  pub refused_one : (names : List (List ℕ)) (name : List ℕ) (rule : Rule) (us : List AUnit) (u : AUnit) → rule_for purge records name ≡ Some rule → IsRefusedUnit rule name u → AreRefused (refusals purge records names) us → AreRefused (refusals purge records (names ++ name ∷ [])) (us ++ u ∷ [])
+  pub refused_one : (names : List (List ℕ)) (name : List ℕ) (rule : Rule) (us : List AUnit) (u : AUnit) → rule_under extents records name ≡ Some rule → IsRefusedUnit rule name u → AreRefused (refusals extents records names) us → AreRefused (refusals extents records (names ++ name ∷ [])) (us ++ u ∷ [])
   refused_one names name rule us u is unit are =
-      subst (λ rs. AreRefused rs (us ++ u ∷ [])) (sym (refusals_more names name ∙ ap (λ o. refusals purge records names ++ refused_first name o []) is))
-      (refused_more (refusals purge records names) (refused_first name (Some rule) []) us (u ∷ []) are (unit, tt))
+      subst (λ rs. AreRefused rs (us ++ u ∷ [])) (sym (refusals_more names name ∙ ap (λ o. refusals extents records names ++ refused_first name o []) is))
+      (refused_more (refusals extents records names) (refused_first name (Some rule) []) us (u ∷ []) are (unit, tt))
 
-  pub unaccepted : (names : List (List ℕ)) (name : List ℕ) (rule : Rule) → rule_for purge records name ≡ Some rule → accepted purge records (names ++ name ∷ []) ≡ accepted purge records names
-  unaccepted names name rule is = accepted_more names name ∙ ap (λ o. accepted purge records names ++ cond (is_none o) (name ∷ []) []) is ∙ append-nil (accepted purge records names)
+  pub unaccepted : (names : List (List ℕ)) (name : List ℕ) (rule : Rule) → rule_under extents records name ≡ Some rule → accepted extents records (names ++ name ∷ []) ≡ accepted extents records names
+  unaccepted names name rule is = accepted_more names name ∙ ap (λ o. accepted extents records names ++ cond (is_none o) (name ∷ []) []) is ∙ append-nil (accepted extents records names)
 
   -- one that none refuses
-  pub unrefused : (names : List (List ℕ)) (name : List ℕ) → rule_for purge records name ≡ None → refusals purge records (names ++ name ∷ []) ≡ refusals purge records names
-  unrefused names name is = refusals_more names name ∙ ap (λ o. refusals purge records names ++ refused_first name o []) is ∙ append-nil (refusals purge records names)
+  pub unrefused : (names : List (List ℕ)) (name : List ℕ) → rule_under extents records name ≡ None → refusals extents records (names ++ name ∷ []) ≡ refusals extents records names
+  unrefused names name is = refusals_more names name ∙ ap (λ o. refusals extents records names ++ refused_first name o []) is ∙ append-nil (refusals extents records names)
 
-  pub accepted_one : (names : List (List ℕ)) (name : List ℕ) → rule_for purge records name ≡ None → accepted purge records (names ++ name ∷ []) ≡ accepted purge records names ++ name ∷ []
-  accepted_one names name is = accepted_more names name ∙ ap (λ o. accepted purge records names ++ cond (is_none o) (name ∷ []) []) is
+  pub accepted_one : (names : List (List ℕ)) (name : List ℕ) → rule_under extents records name ≡ None → accepted extents records (names ++ name ∷ []) ≡ accepted extents records names ++ name ∷ []
+  accepted_one names name is = accepted_more names name ∙ ap (λ o. accepted extents records names ++ cond (is_none o) (name ∷ []) []) is

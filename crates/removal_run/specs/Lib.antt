@@ -1,5 +1,7 @@
 pub mod Names
+pub mod Extents
 pub mod Refusals
+pub mod Selected
 pub mod Waiting
 pub mod Next
 pub mod LeftOver

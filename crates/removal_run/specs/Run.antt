@@ -1,5 +1,5 @@
 -- A removal or a purge of packages, as a whole.
-use Rattle.std.specs.Prelude.{◌≡◌, ◌⊎◌, ℕ, Bool, List, [], ◌++◌, Option, Some, None, IfSome, IsSomeAnd}
+use Rattle.std.specs.Prelude.{◌≡◌, ◌⊎◌, ℕ, List, [], ◌++◌, Option, Some, None, IfSome, IsSomeAnd}
 use Rattle.dependency_check.specs.Waiting.{Waiting}
 use Rattle.host_core.specs.Events.{Event}
 use Rattle.host_core.specs.Host.{State, AtEachMomentOf}
@@ -19,31 +19,32 @@ use Rattle.removal_run.specs.LeftOver.{AreAllTold, AreLeftOver}
 use Rattle.removal_run.specs.Names.{once}
 use Rattle.removal_run.specs.Refusals.{AreRefused, accepted, refusals}
 use Rattle.removal_run.specs.Turns.{IsAmidNext, IsAmidTurns, IsBrokenNext, RemovesTo}
+use Rattle.removal_run.specs.declared.extents.Extents.{Extents}
 
 -- the names that wait in the beginning
-abbrev pub waiting_for : Bool → List (List ℕ) → Held → List (List ℕ)
-waiting_for purge names before = accepted purge before.records.records (once names)
+abbrev pub waiting_for : Extents → List (List ℕ) → Held → List (List ℕ)
+waiting_for extents names before = accepted extents before.records.records (once names)
 
 -- the units of the names that a rule refuses, in the order given
-abbrev pub IsRefusedFirst : Bool → List (List ℕ) → Held → List AUnit → Type 0
-IsRefusedFirst purge names before us = AreRefused (refusals purge before.records.records (once names)) us
+abbrev pub IsRefusedFirst : Extents → List (List ℕ) → Held → List AUnit → Type 0
+IsRefusedFirst extents names before us = AreRefused (refusals extents before.records.records (once names)) us
 
 -- Behind the units that are told already packages are removed in turn, and then those that are left over are told.
-pub record RunsThrough (purge : Bool) (names : List (List ℕ)) (refused us : List AUnit) (before after : Held) (s t : State) : Type 0 where
+pub record RunsThrough (extents : Extents) (names : List (List ℕ)) (refused us : List AUnit) (before after : Held) (s t : State) : Type 0 where
   pub packages : List Package
   pub stated : ArePackagesOf before.records.records packages
   pub removed : List AUnit
   pub left : List AUnit
   pub units : us ≡ refused ++ (removed ++ left)
   pub waiting : List (List ℕ)
-  pub turns : RemovesTo purge packages names before s removed waiting after t
+  pub turns : RemovesTo extents packages names before s removed waiting after t
   pub last : AreLeftOver packages after.records.records waiting left
 
 -- The whole command: those that a rule refuses come first.
-pub record IsRemovalRun (names : List (List ℕ)) (purge : Bool) (us : List AUnit) (before after : Held) (s t : State) : Type 0 where
+pub record IsRemovalRun (names : List (List ℕ)) (extents : Extents) (us : List AUnit) (before after : Held) (s t : State) : Type 0 where
   pub refused : List AUnit
-  pub first : IsRefusedFirst purge names before refused
-  pub runs : RunsThrough purge (waiting_for purge names before) refused us before after s t
+  pub first : IsRefusedFirst extents names before refused
+  pub runs : RunsThrough extents (waiting_for extents names before) refused us before after s t
 
 -- a unit that was broken off for want of memory before it had done anything
 pub record IsIdle (u : AUnit) : Type 0 where
@@ -60,7 +61,7 @@ pub record HasNotBegun (us : List AUnit) (last : Option AUnit) (s t : State) : T
 -- Behind the units that are told already come removals up to a moment of the host, and then those left over where nothing else
 -- can be removed. Since that moment only the next removal was under way: so what the units left stands, also where that one was
 -- broken off.
-pub record RunsUpTo (purge : Bool) (names : List (List ℕ)) (refused us : List AUnit) (last : Option AUnit) (before : Held) (s t : State) : Type 0 where
+pub record RunsUpTo (extents : Extents) (names : List (List ℕ)) (refused us : List AUnit) (last : Option AUnit) (before : Held) (s t : State) : Type 0 where
   pub packages : List Package
   pub stated : ArePackagesOf before.records.records packages
   pub removed : List AUnit
@@ -69,28 +70,28 @@ pub record RunsUpTo (purge : Bool) (names : List (List ℕ)) (refused us : List 
   pub waiting : List (List ℕ)
   pub after : Held
   pub end : State
-  pub turns : RemovesTo purge packages names before s removed waiting after end
+  pub turns : RemovesTo extents packages names before s removed waiting after end
   pub rest : (left ≡ []) ⊎ AreLeftOver packages after.records.records waiting left
-  pub since : AtEachMomentOf (IsAmidNext purge packages waiting after) end t
-  pub broken : IfSome last (IsBrokenNext purge packages waiting after end t)
+  pub since : AtEachMomentOf (IsAmidNext extents packages waiting after) end t
+  pub broken : IfSome last (IsBrokenNext extents packages waiting after end t)
 
-pub record HasBegun (names : List (List ℕ)) (purge : Bool) (us : List AUnit) (last : Option AUnit) (before : Held) (s t : State) : Type 0 where
+pub record HasBegun (names : List (List ℕ)) (extents : Extents) (us : List AUnit) (last : Option AUnit) (before : Held) (s t : State) : Type 0 where
   pub refused : List AUnit
-  pub first : IsRefusedFirst purge names before refused
-  pub runs : RunsUpTo purge (waiting_for purge names before) refused us last before s t
+  pub first : IsRefusedFirst extents names before refused
+  pub runs : RunsUpTo extents (waiting_for extents names before) refused us last before s t
 
-abbrev pub HasRun : List (List ℕ) → Bool → List AUnit → Option AUnit → Held → State → State → Type 0
-HasRun names purge us last before s t = HasNotBegun us last s t ⊎ HasBegun names purge us last before s t
+abbrev pub HasRun : List (List ℕ) → Extents → List AUnit → Option AUnit → Held → State → State → Type 0
+HasRun names extents us last before s t = HasNotBegun us last s t ⊎ HasBegun names extents us last before s t
 
 -- some removals are done, and the next is under way
-pub record IsAmidRemovals (names : List (List ℕ)) (purge : Bool) (before : Held) (s : State) (so_far : List Event) (now : World) : Type 0 where
+pub record IsAmidRemovals (names : List (List ℕ)) (extents : Extents) (before : Held) (s : State) (so_far : List Event) (now : World) : Type 0 where
   pub packages : List Package
   pub stated : ArePackagesOf before.records.records packages
-  pub turns : IsAmidTurns purge packages (waiting_for purge names before) before s so_far now
+  pub turns : IsAmidTurns extents packages (waiting_for extents names before) before s so_far now
 
 -- at each moment of a removal or a purge: nothing is done yet, or removals are
-abbrev pub IsAmidRun : List (List ℕ) → Bool → Held → State → List Event → World → Type 0
-IsAmidRun names purge before s so_far now = IsStill s.world so_far now ⊎ IsAmidRemovals names purge before s so_far now
+abbrev pub IsAmidRun : List (List ℕ) → Extents → Held → State → List Event → World → Type 0
+IsAmidRun names extents before s so_far now = IsStill s.world so_far now ⊎ IsAmidRemovals names extents before s so_far now
 
 -- the units of those that are left over of a queue, behind others
 pub record AddsLeft (q : Waiting) (old new : List AUnit) : Type 0 where

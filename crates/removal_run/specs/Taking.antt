@@ -1,5 +1,5 @@
 -- The removals of a command, while they are taken.
-use Rattle.std.specs.Prelude.{◌≡◌, ℕ, Bool, List, [], Option, Some, None}
+use Rattle.std.specs.Prelude.{◌≡◌, ℕ, List, [], Option, Some, None}
 use Rattle.diversions.specs.Diverted.{Diverted}
 use Rattle.dependency_check.specs.Waiting.{IsRemovableNow, Waiting}
 use Rattle.held_administration.specs.declared.held.Administration.{Administration}
@@ -11,6 +11,7 @@ use Rattle.removal_run.specs.Next.{IsNothing}
 use Rattle.removal_run.specs.Turns.{AreAccepted}
 use Rattle.removal_run.specs.Units.{AreOthersKept}
 use Rattle.removal_run.specs.Waiting.{IsQueueNow, name_at}
+use Rattle.removal_run.specs.declared.extents.Extents.{Extents}
 use Rattle.removal_run.specs.declared.turns.Removing.{Removing}
 
 -- the queue of before the removal of the package of this number, which could be removed
@@ -29,7 +30,7 @@ IsQueueTo packages now names q (Some x) = IsQueueBefore packages now names q x
 
 -- what stays the same over the removals
 pub record Task : Type 0 where
-  pub purge : Bool
+  pub extents : Extents
   pub packages : List Package
   pub diverted : Diverted
 
@@ -38,7 +39,7 @@ packages_in None = []
 packages_in (Some q) = q.packages
 
 abbrev pub task_of : Removing → Task
-task_of r = record { purge = r.purge; packages = packages_in r.queue; diverted = r.diversions.now }
+task_of r = record { extents = r.extents; packages = packages_in r.queue; diverted = r.diversions.now }
 
 -- the names that wait
 abbrev pub names_of : Removing → List (List ℕ)
@@ -49,7 +50,7 @@ pub record IsBetween (r : Removing) (a : Administration) : Type 0 where
   pub queue : Waiting
   pub here : r.queue ≡ Some queue
   pub is : IsQueueTo queue.packages a.database.records r.waiting.items queue r.removed
-  pub accepted : AreAccepted r.purge a.database.records r.waiting.items
+  pub accepted : AreAccepted r.extents a.database.records r.waiting.items
 
 -- nothing that waits can be removed
 pub record IsOver (r : Removing) (names : List (List ℕ)) (held : Held) : Type 0 where

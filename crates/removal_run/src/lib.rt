@@ -4,16 +4,22 @@
 //! # What is proved
 //!
 //! `remove_packages`: what it promises stands in the heading of configure_run, beside
-//! `configure_packages`.
+//! `configure_packages`. How much goes of each package is told for all, or stands in its record
+//! (`Extents`: `purges`); `selected_names` are the packages that are to go as it is recorded of
+//! them.
 #![tactic(auto)]
 
+mod extents;
 mod left;
 mod names;
 mod refusals;
 mod run;
+mod selected;
 mod telling;
 mod turns;
 mod units;
 mod waiting;
 
+pub use extents::Extents;
 pub use run::remove_packages;
+pub use selected::selected_names;

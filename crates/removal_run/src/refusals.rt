@@ -1,8 +1,9 @@
 // Why nothing is removed of a package.
 ghost use Rattle.std.specs.Prelude.{◌≡◌, IfOk};
 ghost use Rattle.recorded_packages.specs.Packages.{is_reinstreq};
-ghost use Rattle.removal_run.specs.Refusals.{AreRefused, accepted, is_config_files, refusals, rule_for, rule_of_record};
+ghost use Rattle.removal_run.specs.Refusals.{AreRefused, accepted, is_config_files, refusals, rule_for, rule_of_record, rule_under};
 
+use crate::extents::{Extents, purges};
 use crate::names::copied;
 use stated_relations::is_essential;
 use status_db::NotedDatabase;
@@ -11,7 +12,8 @@ use std::alloc::{AllocError, Global};
 use texts::Text;
 use unit_reports::{Rule, Unit, refused};
 
-fn is_config_files(state: State) -> bool
+/// Whether nothing but the configuration files of a package is left.
+pub(crate) fn is_config_files(state: State) -> bool
     ensures { result ≡ is_config_files state }
 {
     match state {
@@ -36,9 +38,6 @@ fn is_reinstreq(flag: Flag) -> bool
 fn rule_of_record(purge: bool, entry: &Record) -> Option<Rule>
     ensures { result ≡ rule_of_record purge entry.now }
 {
-    if entry.triggers.are_some() {
-        return Some(Rule::TriggerState);
-    }
     if is_config_files(entry.state) && !purge {
         return Some(Rule::NothingToRemove);
     }
@@ -61,6 +60,13 @@ fn rule_for(purge: bool, database: &NotedDatabase, name: &Text) -> Option<Rule>
     }
 }
 
+/// The same by how much goes of the package.
+fn rule_under(extents: Extents, database: &NotedDatabase, name: &Text) -> Option<Rule>
+    ensures { result ≡ rule_under extents database.now.records name.now }
+{
+    rule_for(purges(extents, database, name), database, name)
+}
+
 /// The units that are refused, and the names that wait. Of `waiting` names are struck during the run, of `asked` none.
 #[derive(Drop)]
 pub(crate) struct Sorted {
@@ -72,20 +78,20 @@ pub(crate) struct Sorted {
 /// Sorts names by whether a rule refuses them, each in its order.
 pub(crate) fn sort(
     alloc: Global,
-    purge: bool,
+    extents: Extents,
     database: &NotedDatabase,
     names: Vec<Text>,
 ) -> Result<Sorted, AllocError>
-    ensures refused { IfOk result (λ sorted. AreRefused (refusals purge database.now.records
+    ensures refused { IfOk result (λ sorted. AreRefused (refusals extents database.now.records
         names.items) sorted.refused.items) }
-    ensures waiting { IfOk result (λ sorted. sorted.waiting.items ≡ accepted purge
+    ensures waiting { IfOk result (λ sorted. sorted.waiting.items ≡ accepted extents
         database.now.records names.items) }
     ensures asked { IfOk result (λ sorted. sorted.asked.items ≡ sorted.waiting.items) }
 {
     let mut units = Vec::new(alloc);
     let mut waiting = Vec::new(alloc);
     for name in names {
-        match rule_for(purge, database, &name) {
+        match rule_under(extents, database, &name) {
             Some(rule) => {
                 units.push(refused(alloc, rule, name))?;
             }

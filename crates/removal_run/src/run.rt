@@ -16,6 +16,7 @@ ghost use Rattle.unit_reports.specs.Units.{CountsLast, IsBrokenBy, TellsCalls, c
 ghost use Rattle.unit_reports.specs.Watching.{AddsTold, IsTold};
 ghost use Rattle.unit_reports.specs.declared.report.Breakage.TheVariants.{Closed};
 
+use crate::extents::Extents;
 use crate::left::left_over;
 use crate::names::once;
 use crate::refusals::{Sorted, sort};
@@ -35,18 +36,18 @@ use unit_reports::{Breakage, Report, Unit, Watcher, broken};
 // The names once each, by whether a rule refuses them.
 fn sorted(
     alloc: Global,
-    purge: bool,
+    extents: Extents,
     database: &NotedDatabase,
     names: Vec<Text>,
 ) -> Result<Sorted, AllocError>
-    ensures refused { IfOk result (λ sorted. AreRefused (refusals purge database.now.records
+    ensures refused { IfOk result (λ sorted. AreRefused (refusals extents database.now.records
         (once names.items)) sorted.refused.items) }
-    ensures waiting { IfOk result (λ sorted. sorted.waiting.items ≡ accepted purge
+    ensures waiting { IfOk result (λ sorted. sorted.waiting.items ≡ accepted extents
         database.now.records (once names.items)) }
     ensures asked { IfOk result (λ sorted. sorted.asked.items ≡ sorted.waiting.items) }
 {
     let list = once(alloc, names)?;
-    sort(alloc, purge, database, list)
+    sort(alloc, extents, database, list)
 }
 
 // Units behind others, all of them or none: they are told once there is room for them.
@@ -147,25 +148,25 @@ fn run_sorted<H: Host, W: Watcher>(
     administration: &mut Administration,
     packages: &mut Packages,
     diversions: &Diversions,
-    purge: bool,
+    extents: Extents,
     sorted: Sorted,
     watcher: &mut W,
 ) -> Report
     requires order { Needs (H.state host.old)
         (IsInOrder administration.old.database administration.old.lists.lists) }
     requires open { IsOpen diversions.now.ways administration.old }
-    requires accepted { AreAccepted purge administration.old.database.records sorted.waiting.items }
+    requires accepted { AreAccepted extents administration.old.database.records sorted.waiting.items }
     requires told { calls_of sorted.refused.items ≡ [] }
     requires asked { sorted.asked.items ≡ sorted.waiting.items }
     requires indexed { ArePackagesOf administration.old.database.records packages.old }
-    ensures whole { IsNone result.last → RunsThrough purge sorted.waiting.items sorted.refused.items
+    ensures whole { IsNone result.last → RunsThrough extents sorted.waiting.items sorted.refused.items
         result.units.items (held_by administration.old diversions.now)
         (held_by administration.new diversions.now) (H.state host.old) (H.state host.new) }
-    ensures part { RunsUpTo purge sorted.waiting.items sorted.refused.items result.units.items
+    ensures part { RunsUpTo extents sorted.waiting.items sorted.refused.items result.units.items
         result.last (held_by administration.old diversions.now) (H.state host.old)
         (H.state host.new) }
     ensures told { TellsCalls (H.state host.old) (H.state host.new) result }
-    ensures any_moment { Since (IsAmidTurns purge packages.old sorted.waiting.items
+    ensures any_moment { Since (IsAmidTurns extents packages.old sorted.waiting.items
         (held_by administration.old diversions.now) (H.state host.old)) (H.state host.old)
         (H.state host.new) }
     ensures counts { CountsLast (H.state host.old) (H.state host.new) result.last }
@@ -192,7 +193,7 @@ fn run_sorted<H: Host, W: Watcher>(
         administration,
         taken,
         diversions,
-        purge,
+        extents,
         waiting,
         &mut units,
         watcher,
@@ -215,7 +216,7 @@ fn run_sorted<H: Host, W: Watcher>(
     }
 }
 
-/// Removes packages, or purges them. A second mention of a name is dropped. First those that a rule refuses are told, in the
+/// Removes packages, or purges them, as it is told for all or recorded of each. A second mention of a name is dropped. First those that a rule refuses are told, in the
 /// order given; then packages are removed one after another, each the next of those that can be removed as all are recorded
 /// then; those left over are told last, each with a package that depends on it. The watcher is told each unit as it is
 /// finished; the one that was broken off it isn't told. The packages are those of all records, and are so again behind the
@@ -226,20 +227,20 @@ pub fn remove_packages<H: Host, W: Watcher>(
     packages: &mut Packages,
     diversions: &Diversions,
     names: Vec<Text>,
-    purge: bool,
+    extents: Extents,
     watcher: &mut W,
 ) -> Report
     requires order { Needs (H.state host.old)
         (IsInOrder administration.old.database administration.old.lists.lists) }
     requires open { IsOpen diversions.now.ways administration.old }
     requires indexed { ArePackagesOf administration.old.database.records packages.old }
-    ensures whole { IsNone result.last → IsRemovalRun names.items purge result.units.items
+    ensures whole { IsNone result.last → IsRemovalRun names.items extents result.units.items
         (held_by administration.old diversions.now) (held_by administration.new diversions.now)
         (H.state host.old) (H.state host.new) }
-    ensures part { HasRun names.items purge result.units.items result.last
+    ensures part { HasRun names.items extents result.units.items result.last
         (held_by administration.old diversions.now) (H.state host.old) (H.state host.new) }
     ensures told { TellsCalls (H.state host.old) (H.state host.new) result }
-    ensures any_moment { Since (IsAmidRun names.items purge
+    ensures any_moment { Since (IsAmidRun names.items extents
         (held_by administration.old diversions.now) (H.state host.old)) (H.state host.old)
         (H.state host.new) }
     ensures counts { CountsLast (H.state host.old) (H.state host.new) result.last }
@@ -253,13 +254,13 @@ pub fn remove_packages<H: Host, W: Watcher>(
     ensures watched { IsTold W.tells (H.state host.old) watcher.old result.units.items watcher.new }
 {
     let alloc = administration.alloc;
-    match sorted(alloc, purge, &administration.database, names) {
+    match sorted(alloc, extents, &administration.database, names) {
         Ok(sorted) => run_sorted(
             host,
             administration,
             packages,
             diversions,
-            purge,
+            extents,
             sorted,
             watcher,
         ),

@@ -18,6 +18,7 @@ ghost use Rattle.undo_rows.specs.Transcript.{TellsAll};
 ghost use Rattle.unit_runs.specs.Taking.{CountsTaken, IsTaken, calls_in};
 ghost use Rattle.unit_runs.specs.Turns as runs;
 
+use crate::extents::{Extents, purges};
 use crate::names::strike;
 use crate::units::remove_one;
 use crate::waiting::{Next, next_of, queue_now, queue_of};
@@ -46,7 +47,7 @@ fn take_next<H: Host>(
     host: &mut H,
     administration: &mut Administration,
     diversions: &Diversions,
-    purge: bool,
+    extents: Extents,
     queue: &RemoveQueue,
     room: bool,
     waiting: &mut Vec<Text>,
@@ -55,18 +56,18 @@ fn take_next<H: Host>(
     requires order { Needs (H.state host.old)
         (IsInOrder administration.old.database administration.old.lists.lists) }
     requires open { IsOpen diversions.now.ways administration.old }
-    requires accepted { AreAccepted purge administration.old.database.records waiting.old.items }
+    requires accepted { AreAccepted extents administration.old.database.records waiting.old.items }
     requires queue { IsQueueNow queue.now.packages administration.old.database.records
         waiting.old.items queue.now }
-    ensures taken { IsTaken (IsTurn purge queue.now.packages)
-        (λ left later. HasCalledNext purge queue.now.packages left)
+    ensures taken { IsTaken (IsTurn extents queue.now.packages)
+        (λ left later. HasCalledNext extents queue.now.packages left)
         (λ left held. (waiting.new.items ≡ left) × IsNothing queue.now.packages held.records.records
         left queue.now) waiting.old.items waiting.new.items
         (held_by administration.old diversions.now) (held_by administration.new diversions.now)
         (H.state host.old) (H.state host.new) result }
     ensures queue { OnOk result (IsQueueTo queue.now.packages administration.new.database.records
         waiting.new.items queue.now removed.new) }
-    ensures accepted { OnOk result (AreAccepted purge administration.new.database.records
+    ensures accepted { OnOk result (AreAccepted extents administration.new.database.records
         waiting.new.items) }
     ensures fewer { IfOk result (λ found. IfSome found (λ unit. length waiting.new.items
         < length waiting.old.items)) }
@@ -77,7 +78,7 @@ fn take_next<H: Host>(
     ensures answered { OnOk result (IsAnswered (H.state host.old) (H.state host.new)) }
     ensures told { TellsAll (H.state host.old) (H.state host.new) [] (calls_in result) }
     ensures any_moment { AtEachMomentOf (runs.IsAmidNext
-        (λ left later. IsAmidTurn purge queue.now.packages left) waiting.old.items waiting.new.items
+        (λ left later. IsAmidTurn extents queue.now.packages left) waiting.old.items waiting.new.items
         (held_by administration.old diversions.now)) (H.state host.old) (H.state host.new) }
     ensures counts { CountsTaken (H.state host.old) (H.state host.new) result }
     ensures not_closed { IfErr result (λ unit. IsBrokenBy Closed unit.reply → ⊥) }
@@ -87,6 +88,7 @@ fn take_next<H: Host>(
     match next_of(alloc, queue) {
         Ok(Some(next)) => {
             let Next { number, name } = next;
+            let purge = purges(extents, &administration.database, &name);
             strike(waiting, &name);
             match remove_one(host, administration, diversions, name, purge, room) {
                 Ok(unit) => {
@@ -110,7 +112,7 @@ pub(crate) struct Removing<'d> {
     pub(crate) queue: Option<RemoveQueue>,
     pub(crate) removed: Option<usize>,
     pub(crate) waiting: Vec<Text>,
-    pub(crate) purge: bool,
+    pub(crate) extents: Extents,
 }
 
 impl<'d, H: Host> Turns<H> for Removing<'d> {
@@ -128,11 +130,11 @@ impl<'d, H: Host> Turns<H> for Removing<'d> {
 
     ghost size = { λ names. length names };
 
-    ghost turn = { λ task. IsTurn task.purge task.packages };
+    ghost turn = { λ task. IsTurn task.extents task.packages };
 
-    ghost amid = { λ task left later. IsAmidTurn task.purge task.packages left };
+    ghost amid = { λ task left later. IsAmidTurn task.extents task.packages left };
 
-    ghost called = { λ task left later. HasCalledNext task.purge task.packages left };
+    ghost called = { λ task left later. HasCalledNext task.extents task.packages left };
 
     ghost goes = { λ task left later. Unit {0} };
 
@@ -162,7 +164,7 @@ impl<'d, H: Host> Turns<H> for Removing<'d> {
                         host,
                         administration,
                         self.diversions,
-                        self.purge,
+                        self.extents,
                         &queue,
                         room,
                         &mut self.waiting,
@@ -185,7 +187,7 @@ pub(crate) fn run_turns<H: Host, W: Watcher>(
     administration: &mut Administration,
     packages: Packages,
     diversions: &Diversions,
-    purge: bool,
+    extents: Extents,
     waiting: Vec<Text>,
     units: &mut Vec<Unit>,
     watcher: &mut W,
@@ -193,22 +195,22 @@ pub(crate) fn run_turns<H: Host, W: Watcher>(
     requires order { Needs (H.state host.old)
         (IsInOrder administration.old.database administration.old.lists.lists) }
     requires open { IsOpen diversions.now.ways administration.old }
-    requires accepted { AreAccepted purge administration.old.database.records waiting.items }
-    ensures turned { IfOk result (λ left. HasTurned purge packages waiting.items left.1.items
+    requires accepted { AreAccepted extents administration.old.database.records waiting.items }
+    ensures turned { IfOk result (λ left. HasTurned extents packages waiting.items left.1.items
         (held_by administration.old diversions.now) (held_by administration.new diversions.now)
         (H.state host.old) (H.state host.new) units.old.items units.new.items) }
     ensures nothing { IfOk result (λ left. IsNothing packages administration.new.database.records
         left.1.items left.0) }
     ensures others { OnOk result (AreSameBut waiting.items administration.old.database.records
         administration.new.database.records) }
-    ensures stopped { IfErr result (HasStopped purge packages waiting.items
+    ensures stopped { IfErr result (HasStopped extents packages waiting.items
         (held_by administration.old diversions.now) (H.state host.old) (H.state host.new)
         units.old.items units.new.items) }
     ensures told { OnOk result (TellsAll (H.state host.old) (H.state host.new)
         (calls_of units.old.items) (calls_of units.new.items)) }
     ensures told_stopped { IfErr result (λ unit. TellsAll (H.state host.old) (H.state host.new)
         (calls_of units.old.items) (calls_of units.new.items ++ unit.calls.items)) }
-    ensures any_moment { Since (IsAmidTurns purge packages waiting.items
+    ensures any_moment { Since (IsAmidTurns extents packages waiting.items
         (held_by administration.old diversions.now) (H.state host.old)) (H.state host.old)
         (H.state host.new) }
     ensures no_fault { OnOk result (NoFault (H.state host.old) (H.state host.new)) }
@@ -236,7 +238,7 @@ pub(crate) fn run_turns<H: Host, W: Watcher>(
         queue: Some(queue),
         removed: None,
         waiting,
-        purge,
+        extents,
         diversions,
     };
     match run_units(host, administration, &mut turns, units, watcher) {
@@ -245,7 +247,7 @@ pub(crate) fn run_turns<H: Host, W: Watcher>(
                 queue,
                 removed: _,
                 waiting,
-                purge: _,
+                extents: _,
                 diversions: _,
             } = turns;
             match queue {

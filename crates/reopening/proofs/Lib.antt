@@ -14,6 +14,8 @@ pub mod Units
 pub mod Behind
 pub mod Sounds
 pub mod Turns
+mod Selections
+mod Triggers
 pub mod Sessions
 pub mod Diverts
 pub mod Losses

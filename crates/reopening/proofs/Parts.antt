@@ -73,7 +73,7 @@ calm_outside old now same = record { quiet = quiet_outside old now same; tmp = �
 calm_below : (old now : World) → ((q : Path) → is_below_administration q ≡ true → now q ≡ old q) → IsCalm old now
 calm_below old now same = record { quiet = quiet_inside old now (λ q inside. same q inside.below); tmp = λ q within. same q (temporary_is q within).under }
 
-calm_noted : (old now : World) → ((q : Path) → is_record_place q ≡ false → now q ≡ old q) → IsCalm old now
+pub calm_noted : (old now : World) → ((q : Path) → is_record_place q ≡ false → now q ≡ old q) → IsCalm old now
 calm_noted old now rest = record { quiet = quiet_noted old now rest; tmp = λ q within. rest q (temporary_is q within).unnoted }
 
 pub calm_scripts : (places : List Path) (old : World) (so_far : List Event) (now : World) → OnlyScripts (is_kept places) old so_far now → IsCalm old now

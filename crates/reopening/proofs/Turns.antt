@@ -11,9 +11,11 @@ use Rattle.host_core.proofs.Moments.{since_weaker_if}
 use Rattle.host_core.specs.World.{World}
 use Rattle.relation_index.specs.declared.package.Package.{Package}
 use Rattle.removal_engine.proofs.Tables.{is_named}
+use Rattle.removal_run.specs.Extents.{purges}
 use Rattle.removal_run.specs.Run.{HasRun as HasRemovalRun}
 use Rattle.removal_run.specs.Turns.{IsAmidTurn as IsAmidRemovalTurn, IsTurn as IsRemovalTurn}
 use Rattle.removal_run.specs.Units.{IsAmidRemoval, IsRemoval, extent_of, given_by as removal_given}
+use Rattle.removal_run.specs.declared.extents.Extents.{Extents}
 use Rattle.unit_reports.specs.Held.{Held}
 use Rattle.unit_reports.specs.declared.report.Unit.{Unit as AUnit}
 use Rattle.unit_runs.specs.Turns.{IsAmidNext, TurnsTo}
@@ -132,19 +134,20 @@ module _ (purge : Bool) where
   removal_opens name before old so_far now sound amid =
       removing_opens (record_names before.records.records) before.ways (removal_given purge name before) old amid.front now (sound_held before old sound) (still_opens before old now sound) amid.amid
 
+module _ (extents : Extents) where
   module _ (packages : List Package) where
-    removal_runs : (q : List (List ℕ)) (before : Held) (u : AUnit) (left : List (List ℕ)) (after : Held) (s t : State) → IsRemovalTurn purge packages q before u left after s t → Runs before after s t
+    removal_runs : (q : List (List ℕ)) (before : Held) (u : AUnit) (left : List (List ℕ)) (after : Held) (s t : State) → IsRemovalTurn extents packages q before u left after s t → Runs before after s t
     removal_runs q before u left after s t turn = record {
-      goes = removal_goes turn.name before after u s t turn.is.is;
-      opened = λ sound. since_weaker_if _ _ s t (λ h so_far now amid. removal_opens turn.name before s.world so_far now (sound (turn.is.moments.honest h)) amid) turn.is.moments;
+      goes = removal_goes (purges extents before.records.records turn.name) turn.name before after u s t turn.is.is;
+      opened = λ sound. since_weaker_if _ _ s t (λ h so_far now amid. removal_opens (purges extents before.records.records turn.name) turn.name before s.world so_far now (sound (turn.is.moments.honest h)) amid) turn.is.moments;
     }
 
-    next_removal_opens : (q left : List (List ℕ)) (before : Held) (old : World) (so_far : List Event) (now : World) → IsSound before old → IsAmidRemovalTurn purge packages q before old so_far now → CanBeOpened now
-    next_removal_opens q left before old so_far now sound next = removal_opens next.0 before old so_far now sound next.2
+    next_removal_opens : (q left : List (List ℕ)) (before : Held) (old : World) (so_far : List Event) (now : World) → IsSound before old → IsAmidRemovalTurn extents packages q before old so_far now → CanBeOpened now
+    next_removal_opens q left before old so_far now sound next = removal_opens (purges extents before.records.records next.0) next.0 before old so_far now sound next.2
 
-  pub removal_ends : (names : List (List ℕ)) (us : List AUnit) (last : Option AUnit) (before : Held) (s t : State) → HasRemovalRun names purge us last before s t → Ends before s t
+  pub removal_ends : (names : List (List ℕ)) (us : List AUnit) (last : Option AUnit) (before : Held) (s t : State) → HasRemovalRun names extents us last before s t → Ends before s t
   removal_ends names us last before s t (inl none) = λ sound. subst (Opened s) (sym none.here) (opened_here before s sound)
   removal_ends names us last before s t (inr begun) =
       let runs = begun.runs in
-      turns_end (IsRemovalTurn purge runs.packages) (removal_runs runs.packages) (λ q left. IsAmidRemovalTurn purge runs.packages q) (next_removal_opens runs.packages) _ runs.waiting runs.waiting before runs.after s runs.end t
+      turns_end (IsRemovalTurn extents runs.packages) (removal_runs runs.packages) (λ q left. IsAmidRemovalTurn extents runs.packages q) (next_removal_opens runs.packages) _ runs.waiting runs.waiting before runs.after s runs.end t
       runs.removed runs.turns runs.since

@@ -21,6 +21,10 @@ ghost use Rattle.opening.specs.Parts.{parts, IsFirstFault};
 ghost use Rattle.opening.specs.TakenUp.{IsOpeningOrAdopting};
 ghost use Rattle.opening.specs.Undamaged.{IsUndamaged};
 ghost use Rattle.removal_run.specs.Run.{HasRun as HasRemoved};
+ghost use Rattle.removal_run.specs.declared.extents.Extents.{Extents as AnExtents};
+ghost use Rattle.selection_run.specs.Run.{HasRun as HasSelected};
+ghost use Rattle.selection_run.specs.declared.selection.Selection.{Selection as ASelection};
+ghost use Rattle.trigger_run.specs.Run.{HasRun as HasProcessed};
 ghost use Rattle.status_db.specs.Held.{AreKept, IsTableOf};
 ghost use Rattle.status_db.specs.Noting.{IsMerging};
 ghost use Rattle.status_records.specs.declared.record.Record.{Record as ARecord};
@@ -64,9 +68,23 @@ pub fn a_configure_can_be_opened_amid()
 
 /// At each moment of a removal or a purge, likewise.
 pub fn a_removal_can_be_opened_amid()
-    ensures { (names : List (List ℕ)) (purge : Bool) (us : List AUnit) (last : Option AUnit)
+    ensures { (names : List (List ℕ)) (extents : AnExtents) (us : List AUnit) (last : Option AUnit)
         (before : Held) (s t : State) → FindsStanding before s → HasRemoved
-        names purge us last before s t → CanBeOpenedAmid s t }
+        names extents us last before s t → CanBeOpenedAmid s t }
+{}
+
+/// At each moment while it is recorded what is wanted of packages, likewise.
+pub fn a_selection_can_be_opened_amid()
+    ensures { (selections : List ASelection) (us : List AUnit) (last : Option AUnit)
+        (before : Held) (s t : State) → FindsStanding before s → HasSelected
+        selections us last before s t → CanBeOpenedAmid s t }
+{}
+
+/// At each moment while triggers are processed, likewise.
+pub fn triggers_can_be_opened_amid()
+    ensures { (names : List (List ℕ)) (us : List AUnit) (last : Option AUnit)
+        (before : Held) (s t : State) → FindsStanding before s → HasProcessed
+        names us last before s t → CanBeOpenedAmid s t }
 {}
 
 /// At each moment while a diversion is added or taken away, likewise.

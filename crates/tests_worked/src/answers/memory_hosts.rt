@@ -18,6 +18,7 @@ mod rehearsal_rows;
 mod removal_rows;
 mod round_rows;
 mod script_rows;
+mod selection_rows;
 mod shown_rows;
 mod tree_rows;
 mod trigger_rows;

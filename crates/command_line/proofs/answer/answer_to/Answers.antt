@@ -1,7 +1,7 @@
 use Rattle.std.proofs.Common.{rules, ◌≡◌, ◌∙◌, [], ap, map, string_bytes, true, None, Some, refl, inl, inr, subst, sym}
 use Rattle.command_words.specs.Commands.{asked_of}
 use Rattle.command_words.specs.Topics.{HasScreen, named_in}
-use Rattle.command_words.specs.declared.words.Asked.TheVariants.{CompareVersions, Configure, Divert, Help, Install, Names, Purge, Query, Remove, Undivert, Unpack, Verify, Version}
+use Rattle.command_words.specs.declared.words.Asked.TheVariants.{CompareVersions, Configure, Divert, Help, Install, Names, Purge, Query, Remove, RemoveSelected, Select, Undivert, Unpack, Verify, Version}
 use Rattle.command_line.specs.Reports.{comparison_answer, memory_answer, names_answer, prints, trees_answer, usage_answer, version_answer, work_answer}
 use Rattle.command_line.specs.declared.answer.Answer.{Answer}
 use Rattle.command_line.proofs.Held.{appends_nothing}
@@ -96,6 +96,18 @@ pub returns-in-Ok-Purge-clause-answered : goal.returns-in-Ok-Purge-clause-answer
 returns-in-Ok-Purge-clause-answered g c =
     let asked : asked_of (map string_bytes c.args.words.now) ≡ Some (Purge c.in-Ok-Purge.asked) = search rules in
     let ended = c.purged.ensures.ended in
+    (work_answer ended.0, rw asked (inl (ended.0, ended.1, refl)), ended.2)
+
+pub returns-in-Ok-Select-clause-answered : goal.returns-in-Ok-Select-clause-answered
+returns-in-Ok-Select-clause-answered g c =
+    let asked : asked_of (map string_bytes c.args.words.now) ≡ Some (Select c.in-Ok-Select.asked) = search rules in
+    let ended = c.selected.ensures.ended in
+    (work_answer ended.0, rw asked (inl (ended.0, ended.1, refl)), ended.2)
+
+pub returns-in-Ok-RemoveSelected-clause-answered : goal.returns-in-Ok-RemoveSelected-clause-answered
+returns-in-Ok-RemoveSelected-clause-answered g c =
+    let asked : asked_of (map string_bytes c.args.words.now) ≡ Some (RemoveSelected c.in-Ok-RemoveSelected.asked) = search rules in
+    let ended = c.removed_selected.ensures.ended in
     (work_answer ended.0, rw asked (inl (ended.0, ended.1, refl)), ended.2)
 
 pub returns-in-Err-Usage-clause-answered : goal.returns-in-Err-Usage-clause-answered

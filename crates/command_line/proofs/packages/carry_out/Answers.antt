@@ -1,5 +1,8 @@
-use Rattle.std.proofs.Common.{ℕ, List, Option, sym, subst, ◌∙◌}
-use Rattle.command_line.specs.Packages.{HasWorked}
+use Rattle.std.proofs.Common.{◌≡◌, ℕ, List, Option, ap, sym, subst, ◌∙◌}
+use Rattle.host_core.specs.Host.{Since}
+use Rattle.record_changes.specs.Run as changing
+use Rattle.record_changes.specs.declared.change.RecordChange.{RecordChange}
+use Rattle.command_line.specs.Packages.{HasWorked, selections_of}
 use Rattle.command_line.specs.declared.packages.Work.{Work}
 use Rattle.command_line.specs.declared.packages.Work.TheVariants as work
 use Rattle.unit_reports.specs.Held.{held_by}
@@ -55,3 +58,52 @@ returns-in_ok-names-in-Purge-clause-done g c =
       told = done.told;
       any_moment = done.any_moment c.requires;
     })
+
+pub returns-in_ok-selections-in-Select-clause-done : goal.returns-in_ok-selections-in-Select-clause-done
+returns-in_ok-selections-in-Select-clause-done g c =
+    let session = c.args.session.now in
+    let before = held_by session.administration session.diversions in
+    let begun = g.H.Host.state session.host in
+    let after = held_by c.change.new.self.administration c.change.new.self.diversions in
+    let end = g.H.Host.state c.change.new.self.host in
+    let done = c.change.ensures in
+    let same : c.in_ok-selections-in-Select.selections.items ≡ selections_of c.in-Select.told = c.in_ok-selections-in-Select.ensures ∙ ap selections_of c.as_slice-in-Select.ensures in
+    subst (λ (asked : Work). HasWorked asked c.change.result before after begun end) (sym c.in-Select.is) record {
+      part = subst (λ (chosen : List RecordChange). changing.HasRun chosen c.change.result.units.items c.change.result.last before begun end) same (done.part c.requires);
+      whole = λ none. subst (λ (chosen : List RecordChange). changing.IsChangeRun chosen c.change.result.units.items before after begun end) same (done.whole c.requires none);
+      counts = done.counts c.requires;
+      told = done.told;
+      any_moment = subst (λ (chosen : List RecordChange). Since (changing.IsAmidRun chosen before begun) begun end) same (done.any_moment c.requires);
+    }
+
+pub returns-in-RemoveSelected-clause-done : goal.returns-in-RemoveSelected-clause-done
+returns-in-RemoveSelected-clause-done g c =
+    let session = c.args.session.now in
+    let before = held_by session.administration session.diversions in
+    let begun = g.H.Host.state session.host in
+    let after = held_by c.remove_selected.new.self.administration c.remove_selected.new.self.diversions in
+    let end = g.H.Host.state c.remove_selected.new.self.host in
+    let done = c.remove_selected.ensures in
+    subst (λ (asked : Work). HasWorked asked c.remove_selected.result before after begun end) (sym c.in-RemoveSelected.is) record {
+      part = done.part c.requires;
+      whole = λ none. done.whole c.requires none;
+      counts = done.counts c.requires;
+      told = done.told;
+      any_moment = done.any_moment c.requires;
+    }
+
+pub returns-in-ProcessTriggers-clause-done : goal.returns-in-ProcessTriggers-clause-done
+returns-in-ProcessTriggers-clause-done g c =
+    let session = c.args.session.now in
+    let before = held_by session.administration session.diversions in
+    let begun = g.H.Host.state session.host in
+    let after = held_by c.process_triggers.new.self.administration c.process_triggers.new.self.diversions in
+    let end = g.H.Host.state c.process_triggers.new.self.host in
+    let done = c.process_triggers.ensures in
+    subst (λ (asked : Work). HasWorked asked c.process_triggers.result before after begun end) (sym c.in-ProcessTriggers.is) record {
+      part = done.part c.requires;
+      whole = λ none. done.whole c.requires none;
+      counts = done.counts c.requires;
+      told = done.told;
+      any_moment = done.any_moment c.requires;
+    }

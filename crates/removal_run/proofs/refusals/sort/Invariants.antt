@@ -5,6 +5,6 @@ use Rattle.removal_run.proofs.refusals.sort.Given as goal
 abbrev pub invariant-loop-name : goal.invariant-loop-name
 invariant-loop-name l = record {
   left : l.fn.names.items ≡ l.yielded ++ l.name-iterator.rest.items;
-  refused : AreRefused (refusals l.purge l.database.records l.yielded) l.units.items;
-  waiting : l.waiting.items ≡ accepted l.purge l.database.records l.yielded;
+  refused : AreRefused (refusals l.extents l.database.records l.yielded) l.units.items;
+  waiting : l.waiting.items ≡ accepted l.extents l.database.records l.yielded;
 }

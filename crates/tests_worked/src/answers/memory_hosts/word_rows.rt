@@ -27,6 +27,13 @@ pub(crate) const FAULTS: &[&str] = &[
     "dpkg_cli remove --force-confnew alpha",
     "dpkg_cli purge",
     "dpkg_cli purge --root rel alpha",
+    "dpkg_cli select",
+    "dpkg_cli select --root rel alpha=hold",
+    "dpkg_cli select alpha",
+    "dpkg_cli select alpha=hold bravo=held",
+    "dpkg_cli remove-selected alpha",
+    "dpkg_cli remove-selected --root rel",
+    "dpkg_cli selections alpha",
     "dpkg_cli compare-versions 1 is 1",
     "dpkg_cli list --root rel",
     "dpkg_cli status",
@@ -52,7 +59,10 @@ list
 listfiles
 purge
 remove
+remove-selected
 search
+select
+selections
 status
 truename
 undivert
@@ -179,6 +189,14 @@ const FAULTS_BY_WORD: &[(&str, &str)] = &[
         "OP: \"is\" is none of lt le eq ne ge gt lt-nl le-nl ge-nl gt-nl << <= = >= >>",
     ),
     (
+        "dpkg_cli select alpha=hold =purge bravo=held",
+        "PKG=WANT: \"bravo=held\" has none of install hold deinstall purge behind its last =",
+    ),
+    (
+        "dpkg_cli select bravo",
+        "PKG=WANT: \"bravo\" has none of install hold deinstall purge behind its last =",
+    ),
+    (
         "dpkg_cli help fetch",
         "COMMAND: \"fetch\" isn't a subcommand",
     ),
@@ -231,6 +249,9 @@ const ASKED_FOR_HELP: &[&str] = &[
     "dpkg_cli -h",
     "dpkg_cli --help",
     "dpkg_cli --help unpack",
+    "dpkg_cli select --help",
+    "dpkg_cli help remove-selected",
+    "dpkg_cli help selections",
     "dpkg_cli install --help",
     "dpkg_cli remove --root rel -h alpha",
 ];

@@ -1,0 +1,35 @@
+use Rattle.std.proofs.Common.{sym, ◌∙◌}
+use Rattle.dpkg_session.proofs.Carries.{carries_standing}
+use Rattle.dpkg_session.proofs.Removes.{removal_carries}
+use Rattle.dpkg_session.proofs.Outlasting.{answered_stands, loses_like}
+use Rattle.dpkg_session.proofs.Standings.{order_standing}
+use Rattle.dpkg_session.proofs.KeptPackages.{packages_kept, packages_known}
+use Rattle.unit_reports.specs.Held.{held_by}
+use Rattle.dpkg_session.proofs.session.Session.remove_selected.Goals as goal
+
+pub remove_going-report-requires-clause-order : goal.remove_going-report-requires-clause-order
+remove_going-report-requires-clause-order g c = λ h. order_standing (held_by c.args.self.now.administration c.args.self.now.diversions) _ (c.args.self.now.ready c.if-self.false h)
+
+pub remove_going-report-requires-clause-open : goal.remove_going-report-requires-clause-open
+remove_going-report-requires-clause-open g c = c.args.self.now.opened c.if-self.false
+
+pub remove_going-report-requires-clause-indexed : goal.remove_going-report-requires-clause-indexed
+remove_going-report-requires-clause-indexed g c = packages_known _ _ (c.args.self.now.indexed c.if-self.false)
+
+pub invariant_of-self : goal.invariant_of-self
+invariant_of-self g c =
+    let report = c.remove_going-report.ensures in
+    record {
+      ready = λ open_still h.
+          let carries = removal_carries _ _ _ _ _ _ _ (report.whole (sym c.is_some-self.ensures ∙ open_still)) in
+          carries_standing _ _ _ _ carries h (c.args.self.now.ready c.if-self.false (carries.falls h));
+      opened = λ open_still. report.open (sym c.is_some-self.ensures ∙ open_still);
+      indexed = λ open_still. packages_kept _ _ (report.indexed (sym c.is_some-self.ensures ∙ open_still));
+      writable = λ open_still. c.args.self.now.writable c.if-self.false;
+    }
+
+pub returns-clause-loss : goal.returns-clause-loss
+returns-clause-loss g c = λ open_before. loses_like _ _ _ (g.H.Host.settled c.remove_going-report.new.host) c.remove_going-report.ensures.any_moment
+
+pub returns-clause-stands : goal.returns-clause-stands
+returns-clause-stands g c = λ open_before whole. answered_stands _ _ _ c.remove_going-report.ensures.any_moment (c.remove_going-report.ensures.answered whole)

@@ -1,0 +1,7 @@
+mod Names
+pub mod Changing
+mod Wants
+mod Found
+mod Indexed
+mod Notes
+mod Turned

@@ -1,0 +1,5 @@
+pub mod Activated
+pub mod Units
+pub mod Turns
+pub mod Run
+pub mod Taking

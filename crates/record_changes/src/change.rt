@@ -1,0 +1,19 @@
+// What is to be changed of records.
+use status_records::{TriggerNames, Want};
+use texts::Text;
+
+/// What is to be changed of the record of a package.
+#[derive(Drop)]
+pub enum Change {
+    /// This is to be wanted of it.
+    Want(Want),
+    /// It is to process these triggers too, where it is installed. Blanks stand between the names.
+    Activate(TriggerNames),
+}
+
+/// A change of the record of the package of this name.
+#[derive(Drop)]
+pub struct RecordChange {
+    pub name: Text,
+    pub change: Change,
+}

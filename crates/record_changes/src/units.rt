@@ -1,0 +1,196 @@
+// One change.
+ghost use Rattle.std.specs.Prelude.{◌≡◌, ◌⊎◌, [], ◌∷◌, true, IfErr, IfOk, OnOk};
+ghost use Rattle.diversions.specs.Diverted.{Diverted};
+ghost use Rattle.held_administration.specs.Open.{CanWrite};
+ghost use Rattle.held_administration.specs.Order.{IsInOrder};
+ghost use Rattle.host_core.specs.Host.{AtEachMomentOf, Needs, NoFault, Silent};
+ghost use Rattle.record_changes.specs.Taking.{HasDecided, MakesChange};
+ghost use Rattle.record_changes.specs.Units.{IsAmidChange, IsDone};
+ghost use Rattle.record_changes.specs.declared.units.Decided.TheVariants.{Changed};
+ghost use Rattle.unit_reports.specs.Held.{held_by};
+ghost use Rattle.unit_reports.specs.Units.{CountsReply, IsBroken, IsBrokenBy, IsRefusedUnit, TellsNoPackage, touched_at};
+ghost use Rattle.unit_reports.specs.declared.refusal.Rule.TheVariants.{Unknown};
+ghost use Rattle.unit_reports.specs.declared.report.Breakage.TheVariants.{Closed, NoMemory};
+
+use crate::change::RecordChange;
+use crate::changed::{changed, is_made};
+use held_administration::Administration;
+use host_core::Host;
+use status_db::{NotedDatabase, note_record};
+use status_records::Record;
+use std::alloc::{AllocError, Global};
+use texts::{Text, Texts};
+use unit_reports::{
+    Breakage, Reply, Rule, Touched, Unit, breakage_of, broken, is_broken, refused, touched_at,
+};
+
+/// What is to be done of a change.
+#[derive(Drop)]
+pub(crate) enum Decided {
+    /// The package has no record.
+    Refused,
+    /// It is made already.
+    Made,
+    /// This record is to be noted.
+    Changed(Record),
+}
+
+fn decide(
+    alloc: Global,
+    database: &NotedDatabase,
+    asked: &RecordChange,
+) -> Result<Decided, AllocError>
+    ensures { IfOk result (HasDecided asked.now database.now.records) }
+{
+    match database.get(&asked.name) {
+        Some(entry) => {
+            if is_made(&asked.change, entry) {
+                return Ok(Decided::Made);
+            }
+            Ok(Decided::Changed(changed(alloc, &asked.change, entry)?))
+        }
+        None => Ok(Decided::Refused),
+    }
+}
+
+fn touched_alone(
+    alloc: Global,
+    database: &NotedDatabase,
+    name: &Text,
+) -> Result<Vec<Touched>, AllocError>
+    ensures { IfOk result (λ touched. touched.items ≡ touched_at database.now.records name.now
+        ∷ []) }
+{
+    let mut touched = Vec::new(alloc);
+    touched.push(touched_at(database, name)?)?;
+    Ok(touched)
+}
+
+// Memory was wanting.
+fn no_memory(alloc: Global) -> Unit
+    ensures reply { IsBrokenBy NoMemory result.reply }
+    ensures told { result.calls.items ≡ [] }
+    ensures touched { TellsNoPackage result }
+{
+    broken(alloc, Vec::new(alloc), Breakage::NoMemory)
+}
+
+// The unit of a package whose record is as was asked.
+fn done(alloc: Global, database: &NotedDatabase, name: &Text) -> Unit
+    ensures unit { IsBrokenBy NoMemory result.reply ⊎ IsDone name.now database.now.records result }
+    ensures told { result.calls.items ≡ [] }
+    ensures untouched { IsBroken result.reply → TellsNoPackage result }
+{
+    match touched_alone(alloc, database, name) {
+        Ok(touched) => Unit {
+            calls: Vec::new(alloc),
+            touched,
+            deconfigured: Texts::new(alloc),
+            reply: Reply::Done,
+        },
+        Err(_) => no_memory(alloc),
+    }
+}
+
+// The unit of a package without a record.
+fn unknown(alloc: Global, name: &Text) -> Unit
+    ensures unit { IsBrokenBy NoMemory result.reply ⊎ IsRefusedUnit Unknown name.now result }
+    ensures told { result.calls.items ≡ [] }
+    ensures untouched { IsBroken result.reply → TellsNoPackage result }
+{
+    match name.copy() {
+        Ok(name) => refused(alloc, Rule::Unknown, name),
+        Err(_) => no_memory(alloc),
+    }
+}
+
+// Notes a changed record. It is on the disk behind that.
+fn note<H: Host>(
+    host: &mut H,
+    administration: &mut Administration,
+    asked: &RecordChange,
+    entry: Record,
+) -> Unit
+    requires writes { CanWrite administration.old }
+    requires order { Needs (H.state host.old)
+        (IsInOrder administration.old.database administration.old.lists.lists) }
+    requires decided { HasDecided asked.now administration.old.database.records (Changed entry) }
+    ensures unit { IsBroken result.reply ⊎ MakesChange asked.now administration.old administration.new
+        result (H.state host.old) (H.state host.new) }
+    ensures untouched { IsBroken result.reply → TellsNoPackage result }
+    ensures told { result.calls.items ≡ [] }
+    ensures silent { Silent (H.state host.old) (H.state host.new) }
+    ensures any_moment { (diverted : Diverted) → AtEachMomentOf (IsAmidChange asked.now
+        (held_by administration.old diverted)) (H.state host.old) (H.state host.new) }
+    ensures counts { CountsReply (H.state host.old) (H.state host.new) result.reply }
+    ensures not_closed { IsBrokenBy Closed result.reply → ⊥ }
+{
+    administration.database.law();
+    let alloc = administration.alloc;
+    match note_record(alloc, host, &mut administration.database, entry) {
+        Ok(()) => done(alloc, &administration.database, &asked.name),
+        Err(fault) => broken(alloc, Vec::new(alloc), breakage_of(fault)),
+    }
+}
+
+// The unit of a change.
+fn change_named<H: Host>(
+    host: &mut H,
+    administration: &mut Administration,
+    asked: &RecordChange,
+) -> Unit
+    requires writes { CanWrite administration.old }
+    requires order { Needs (H.state host.old)
+        (IsInOrder administration.old.database administration.old.lists.lists) }
+    ensures unit { IsBroken result.reply ⊎ MakesChange asked.now administration.old administration.new
+        result (H.state host.old) (H.state host.new) }
+    ensures untouched { IsBroken result.reply → TellsNoPackage result }
+    ensures told { result.calls.items ≡ [] }
+    ensures silent { Silent (H.state host.old) (H.state host.new) }
+    ensures any_moment { (diverted : Diverted) → AtEachMomentOf (IsAmidChange asked.now
+        (held_by administration.old diverted)) (H.state host.old) (H.state host.new) }
+    ensures counts { CountsReply (H.state host.old) (H.state host.new) result.reply }
+    ensures not_closed { IsBrokenBy Closed result.reply → ⊥ }
+{
+    let alloc = administration.alloc;
+    match decide(alloc, &administration.database, asked) {
+        Ok(Decided::Changed(entry)) => note(host, administration, asked, entry),
+        Ok(Decided::Made) => done(alloc, &administration.database, &asked.name),
+        Ok(Decided::Refused) => unknown(alloc, &asked.name),
+        Err(_) => no_memory(alloc),
+    }
+}
+
+/// The unit of a change, or the unit that was broken off, as it is where there is no room for it.
+pub(crate) fn change_one<H: Host>(
+    host: &mut H,
+    administration: &mut Administration,
+    asked: &RecordChange,
+    room: bool,
+) -> Result<Unit, Unit>
+    requires writes { CanWrite administration.old }
+    requires order { Needs (H.state host.old)
+        (IsInOrder administration.old.database administration.old.lists.lists) }
+    ensures ok { IfOk result (λ unit. MakesChange asked.now administration.old administration.new
+        unit (H.state host.old) (H.state host.new)) }
+    ensures room { OnOk result (room ≡ true) }
+    ensures err { IfErr result (λ unit. IsBroken unit.reply × TellsNoPackage unit) }
+    ensures told { IfOk result (λ unit. unit.calls.items ≡ []) }
+    ensures told_broken { IfErr result (λ unit. unit.calls.items ≡ []) }
+    ensures silent { Silent (H.state host.old) (H.state host.new) }
+    ensures any_moment { (diverted : Diverted) → AtEachMomentOf (IsAmidChange asked.now
+        (held_by administration.old diverted)) (H.state host.old) (H.state host.new) }
+    ensures no_fault { OnOk result (NoFault (H.state host.old) (H.state host.new)) }
+    ensures counts { IfErr result (λ unit. CountsReply (H.state host.old) (H.state host.new)
+        unit.reply) }
+    ensures not_closed { IfErr result (λ unit. IsBrokenBy Closed unit.reply → ⊥) }
+{
+    if !room {
+        return Err(no_memory(administration.alloc));
+    }
+    let unit = change_named(host, administration, asked);
+    if is_broken(&unit) {
+        return Err(unit);
+    }
+    Ok(unit)
+}

@@ -1,0 +1,4 @@
+mod TriggerTexts
+mod Tables
+mod Planned
+mod Looking

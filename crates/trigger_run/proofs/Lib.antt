@@ -1,0 +1,6 @@
+mod Once
+mod Installed
+mod Replies
+mod Processings
+mod Turning
+mod Ending

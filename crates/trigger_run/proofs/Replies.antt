@@ -1,0 +1,53 @@
+-- How units answer, and the faults of their hosts.
+use Rattle.std.specs.Prelude.{MatchBool}
+use Rattle.std.proofs.Common.{◌≡◌, ◌⊎◌, inl, inr, ℕ, Bool, true, false, List, Option, Some, None, sym, subst, ◌∙◌}
+use Rattle.std.proofs.lemmas.Bool.{true≢false}
+use Rattle.host_core.specs.Host.{State, NoFault}
+use Rattle.host_core.specs.declared.call.Call.{Call}
+use Rattle.status_records.specs.declared.record.Record.{Record}
+use Rattle.unit_reports.specs.declared.report.Breakage.{Breakage}
+use Rattle.unit_reports.specs.declared.report.Breakage.TheVariants.{NoMemory, Closed}
+use Rattle.unit_reports.specs.declared.report.Reply.{Reply}
+use Rattle.unit_reports.specs.declared.report.Unit.{Unit as AUnit}
+use Rattle.unit_reports.proofs.Counting.{no_memory_not_closed}
+use Rattle.unit_reports.specs.Units.{CountsReply, IsBroken, IsBrokenBy}
+use Rattle.trigger_run.specs.Units.{Answers, reply_to}
+
+-- a unit that wasn't broken off is as is said of it
+pub not_broken : {Q : Type 0} (reply : Reply) (b : Bool) → b ≡ false → MatchBool b (IsBroken reply) (IsBroken reply → ⊥) → IsBroken reply ⊎ Q → Q
+not_broken reply true e is either = absurd (true≢false e)
+not_broken reply false e is (inl broken) = absurd (is broken)
+not_broken reply false e is (inr holds) = holds
+
+pub is_whole : (reply : Reply) (b : Bool) → b ≡ false → MatchBool b (IsBroken reply) (IsBroken reply → ⊥) → IsBroken reply → ⊥
+is_whole reply true e is broken = absurd (true≢false e)
+is_whole reply false e is broken = is broken
+
+pub is_broken_off : (reply : Reply) (b : Bool) → b ≡ true → MatchBool b (IsBroken reply) (IsBroken reply → ⊥) → IsBroken reply
+is_broken_off reply true e broken = broken
+is_broken_off reply false e is = absurd (true≢false (sym e))
+
+pub broken_by : (breakage : Breakage) (reply : Reply) → IsBrokenBy breakage reply → IsBroken reply
+broken_by breakage reply is = subst IsBroken (sym is) tt
+
+pub broken_or : {Q R : Type 0} (breakage : Breakage) (reply : Reply) → (Q → R) → IsBrokenBy breakage reply ⊎ Q → IsBroken reply ⊎ R
+broken_or breakage reply so (inl broken) = inl (broken_by breakage reply broken)
+broken_or breakage reply so (inr holds) = inr (so holds)
+
+reply_not_closed : (name : List ℕ) (failed : Option Call) → IsBrokenBy Closed (reply_to name failed) → ⊥
+reply_not_closed name None closed = cc
+reply_not_closed name (Some call) closed = cc
+
+pub answer_not_closed : (name : List ℕ) (records : List Record) (failed : Option Call) (u : AUnit) → IsBrokenBy NoMemory u.reply ⊎ Answers name records failed u → IsBrokenBy Closed u.reply → ⊥
+answer_not_closed name records failed u (inl broken) closed = no_memory_not_closed u.reply broken closed
+answer_not_closed name records failed u (inr answers) closed = reply_not_closed name failed (sym answers.replied ∙ closed)
+
+-- the faults of a unit
+
+counts_reply : (name : List ℕ) (failed : Option Call) (a b : State) → NoFault a b → CountsReply a b (reply_to name failed)
+counts_reply name None a b same = same
+counts_reply name (Some call) a b same = same
+
+pub counts_answered : (name : List ℕ) (records : List Record) (failed : Option Call) (u : AUnit) (a b : State) → NoFault a b → IsBrokenBy NoMemory u.reply ⊎ Answers name records failed u → CountsReply a b u.reply
+counts_answered name records failed u a b same (inl broken) = subst (CountsReply a b) (sym broken) same
+counts_answered name records failed u a b same (inr answers) = subst (CountsReply a b) (sym answers.replied) (counts_reply name failed a b same)

@@ -1,0 +1,6 @@
+pub mod Names
+pub mod Pending
+pub mod Units
+pub mod Turns
+pub mod Taking
+pub mod Run

@@ -1,0 +1,31 @@
+use Rattle.std.proofs.Common.{rules, ◌≡◌, ◌++◌, ◌∷◌, [], List, ℕ, false, true, sym, ap, ◌∙◌, subst}
+use Rattle.trigger_watch.specs.Names.{is_among, each_once}
+use Rattle.trigger_watch.proofs.Once.{new_of, none_seen, seen_again, seen_first}
+use Rattle.trigger_watch.proofs.names.each_once.Goals as goal
+
+pub loop-name-init : goal.loop-name-init
+loop-name-init c =
+    let none : c.new-list.result.items ≡ [] = c.new-list.ensures.items in
+    let rest : c.into_iter-name-iterator.result.rest.items ≡ c.args.names.items = search rules in
+    subst (λ (l : List (List ℕ)). each_once c.args.names.items ≡ l ++ new_of l (each_once c.into_iter-name-iterator.result.rest.items)) (sym none)
+    (ap each_once (sym rest) ∙ sym (none_seen (each_once c.into_iter-name-iterator.result.rest.items)))
+
+pub loop-name-preserved-in-Continue-1 : goal.loop-name-preserved-in-Continue-1
+loop-name-preserved-in-Continue-1 c =
+    let list = c.loop-name.list.items in
+    let name = c.in-Some.name in
+    let rest = c.next.new.self.rest.items in
+    let split : c.loop-name.name-iterator.rest.items ≡ name ∷ rest = search rules in
+    let unseen : is_among list name ≡ false = search rules in
+    let grown : c.push.new.self.items ≡ list ++ name ∷ [] = search rules in
+    subst (λ (l : List (List ℕ)). each_once c.args.names.items ≡ l ++ new_of l (each_once rest)) (sym grown)
+    (c.loop-name.invariant ∙ ap (λ (l : List (List ℕ)). list ++ new_of list (each_once l)) split ∙ seen_first list name (each_once rest) unseen)
+
+pub loop-name-preserved : goal.loop-name-preserved
+loop-name-preserved c =
+    let list = c.loop-name.list.items in
+    let name = c.in-Some.name in
+    let rest = c.next.new.self.rest.items in
+    let split : c.loop-name.name-iterator.rest.items ≡ name ∷ rest = search rules in
+    let seen : is_among list name ≡ true = search rules in
+    c.loop-name.invariant ∙ ap (λ (l : List (List ℕ)). list ++ new_of list (each_once l)) split ∙ ap (λ (l : List (List ℕ)). list ++ l) (seen_again list name (each_once rest) seen)

@@ -1,0 +1,4 @@
+pub mod Names
+pub mod Hits
+pub mod Watch
+pub mod Activations
