@@ -1,4 +1,4 @@
-use Rattle.std.proofs.Common.{◌≡◌, ◌∙◌, List, ap, rules}
+use Rattle.std.proofs.Common.{◌∙◌, List, ap, rules}
 use Rattle.host_core.specs.World.{World}
 use Rattle.host_core.proofs.Counted.{no_fault_then}
 use Rattle.host_core.proofs.Moments.{reads_then, silent_then}
