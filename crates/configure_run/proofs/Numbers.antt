@@ -11,7 +11,6 @@ use Rattle.recorded_packages.proofs.Named.{as_many, names_are}
 use Rattle.relation_index.specs.declared.package.Package.{Package}
 use Rattle.host_core.specs.World.{World}
 use Rattle.status_db.specs.Order.{AreInOrder, IsBefore, IsBeforeAll, names_of}
-use Rattle.status_records.specs.Triggers.{has_triggers}
 use Rattle.status_records.specs.declared.record.Record.{Record}
 use Rattle.status_records.specs.declared.words.Flag.{Flag}
 use Rattle.status_records.specs.declared.words.Flag.TheVariants as flag
@@ -94,7 +93,7 @@ module _ (names : List (List ℕ)) (records : List Record) (q : Waiting) (begun 
       let found = at_number records x (number_within x wait) in
       let r = found.0 in
       let named : r.name ≡ name_at q.packages x = sym (number_named x r found.1) in
-      let can = both_hold (is_unconfigured r.state) (is_sound r.flag) (both_hold (not (has_triggers r.triggers)) (is_unconfigured r.state && is_sound r.flag) (both_hold (can_wait r) (is_named names r) (number_waits x r found.1 wait)).0).1 in
+      let can = both_hold (is_unconfigured r.state) (is_sound r.flag) (both_hold (can_wait r) (is_named names r) (number_waits x r found.1 wait)).0 in
       record {
         entry = r;
         found = record_at records x r (name_at q.packages x) (order_apart records order) found.1.within (ap (λ (s : Record). s.name) found.1.here ∙ named) ∙ ap Some found.1.here;

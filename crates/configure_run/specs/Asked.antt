@@ -3,7 +3,6 @@ use Rattle.std.specs.Prelude.{ℕ, Bool, true, false, cond, List, [], ◌∷◌,
 use Rattle.std.specs.List.{list_any, fold}
 use Rattle.std.specs.Str.{bytes_eq}
 use Rattle.status_db.specs.Order.{names_of}
-use Rattle.status_records.specs.Triggers.{has_triggers}
 use Rattle.status_records.specs.declared.record.Record.{Record}
 use Rattle.status_records.specs.declared.words.Flag.{Flag}
 use Rattle.status_records.specs.declared.words.Flag.TheVariants as flag
@@ -32,9 +31,9 @@ abbrev pub is_sound : Flag → Bool
 is_sound flag.Ok = true
 is_sound flag.Reinstreq = false
 
--- a package that can wait to be configured: one with triggers doesn't
+-- a package that can wait to be configured
 abbrev pub can_wait : Record → Bool
-can_wait r = not (has_triggers r.triggers) && (is_unconfigured r.state && is_sound r.flag)
+can_wait r = is_unconfigured r.state && is_sound r.flag
 
 -- the names of all packages that can, in name order
 abbrev pub waiting_names : List Record → List (List ℕ)

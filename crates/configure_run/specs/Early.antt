@@ -2,14 +2,13 @@
 use Rattle.std.specs.Prelude.{◌≡◌, ℕ, Bool, true, false, List, [], ◌∷◌, ◌++◌, Option, Some, None}
 use Rattle.std.specs.List.{filter_map}
 use Rattle.status_records.specs.Records.{record_in}
-use Rattle.status_records.specs.Triggers.{has_triggers}
 use Rattle.status_records.specs.declared.record.Record.{Record}
 use Rattle.status_records.specs.declared.words.Flag.{Flag}
 use Rattle.status_records.specs.declared.words.Flag.TheVariants as flag
 use Rattle.unit_reports.specs.Units.{IsRefusedUnit}
 use Rattle.unit_reports.specs.declared.refusal.Refusal.{Refusal}
 use Rattle.unit_reports.specs.declared.refusal.Rule.{Rule}
-use Rattle.unit_reports.specs.declared.refusal.Rule.TheVariants.{Unknown, TriggerState, WrongState, Reinstreq}
+use Rattle.unit_reports.specs.declared.refusal.Rule.TheVariants.{Unknown, WrongState, Reinstreq}
 use Rattle.unit_reports.specs.declared.report.Unit.{Unit as AUnit}
 use Rattle.configure_run.specs.Asked.{is_unconfigured}
 
@@ -23,15 +22,10 @@ abbrev pub rule_by_state : Bool → Flag → Option Rule
 rule_by_state false flag = Some WrongState
 rule_by_state true flag = rule_by_flag flag
 
--- triggers that the package has are asked before its state
-abbrev pub rule_by_triggers : Bool → Record → Option Rule
-rule_by_triggers true r = Some TriggerState
-rule_by_triggers false r = rule_by_state (is_unconfigured r.state) r.flag
-
 -- the first rule that refuses a package by its record, if one does
 abbrev pub early_rule : Option Record → Option Rule
 early_rule None = Some Unknown
-early_rule (Some r) = rule_by_triggers (has_triggers r.triggers) r
+early_rule (Some r) = rule_by_state (is_unconfigured r.state) r.flag
 
 abbrev pub refusal_by : List ℕ → Option Rule → Option Refusal
 refusal_by name None = None

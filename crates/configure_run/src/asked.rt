@@ -56,11 +56,11 @@ pub(crate) fn is_sound(flag: Flag) -> bool
     }
 }
 
-/// Whether a package can wait to be configured: it has no triggers.
+/// Whether a package can wait to be configured.
 pub(crate) fn can_wait(entry: &Record) -> bool
     ensures { result ≡ can_wait entry.now }
 {
-    !entry.triggers.are_some() && (is_unconfigured(entry.state) && is_sound(entry.flag))
+    is_unconfigured(entry.state) && is_sound(entry.flag)
 }
 
 fn push_waiting(names: &mut Vec<Text>, entry: &Record) -> Result<(), AllocError>

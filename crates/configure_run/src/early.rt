@@ -29,9 +29,7 @@ fn early_rule(entry: Option<&Record>) -> Option<Rule>
     match entry {
         None => Some(Rule::Unknown),
         Some(entry) => {
-            if entry.triggers.are_some() {
-                Some(Rule::TriggerState)
-            } else if is_unconfigured(entry.state) {
+            if is_unconfigured(entry.state) {
                 rule_by_flag(entry.flag)
             } else {
                 Some(Rule::WrongState)

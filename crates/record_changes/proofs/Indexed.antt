@@ -1,8 +1,9 @@
--- The packages of records don't tell what is wanted of them.
+-- The packages of records tell neither what is wanted of them nor what they are to process.
 use Rattle.std.proofs.Common.{◌≡◌, ℕ, Bool, true, false, cond, List, [], ◌∷◌, ◌++◌, Option, Some, None, refl, sym, ap, subst, ◌∙◌}
-use Rattle.std.specs.Prelude.{IfSome}
+use Rattle.std.specs.Prelude.{IfSome, is_some}
 use Rattle.std.specs.Str.{bytes_eq}
 use Rattle.std.proofs.lemmas.Slice.Eq.{bytes_eq-Decides}
+use Rattle.control_fields.specs.declared.field.Field.{Field}
 use Rattle.name_tables.specs.Tables.{place_value}
 use Rattle.name_tables.proofs.Ordered as values
 use Rattle.recorded_packages.specs.Packages.{ArePackagesIn, ArePackagesOf, IsPackageOf, root_architecture}
@@ -11,9 +12,11 @@ use Rattle.stated_relations.specs.Relations.{architecture_of, counted_as}
 use Rattle.status_db.proofs.Ordered.{put_is}
 use Rattle.status_db.specs.Order.{AreInOrder, IsBefore, IsBeforeAll, name_of}
 use Rattle.status_records.specs.Records.{put_record, record_in}
-use Rattle.status_records.specs.Standings.{wanting}
 use Rattle.status_records.specs.declared.record.Record.{Record}
-use Rattle.status_records.specs.declared.words.Want.{Want}
+use Rattle.record_changes.specs.Activated.{IsMade, changed}
+use Rattle.record_changes.specs.declared.change.Change.{Change}
+use Rattle.record_changes.specs.declared.change.Change.TheVariants as change
+use Rattle.record_changes.proofs.Changing.{awaited_stays, named, with_fields}
 use Rattle.record_changes.proofs.Found.{some_is}
 
 -- a record stands in a table at the place of another
@@ -50,12 +53,12 @@ put_takes (x ∷ xs) old r order found = by (bytes_eq x.name r.name) refl (put_t
         let takes = rest is in
         record { front = x ∷ takes.front; back = takes.back; was = ap (λ (l : List Record). x ∷ l) takes.was; is = later (before_found x.name r.name xs old order.0 is) ∙ ap (λ (l : List Record). x ∷ l) takes.is }
 
-same_root : (front back : List Record) (want : Want) (old : Record) → root_architecture (front ++ wanting want old ∷ back) ≡ root_architecture (front ++ old ∷ back)
-same_root [] back want old = refl
-same_root (x ∷ front) back want old = ap (λ (o : Option (List ℕ)). counted_as o (architecture_of x.fields)) (same_root front back want old)
+same_root : (front back : List Record) (asked : Change) (old : Record) → root_architecture (front ++ changed asked old ∷ back) ≡ root_architecture (front ++ old ∷ back)
+same_root [] back asked old = ap (λ (f : List Field). counted_as (root_architecture back) (architecture_of f)) (with_fields asked old)
+same_root (x ∷ front) back asked old = ap (λ (o : Option (List ℕ)). counted_as o (architecture_of x.fields)) (same_root front back asked old)
 
-same_package : (root : Option (List ℕ)) (want : Want) (old : Record) (p : Package) → IsPackageOf root old p → IsPackageOf root (wanting want old) p
-same_package root want old p is = record {
+same_package : (root : Option (List ℕ)) (asked : Change) (old : Record) (p : Package) → (changed asked old).triggers.awaited ≡ old.triggers.awaited → IsPackageOf root old p → IsPackageOf root (changed asked old) p
+same_package root (change.Want want) old p awaited is = record {
   name = is.name;
   architecture = is.architecture;
   version = is.version;
@@ -72,22 +75,44 @@ same_package root want old p is = record {
   conflicts = is.conflicts;
   replaces = is.replaces;
 }
+same_package root (change.Activate names) old p awaited is = record {
+  name = is.name;
+  architecture = is.architecture;
+  version = is.version;
+  state = is.state;
+  awaits = is.awaits ∙ ap is_some (sym awaited);
+  reinstreq = is.reinstreq;
+  essential = is.essential;
+  configured = is.configured;
+  removed_since = is.removed_since;
+  provides = is.provides;
+  pre_depends = is.pre_depends;
+  depends = is.depends;
+  breaks = is.breaks;
+  conflicts = is.conflicts;
+  replaces = is.replaces;
+}
 
-same_packages : (root : Option (List ℕ)) (front back : List Record) (want : Want) (old : Record) (ps : List Package) → ArePackagesIn root (front ++ old ∷ back) ps → ArePackagesIn root (front ++ wanting want old ∷ back) ps
-same_packages root [] back want old [] are = absurd are
-same_packages root [] back want old (p ∷ ps) are = (same_package root want old p are.0, are.1)
-same_packages root (x ∷ front) back want old [] are = absurd are
-same_packages root (x ∷ front) back want old (p ∷ ps) are = (are.0, same_packages root front back want old ps are.1)
+same_packages : (root : Option (List ℕ)) (front back : List Record) (asked : Change) (old : Record) (ps : List Package) → (changed asked old).triggers.awaited ≡ old.triggers.awaited → ArePackagesIn root (front ++ old ∷ back) ps
+    → ArePackagesIn root (front ++ changed asked old ∷ back) ps
+same_packages root [] back asked old [] awaited are = absurd are
+same_packages root [] back asked old (p ∷ ps) awaited are = (same_package root asked old p awaited are.0, are.1)
+same_packages root (x ∷ front) back asked old [] awaited are = absurd are
+same_packages root (x ∷ front) back asked old (p ∷ ps) awaited are = (are.0, same_packages root front back asked old ps awaited are.1)
 
-packages_taken : (rs new : List Record) (want : Want) (old : Record) (ps : List Package) → Takes old (wanting want old) rs new → ArePackagesOf rs ps → ArePackagesOf new ps
-packages_taken rs new want old ps takes are =
+packages_taken : (rs new : List Record) (asked : Change) (old : Record) (ps : List Package) → (changed asked old).triggers.awaited ≡ old.triggers.awaited → Takes old (changed asked old) rs new → ArePackagesOf rs ps → ArePackagesOf new ps
+packages_taken rs new asked old ps awaited takes are =
     subst (λ (l : List Record). ArePackagesOf l ps) (sym takes.is)
-    (subst (λ root. ArePackagesIn root (takes.front ++ wanting want old ∷ takes.back) ps) (sym (same_root takes.front takes.back want old))
-    (same_packages _ takes.front takes.back want old ps (subst (λ (l : List Record). ArePackagesOf l ps) takes.was are)))
+    (subst (λ root. ArePackagesIn root (takes.front ++ changed asked old ∷ takes.back) ps) (sym (same_root takes.front takes.back asked old))
+    (same_packages _ takes.front takes.back asked old ps awaited (subst (λ (l : List Record). ArePackagesOf l ps) takes.was are)))
 
-still : (rs : List Record) (want : Want) (old : Record) → AreInOrder rs → record_in rs old.name ≡ Some old → (o : Option (List Package)) → IfSome o (ArePackagesOf rs) → IfSome o (ArePackagesOf (put_record (wanting want old) rs))
-still rs want old order found None are = tt
-still rs want old order found (Some ps) are = packages_taken rs (put_record (wanting want old) rs) want old ps (put_takes rs old (wanting want old) order found) are
+still : (rs : List Record) (asked : Change) (old : Record) → AreInOrder rs → record_in rs (changed asked old).name ≡ Some old → (changed asked old).triggers.awaited ≡ old.triggers.awaited → (o : Option (List Package))
+    → IfSome o (ArePackagesOf rs) → IfSome o (ArePackagesOf (put_record (changed asked old) rs))
+still rs asked old order found awaited None are = tt
+still rs asked old order found awaited (Some ps) are = packages_taken rs (put_record (changed asked old) rs) asked old ps awaited (put_takes rs old (changed asked old) order found) are
 
-pub still_indexed : (rs new : List Record) (want : Want) (old : Record) → AreInOrder rs → record_in rs old.name ≡ Some old → new ≡ put_record (wanting want old) rs → (o : Option (List Package)) → IfSome o (ArePackagesOf rs) → IfSome o (ArePackagesOf new)
-still_indexed rs new want old order found is o are = subst (λ (l : List Record). IfSome o (ArePackagesOf l)) (sym is) (still rs want old order found o are)
+pub still_indexed : (rs new : List Record) (asked : Change) (old : Record) → AreInOrder rs → record_in rs old.name ≡ Some old → (IsMade asked old → ⊥) → new ≡ put_record (changed asked old) rs → (o : Option (List Package)) → IfSome o (ArePackagesOf rs)
+    → IfSome o (ArePackagesOf new)
+still_indexed rs new asked old order found other is o are =
+    subst (λ (l : List Record). IfSome o (ArePackagesOf l)) (sym is)
+    (still rs asked old order (subst (λ (n : List ℕ). record_in rs n ≡ Some old) (sym (named asked old)) found) (awaited_stays asked old other) o are)

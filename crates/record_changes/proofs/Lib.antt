@@ -1,3 +1,5 @@
+mod Names
+pub mod Changing
 mod Wants
 mod Found
 mod Indexed

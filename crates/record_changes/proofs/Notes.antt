@@ -1,4 +1,4 @@
--- What a note of a selection leaves, and its moments.
+-- What a note of a change leaves, and its moments.
 use Rattle.std.proofs.Common.{◌≡◌, ◌⊎◌, inl, inr, [], Some, sym, subst}
 use Rattle.host_core.specs.Events.{scripts_of}
 use Rattle.host_core.specs.Host.{State, AtEachMoment, AtEachMomentOf, Silent}
@@ -6,16 +6,16 @@ use Rattle.host_core.proofs.Moments.{since_weaker}
 use Rattle.host_core.proofs.Scripts.{since_silent}
 use Rattle.status_db.specs.Noting.{IsNoting}
 use Rattle.status_records.specs.Records.{put_record}
-use Rattle.status_records.specs.Standings.{wanting}
 use Rattle.status_records.specs.declared.record.Record.{Record}
 use Rattle.unit_reports.specs.Held.{Held}
 use Rattle.unit_reports.specs.Units.{IsBroken, IsBrokenBy}
 use Rattle.unit_reports.specs.declared.report.Breakage.TheVariants.{NoMemory}
 use Rattle.unit_reports.specs.declared.report.Reply.{Reply}
+use Rattle.record_changes.specs.Activated.{changed}
 use Rattle.record_changes.specs.Units.{IsAmidChange, entry_of}
 use Rattle.record_changes.specs.declared.change.RecordChange.{RecordChange}
 
-pub since_noting : (asked : RecordChange) (r entry : Record) (before : Held) (s t : State) → entry_of asked before.records.records ≡ Some r → entry ≡ wanting asked.want r → Silent s t
+pub since_noting : (asked : RecordChange) (r entry : Record) (before : Held) (s t : State) → entry_of asked before.records.records ≡ Some r → entry ≡ changed asked.change r → Silent s t
     → AtEachMoment (IsNoting before.records.records (put_record entry before.records.records)) s t → AtEachMomentOf (IsAmidChange asked before) s t
 since_noting asked r entry before s t found same silent since =
     let records = before.records.records in

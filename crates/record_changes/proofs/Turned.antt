@@ -1,4 +1,4 @@
--- Selections, one after another.
+-- Changes, one after another.
 use Rattle.std.proofs.Common.{◌≡◌, inl, inr, ℕ, ◌+◌, ◌<◌, suc, List, ◌∷◌, drop, length, slice_index_or, refl, sym, ap, subst, ◌∙◌, add-one}
 use Rattle.std.proofs.Math.Seq.{drop-cons}
 use Rattle.host_core.specs.Events.{calls_of as calls_in}
@@ -35,7 +35,7 @@ silent_here s t here = subst (Silent s) (sym here) (record { honest = λ h. h; s
 
 change_silent : (asked : RecordChange) (before after : Held) (u : AUnit) (s t : State) → IsChange asked before after u s t → Silent s t
 change_silent asked before after u s t (IsChange.unknown none refused alone) = silent_here s t alone.here
-change_silent asked before after u s t (IsChange.wanted r found same done alone) = silent_here s t alone.here
+change_silent asked before after u s t (IsChange.made r found same done alone) = silent_here s t alone.here
 change_silent asked before after u s t (IsChange.noted r found other done recorded) = recorded.silent
 
 pub turns_silent : (start : List RecordChange) (before : Held) (s : State) (us : List AUnit) (left : List RecordChange) (after : Held) (t : State) → TurnsTo IsTurn start before s us left after t → Silent s t

@@ -1,7 +1,8 @@
 // What is changed of a record.
-ghost use Rattle.std.specs.Prelude.{◌≡◌, ◌||◌, true, false, not, MatchBool, IfOk, OnOk};
+ghost use Rattle.std.specs.Prelude.{◌≡◌, ◌⊎◌, [], true, map, MatchBool, IfOk, OnOk};
 ghost use Rattle.std.specs.List.{list_all};
 ghost use Rattle.record_changes.specs.Activated.{IsMade, activated, changed, has_name, pending_text, with_name, with_names, with_pending, words_of};
+ghost use Rattle.status_records.specs.TriggerNames.{are_trigger_names};
 ghost use Rattle.status_records.specs.Words.{is_installed};
 
 use crate::change::Change;
@@ -14,10 +15,16 @@ fn is_same(one: Want, other: Want) -> bool
     one.name() == other.name()
 }
 
+fn words_of(alloc: Global, text: &[u8]) -> Result<Vec<&[u8]>, AllocError>
+    ensures { IfOk result (λ words. map (λ w. w.now) words.items ≡ words_of text.now) }
+{
+    text.split(|byte| *byte == b' ').collect(alloc)
+}
+
 fn has_name(text: &[u8], name: &[u8]) -> bool
     ensures { result ≡ has_name text.now name.now }
 {
-    name.is_empty() || text.split(|byte| *byte == b' ').any(|word| word == name)
+    name.is_empty() || text.split(|byte| *byte == b' ').any(|word| name == word)
 }
 
 fn add_name(text: &mut Vec<u8>, name: &[u8]) -> Result<(), AllocError>
@@ -36,15 +43,17 @@ fn add_name(text: &mut Vec<u8>, name: &[u8]) -> Result<(), AllocError>
 fn with_names(alloc: Global, text: &[u8], names: &[u8]) -> Result<Vec<u8>, AllocError>
     ensures { IfOk result (λ all. all.items ≡ with_names text.now (words_of names.now)) }
 {
+    let words = words_of(alloc, names)?;
     let mut all = Vec::from_slice(alloc, text)?;
-    for name in names.split(|byte| *byte == b' ') {
-        add_name(&mut all, name)?;
+    for word in &words {
+        add_name(&mut all, word)?;
     }
     Ok(all)
 }
 
 fn pending_text(triggers: &Triggers) -> &[u8]
-    ensures { result.now ≡ pending_text triggers.now.pending }
+    ensures text { result.now ≡ pending_text triggers.now.pending }
+    ensures names { (result.now ≡ []) ⊎ (are_trigger_names result.now ≡ true) }
 {
     match &triggers.pending {
         Some(names) => names.text(),

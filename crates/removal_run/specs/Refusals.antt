@@ -3,14 +3,13 @@ use Rattle.std.specs.Prelude.{◌&&◌, ℕ, Bool, true, false, not, List, [], �
 use Rattle.recorded_packages.specs.Packages.{is_reinstreq}
 use Rattle.stated_relations.specs.Relations.{is_essential}
 use Rattle.status_records.specs.Records.{record_in}
-use Rattle.status_records.specs.Triggers.{has_triggers}
 use Rattle.status_records.specs.declared.record.Record.{Record}
 use Rattle.status_records.specs.declared.words.State.{State}
 use Rattle.status_records.specs.declared.words.State.TheVariants.{NotInstalled, ConfigFiles, HalfInstalled, Unpacked, HalfConfigured, Installed}
 use Rattle.unit_reports.specs.Units.{IsRefusedUnit}
 use Rattle.unit_reports.specs.declared.refusal.Refusal.{Refusal}
 use Rattle.unit_reports.specs.declared.refusal.Rule.{Rule}
-use Rattle.unit_reports.specs.declared.refusal.Rule.TheVariants.{Unknown, TriggerState, NothingToRemove, Reinstreq, Essential}
+use Rattle.unit_reports.specs.declared.refusal.Rule.TheVariants.{Unknown, NothingToRemove, Reinstreq, Essential}
 use Rattle.unit_reports.specs.declared.report.Unit.{Unit as AUnit}
 use Rattle.removal_run.specs.Extents.{purges}
 use Rattle.removal_run.specs.declared.extents.Extents.{Extents}
@@ -23,12 +22,11 @@ is_config_files Unpacked = false
 is_config_files HalfConfigured = false
 is_config_files Installed = false
 
--- The first that holds: nothing is done with a package that has triggers; of a removed package a removal, but no purge, has nothing to do; a package that has to be installed
--- again first isn't removed; nor is an essential one, unless it is removed already.
+-- The first that holds: of a removed package a removal, but no purge, has nothing to do; a package that has to be installed again first
+-- isn't removed; nor is an essential one, unless it is removed already.
 abbrev pub rule_of_record : Bool → Record → Option Rule
 rule_of_record purge r =
-    if has_triggers r.triggers then Some TriggerState
-    else if is_config_files r.state && not purge then Some NothingToRemove
+    if is_config_files r.state && not purge then Some NothingToRemove
     else if is_reinstreq r.flag then Some Reinstreq
     else if not (is_config_files r.state) && is_essential r.fields then Some Essential
     else None

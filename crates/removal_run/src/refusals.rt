@@ -38,9 +38,6 @@ fn is_reinstreq(flag: Flag) -> bool
 fn rule_of_record(purge: bool, entry: &Record) -> Option<Rule>
     ensures { result ≡ rule_of_record purge entry.now }
 {
-    if entry.triggers.are_some() {
-        return Some(Rule::TriggerState);
-    }
     if is_config_files(entry.state) && !purge {
         return Some(Rule::NothingToRemove);
     }

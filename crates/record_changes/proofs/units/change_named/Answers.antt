@@ -5,11 +5,11 @@ use Rattle.record_changes.specs.Units.{IsChange}
 use Rattle.record_changes.proofs.Notes.{broken_or}
 use Rattle.record_changes.proofs.units.change_named.Goals as goal
 
-pub returns-in-Ok-Wanted-clause-unit : goal.returns-in-Ok-Wanted-clause-unit
-returns-in-Ok-Wanted-clause-unit g c =
-    let (r, found, same) = subst (HasDecided c.args.asked.now c.args.administration.now.database.records) c.in-Ok-Wanted.field-0-is c.in-Ok-Wanted.ensures in
+pub returns-in-Ok-Made-clause-unit : goal.returns-in-Ok-Made-clause-unit
+returns-in-Ok-Made-clause-unit g c =
+    let (r, found, same) = subst (HasDecided c.args.asked.now c.args.administration.now.database.records) c.in-Ok-Made.field-0-is c.in-Ok-Made.ensures in
     broken_or c.done.result.reply (λ done. record {
-      is = λ diverted. IsChange.wanted r found same done (record { held = refl; here = refl });
+      is = λ diverted. IsChange.made r found same done (record { held = refl; here = refl });
       opened = λ ways was. was;
       order = c.requires.order;
       indexed = λ are. are;

@@ -1,8 +1,8 @@
 use Rattle.std.proofs.Common.{sym}
 use Rattle.record_changes.proofs.units.decide.Goals as goal
 
-pub returns-then-is_same : goal.returns-then-is_same
-returns-then-is_same c = (c.in-Some.entry.now, sym c.in-Some.ensures, c.if-is_same.ensures)
+pub returns-then-is_made : goal.returns-then-is_made
+returns-then-is_made c = (c.in-Some.entry.now, sym c.in-Some.ensures, c.if-is_made.ensures)
 
-pub returns-in_ok-wanting-in-Some : goal.returns-in_ok-wanting-in-Some
-returns-in_ok-wanting-in-Some c = (c.in-Some.entry.now, sym c.in-Some.ensures, c.if-is_same.ensures, c.in_ok-wanting-in-Some.ensures)
+pub returns-in_ok-changed-in-Some : goal.returns-in_ok-changed-in-Some
+returns-in_ok-changed-in-Some c = (c.in-Some.entry.now, sym c.in-Some.ensures, c.if-is_made.ensures, c.in_ok-changed-in-Some.ensures)

@@ -2,12 +2,13 @@ use Rattle.std.proofs.Common.{inl, ap, refl, ◌∙◌}
 use Rattle.held_administration.specs.Order.{IsInOrder}
 use Rattle.host_core.specs.Host.{Needs}
 use Rattle.status_records.specs.Records.{put_record, record_in}
-use Rattle.status_records.specs.Standings.{wanting}
 use Rattle.status_records.specs.Words.{is_not_installed}
 use Rattle.status_records.specs.declared.record.Record.{Record}
 use Rattle.unit_reports.specs.Held.{held_by}
 use Rattle.unit_stages.proofs.Order.{note_order}
+use Rattle.record_changes.specs.Activated.{changed}
 use Rattle.record_changes.specs.Units.{IsChange}
+use Rattle.record_changes.proofs.Changing.{in_state, named}
 use Rattle.record_changes.proofs.Found.{found_name, found_stands, is_known}
 use Rattle.record_changes.proofs.Indexed.{still_indexed}
 use Rattle.record_changes.proofs.Notes.{broken_or, since_noting}
@@ -17,7 +18,7 @@ pub note_record-requires-clause-stands : goal.note_record-requires-clause-stands
 note_record-requires-clause-stands g c =
     let (r, found, other, same) = c.requires.decided in
     let old = c.args.administration.now.database.records in
-    ap (λ (e : Record). is_not_installed e.state) same ∙ found_stands old c.args.asked.now.name r c.law.ensures.standing found
+    ap (λ (e : Record). is_not_installed e.state) same ∙ ap is_not_installed (in_state c.args.asked.now.change r) ∙ found_stands old c.args.asked.now.name r c.law.ensures.standing found
 
 pub returns-in-Ok-clause-unit : goal.returns-in-Ok-clause-unit
 returns-in-Ok-clause-unit g c =
@@ -27,10 +28,10 @@ returns-in-Ok-clause-unit g c =
     let own = found_name old name r found in
     let noted = c.in-Ok.ensures.records ∙ ap (λ (e : Record). put_record e old) same in
     let there : Needs (g.H.Host.state c.note_record.new.host) (IsInOrder c.note_record.new.database c.args.administration.now.lists.lists) = (λ h. note_order c.args.administration.now.database c.args.administration.now.lists.lists (g.H.Host.state c.args.host.now).world (c.requires.order (c.in-Ok.ensures.silent.honest h))
-    r.name (wanting c.args.asked.now.want r) c.note_record.new.database (g.H.Host.state c.note_record.new.host).world
-    (record { own = refl; stands = found_stands old name r c.law.ensures.standing found; known = is_known old name r found }) noted (c.in-Ok.ensures.kept h)) in
+    r.name (changed c.args.asked.now.change r) c.note_record.new.database (g.H.Host.state c.note_record.new.host).world
+    (record { own = named c.args.asked.now.change r; stands = ap is_not_installed (in_state c.args.asked.now.change r) ∙ found_stands old name r c.law.ensures.standing found; known = is_known old name r found }) noted (c.in-Ok.ensures.kept h)) in
     broken_or c.done.result.reply (λ done. record {
-      is = λ diverted. IsChange.changed r found other done (record {
+      is = λ diverted. IsChange.noted r found other done (record {
         records = noted;
         lists = refl;
         ways = refl;
@@ -40,7 +41,7 @@ returns-in-Ok-clause-unit g c =
       });
       opened = λ ways was. record { noting = c.in-Ok.ensures.opened; listing = was.listing; kept = was.kept };
       order = there;
-      indexed = λ are. still_indexed old c.note_record.new.database.records c.args.asked.now.want r c.law.ensures.order (ap (record_in old) own ∙ found) noted c.args.administration.now.packages are;
+      indexed = λ are. still_indexed old c.note_record.new.database.records c.args.asked.now.change r c.law.ensures.order (ap (record_in old) own ∙ found) other noted c.args.administration.now.packages are;
       answered = inl c.in-Ok.ensures.on_disk;
     }) c.done.ensures.unit
 
