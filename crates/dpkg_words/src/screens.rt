@@ -19,10 +19,11 @@ const HELP: &str = "dpkg's words, carried out by coizkerra. Usage: [OPTION ..] A
   --no-act, --dry-run, --simulate
                           the lines are told as if it were done, and nothing is changed
   --no-triggers           triggers stay pending and aren't processed then; not so with --triggers
+  --status-fd=N           the state of each package is told on this descriptor as it is noted
   --force-confold, --force-confdef, --force-confnew, --force-confmiss
 
 Taken, and without effect: other --force-X and --refuse-X, --no-pager, --no-debsig, --log,
---status-fd, --status-logger, --abort-after, -D.
+--status-logger, --abort-after, -D.
 What is printed are coizkerra's own lines: coizkerra help.
 ";
 
