@@ -1,5 +1,5 @@
 -- What words ask of what is wanted of packages, whose names may be any texts.
-use Rattle.std.specs.Prelude.{◌&&◌, Bool, ℕ, List, [], ◌∷◌, Option, Some, None, codes, flat_map, if◌then◌else◌, is_some, nat_eq, option_and_then, option_map, option_to_list}
+use Rattle.std.specs.Prelude.{◌&&◌, Bool, ℕ, List, [], ◌∷◌, Option, Some, None, codes, flat_map, if◌then◌else◌, is_some, nat_eq, option_map, option_to_list}
 use Rattle.std.specs.List.{list_all}
 use Rattle.std.specs.Option.{option_or}
 use Rattle.std.specs.Str.{bytes_eq}

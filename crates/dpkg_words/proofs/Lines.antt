@@ -1,5 +1,5 @@
 -- The first line that can't be read.
-use Rattle.std.proofs.Common.{arith, ◌≡◌, ◌<◌, ◌≤◌, ◌∙◌, ◌∷◌, ◌&&◌, [], ℕ, zero, suc, Bool, true, false, List, Option, Some, None, length, take, get_or, ap, map, if◌then◌else◌, refl}
+use Rattle.std.proofs.Common.{arith, ◌≡◌, ◌<◌, ◌≤◌, ◌∙◌, ◌∷◌, ◌&&◌, [], ℕ, zero, suc, Bool, true, false, List, Some, None, length, take, get_or, ap, map, if◌then◌else◌, refl}
 use Rattle.std.specs.List.{list_all}
 use Rattle.std.specs.Prelude.{option_map}
 use denote.Ref.{Bor}

@@ -1,7 +1,7 @@
 // What is selected on standard input.
 ghost use Rattle.std.specs.Prelude.{◌≡◌, ◌++◌, IfOk, OnOk, codes, filter, flat_map, map, string_bytes};
 ghost use Rattle.dpkg_words.specs.Arguments.{plain_name};
-ghost use Rattle.dpkg_words.specs.Selections.{bad_line, between, chosen, is_readable_by, is_remark, is_selection, is_want, is_word, selected_by, selected_from, selection_of, selecting_words, selections_in, words_of};
+ghost use Rattle.dpkg_words.specs.Selections.{bad_line, between, chosen, is_readable_by, is_remark, is_selection, is_want, is_word, selected_by, selected_from, selecting_words, selections_in, words_of};
 
 use crate::arguments::plain_name;
 use crate::own_words::OwnWords;
