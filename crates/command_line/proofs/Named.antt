@@ -7,7 +7,7 @@ use Rattle.texts.specs.PackageNames.{is_package_name}
 use Rattle.clap.specs.Words.{Kinds, Row, Text, fault_of, first_of}
 use Rattle.diversions.specs.Entries.{is_owner}
 use Rattle.command_words.specs.CommandLine.{whole_app}
-use Rattle.command_words.specs.Commands.{asked_by, asked_in, asked_of, comparison_of, entered, flagged, flagged_by, parsed_of, unless_faulty}
+use Rattle.command_words.specs.Commands.{asked_by, asked_in, asked_of, comparison_of, configure_asked, entered, flagged, flagged_by, parsed_of, unless_faulty}
 use Rattle.command_words.specs.Packages.{configuring_of, removing_of}
 use Rattle.command_words.specs.Selecting.{removing_selected_of, selecting_of}
 use Rattle.command_words.specs.Unpacks.{unpacking_of}
@@ -17,12 +17,13 @@ use Rattle.command_words.specs.Given.{is_absolute, is_set}
 use Rattle.command_words.specs.Rehearsals.{is_rehearsable}
 use Rattle.command_words.specs.Queries.{query_of}
 use Rattle.command_words.specs.Waits.{wait_of}
+use Rattle.command_words.specs.Triggers.{is_of_triggers_only, processing_of}
 use Rattle.command_words.specs.Topics.{has_help_flag, is_help_flag, topic_in, topic_of}
 use Rattle.command_words.specs.declared.diverting.Diverting.{Diverting}
 use Rattle.command_words.specs.declared.diverting.Undiverting.{Undiverting}
 use Rattle.command_words.specs.declared.help.Topic.TheVariants.{Program}
 use Rattle.command_words.specs.declared.words.Asked.{Asked}
-use Rattle.command_words.specs.declared.words.Asked.TheVariants.{CompareVersions, Configure, Divert, Help, Install, Names, Purge, Query, Remove, RemoveSelected, Select, Undivert, Unpack, Verify, Version}
+use Rattle.command_words.specs.declared.words.Asked.TheVariants.{CompareVersions, Configure, Divert, Help, Install, Names, ProcessTriggers, Purge, Query, Remove, RemoveSelected, Select, Undivert, Unpack, Verify, Version}
 use Rattle.command_line.specs.Changes.{owner_in}
 
 abbrev IsNamed : Asked → Type 0
@@ -35,6 +36,7 @@ IsNamed (Undivert u) = is_owner (owner_in u.owner) ≡ true
 IsNamed (Unpack u) = Unit {0}
 IsNamed (Install u) = Unit {0}
 IsNamed (Configure c) = Unit {0}
+IsNamed (ProcessTriggers p) = Unit {0}
 IsNamed (Remove r) = Unit {0}
 IsNamed (Purge r) = Unit {0}
 IsNamed (Select x) = Unit {0}
@@ -97,11 +99,14 @@ map_named : {T : Type 0} (f : T → Asked) (o : Option T) → ((x : T) → IsNam
 map_named f None named = tt
 map_named f (Some x) named = named x
 
+configure_named : (rows : List Row) → Named (configure_asked rows)
+configure_named rows = if_named (is_of_triggers_only rows) _ _ (map_named ProcessTriggers (processing_of rows) (λ p. tt)) (map_named Configure (configuring_of rows) (λ c. tt))
+
 by_named : (name : Text) (rows : List Row) → Named (asked_by name rows)
 by_named name rows =
     let undivert = undivert_named (first_of (codes "root") rows) (owner_of rows) (is_set (first_of (codes "rename") rows)) (first_of (codes "PATH") rows) (wait_of rows) (owner_named (first_of (codes "package") rows) (is_set (first_of (codes "local") rows))) in
     if_named (bytes_eq name (codes "compare-versions")) _ _ (map_named CompareVersions (comparison_of rows) (λ c. tt))
-    (if_named (bytes_eq name (codes "configure")) _ _ (map_named Configure (configuring_of rows) (λ c. tt))
+    (if_named (bytes_eq name (codes "configure")) _ _ (configure_named rows)
     (if_named (bytes_eq name (codes "divert")) _ _ (divert_asked (first_of (codes "divert") rows) (undiverting_of rows) undivert)
     (if_named (bytes_eq name (codes "help")) _ _ (map_named Help (topic_in (first_of (codes "COMMAND") rows)) (λ t. tt))
     (if_named (bytes_eq name (codes "install")) _ _ (map_named Install (unpacking_of rows) (λ u. tt))

@@ -30,7 +30,7 @@ use Rattle.command_words.specs.Topics.{HasScreen, IsScreen, version_line}
 use Rattle.command_words.specs.declared.comparison.Comparison.{Comparison}
 use Rattle.command_words.specs.declared.help.Topic.{Topic}
 use Rattle.command_words.specs.declared.words.Asked.{Asked}
-use Rattle.command_words.specs.declared.words.Asked.TheVariants.{Names, Version, CompareVersions, Help, Configure, Divert, Install, Purge, Query, Remove, RemoveSelected, Select, Undivert, Unpack, Verify}
+use Rattle.command_words.specs.declared.words.Asked.TheVariants.{Names, Version, CompareVersions, Help, Configure, Divert, Install, ProcessTriggers, Purge, Query, Remove, RemoveSelected, Select, Undivert, Unpack, Verify}
 use Rattle.command_words.specs.declared.unpacking.Unpacking.{Unpacking}
 
 -- the names of the subcommands, one a line
@@ -129,6 +129,7 @@ IsAnswerTo a (Undivert u) answer = IsReadChange a u.root (bad_of_undivert u) (Is
 IsAnswerTo a (Unpack u) answer = IsTreesAnswer a None u answer
 IsAnswerTo a (Install u) answer = IsTreesAnswer a (Some (policy_of u.forced)) u answer
 IsAnswerTo a (Configure c) answer = IsWorkAnswer a c.root (work_of c) answer
+IsAnswerTo a (ProcessTriggers p) answer = IsWorkAnswer a p.root work.ProcessTriggers answer
 IsAnswerTo a (Remove r) answer = IsWorkAnswer a r.root (work.Remove r.names) answer
 IsAnswerTo a (Purge r) answer = IsWorkAnswer a r.root (work.Purge r.names) answer
 IsAnswerTo a (Select x) answer = IsWorkAnswer a x.root (work.Select x.selections) answer
@@ -161,6 +162,7 @@ prints (Some (Undivert u)) = is_good (bad_of_undivert u)
 prints (Some (Unpack u)) = true
 prints (Some (Install u)) = true
 prints (Some (Configure c)) = true
+prints (Some (ProcessTriggers p)) = true
 prints (Some (Remove r)) = true
 prints (Some (Purge r)) = true
 prints (Some (Select x)) = true
@@ -180,6 +182,7 @@ opens_root (Some (Undivert u)) = is_good (bad_of_undivert u)
 opens_root (Some (Unpack u)) = true
 opens_root (Some (Install u)) = true
 opens_root (Some (Configure c)) = true
+opens_root (Some (ProcessTriggers p)) = true
 opens_root (Some (Remove r)) = true
 opens_root (Some (Purge r)) = true
 opens_root (Some (Select x)) = true
@@ -215,6 +218,7 @@ has_units (Some (Undivert u)) = false
 has_units (Some (Unpack u)) = true
 has_units (Some (Install u)) = true
 has_units (Some (Configure c)) = true
+has_units (Some (ProcessTriggers p)) = true
 has_units (Some (Remove r)) = true
 has_units (Some (Purge r)) = true
 has_units (Some (Select x)) = true

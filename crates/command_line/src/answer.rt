@@ -32,9 +32,9 @@ use crate::steady::Unanswered;
 use crate::unpacking::{Done, unpack};
 use crate::verifying::check_under;
 use command_words::{
-    Asked, Comparison, Configuring, Diverting, Query, Removing, RemovingSelected, ScriptStreams,
-    Selecting, Topic, Undiverting, Unpacking, Verdict, Verifying, WordsFault, bad_version_line,
-    command_of, help_text, subcommand_names, version_text,
+    Asked, Comparison, Configuring, Diverting, ProcessingTriggers, Query, Removing,
+    RemovingSelected, ScriptStreams, Selecting, Topic, Undiverting, Unpacking, Verdict, Verifying,
+    WordsFault, bad_version_line, command_of, help_text, subcommand_names, version_text,
 };
 use conffiles::ConfPolicy;
 use dpkg_session::{Installed, Report, Unit};
@@ -402,6 +402,7 @@ fn configured<S: Hosts, O: Write>(
         root,
         names,
         streams,
+        triggers: _,
         forced,
         wait,
     } = asked;
@@ -426,6 +427,7 @@ fn removed<S: Hosts, O: Write>(
         root,
         names,
         streams,
+        triggers: _,
         wait,
     } = asked;
     let work = Work::Remove(names);
@@ -449,6 +451,7 @@ fn purged<S: Hosts, O: Write>(
         root,
         names,
         streams,
+        triggers: _,
         wait,
     } = asked;
     let work = Work::Purge(names);
@@ -491,6 +494,31 @@ fn removed_selected<S: Hosts, O: Write>(
     ensures below { S.below hosts.new ≡ S.below hosts.old }
 {
     let work = Work::RemoveSelected;
+    worked(
+        alloc,
+        hosts,
+        &asked.root,
+        asked.streams,
+        asked.wait,
+        &work,
+        out,
+    )
+}
+
+fn processed<S: Hosts, O: Write>(
+    alloc: Global,
+    hosts: &mut S,
+    asked: &ProcessingTriggers,
+    out: &mut O,
+) -> Result<Left, AllocError>
+    ensures ended { (ended : Result (AnEnded AReport) ANotOpened)
+        × HasEndedWork (around S.Hosts hosts.old hosts.new) asked.now.root Work.ProcessTriggers
+        ended × IsLeft (work_answer ended) (O.contents out.old) (O.contents out.new)
+        result }
+    ensures bound { IfOk result (λ left. status_left left ≤ 2) }
+    ensures below { S.below hosts.new ≡ S.below hosts.old }
+{
+    let work = Work::ProcessTriggers;
     worked(
         alloc,
         hosts,
@@ -649,6 +677,7 @@ pub(crate) fn answer_to<S: Hosts, O: Write>(
             unpacked(alloc, hosts, &unpacking, Some(policy), out)
         }
         Ok(Asked::Configure(asked)) => configured(alloc, hosts, asked, out),
+        Ok(Asked::ProcessTriggers(asked)) => processed(alloc, hosts, &asked, out),
         Ok(Asked::Remove(asked)) => removed(alloc, hosts, asked, out),
         Ok(Asked::Purge(asked)) => purged(alloc, hosts, asked, out),
         Ok(Asked::Select(asked)) => selected(alloc, hosts, asked, out),

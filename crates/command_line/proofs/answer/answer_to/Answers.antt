@@ -1,7 +1,7 @@
 use Rattle.std.proofs.Common.{rules, ◌≡◌, ◌∙◌, [], ap, map, string_bytes, true, None, Some, refl, inl, inr, subst, sym}
 use Rattle.command_words.specs.Commands.{asked_of}
 use Rattle.command_words.specs.Topics.{HasScreen, named_in}
-use Rattle.command_words.specs.declared.words.Asked.TheVariants.{CompareVersions, Configure, Divert, Help, Install, Names, Purge, Query, Remove, RemoveSelected, Select, Undivert, Unpack, Verify, Version}
+use Rattle.command_words.specs.declared.words.Asked.TheVariants.{CompareVersions, Configure, Divert, Help, Install, Names, ProcessTriggers, Purge, Query, Remove, RemoveSelected, Select, Undivert, Unpack, Verify, Version}
 use Rattle.command_line.specs.Reports.{comparison_answer, memory_answer, names_answer, prints, trees_answer, usage_answer, version_answer, work_answer}
 use Rattle.command_line.specs.declared.answer.Answer.{Answer}
 use Rattle.command_line.proofs.Held.{appends_nothing}
@@ -84,6 +84,12 @@ pub returns-in-Ok-Configure-clause-answered : goal.returns-in-Ok-Configure-claus
 returns-in-Ok-Configure-clause-answered g c =
     let asked : asked_of (map string_bytes c.args.words.now) ≡ Some (Configure c.in-Ok-Configure.asked) = search rules in
     let ended = c.configured.ensures.ended in
+    (work_answer ended.0, rw asked (inl (ended.0, ended.1, refl)), ended.2)
+
+pub returns-in-Ok-ProcessTriggers-clause-answered : goal.returns-in-Ok-ProcessTriggers-clause-answered
+returns-in-Ok-ProcessTriggers-clause-answered g c =
+    let asked : asked_of (map string_bytes c.args.words.now) ≡ Some (ProcessTriggers c.in-Ok-ProcessTriggers.asked) = search rules in
+    let ended = c.processed.ensures.ended in
     (work_answer ended.0, rw asked (inl (ended.0, ended.1, refl)), ended.2)
 
 pub returns-in-Ok-Remove-clause-answered : goal.returns-in-Ok-Remove-clause-answered
