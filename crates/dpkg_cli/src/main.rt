@@ -32,13 +32,12 @@ mod watched;
 use command_line::{FAILED, run_words};
 use directories::Directories;
 use dpkg_words::{
-    Gathered, OwnWords, Printed, Selected, Translated, selecting_words, speaks_dpkg, status_fd,
-    translate,
+    Gathered, OwnWords, Printed, Selected, Translated, selecting_words, speaks_dpkg, translate,
 };
 use fixed_lines::FixedLines;
 use gathering::archives_below;
 use host_files::{Disk, Unknown};
-use mask::{Masked, under_mask};
+use mask::{Masked, status_fd_before, status_fd_of, under_mask};
 use progress::{Beside, Going, Line, going_through};
 use standard_streams::fill_missing;
 use status_fd::StatusFd;
@@ -88,15 +87,17 @@ fn are_dpkgs(words: &[String]) -> bool
     }
 }
 
-// The frontend that dpkg's words name.
+// The frontend that dpkg's words name, these or those of the program that started this one anew.
 fn frontend_of(rt: &HostRuntime) -> StatusFd {
-    let alloc = rt.alloc();
+    if let Some(number) = status_fd_before(rt) {
+        return StatusFd::open(rt, number.as_str());
+    }
     match words_of(rt) {
-        Ok(words) if are_dpkgs(words.as_slice()) => match status_fd(words.as_slice()) {
+        Ok(words) => match status_fd_of(words.as_slice()) {
             Some(number) => StatusFd::open(rt, number),
-            None => StatusFd::none(alloc),
+            None => StatusFd::none(rt.alloc()),
         },
-        _ => StatusFd::none(alloc),
+        Err(_) => StatusFd::none(rt.alloc()),
     }
 }
 
