@@ -10,8 +10,9 @@
 //! `install` is a run of unpacks and then a configure of the packages whose unpack was done, each
 //! with those that were deconfigured for it, without those that a later candidate took away, with a
 //! report of each. `watch_triggers` and `activations` only look, and tell what trigger_watch says of
-//! the records and lists (`looks`); the session stays as it is, and open. An open session always knows its administration,
-//! records, lists and diversions (`ready`), and keeps the places of all listed paths (`opened`).
+//! the records and lists (`looks`); the session stays as it is, and open. An open session always
+//! knows its administration, records, lists and diversions (`ready`), and keeps the places of all
+//! listed paths (`opened`).
 //!
 //! An opening reads the aliases of the root behind the administration, and only looks for that: each
 //! listed path, each that a diversion names and those in the usual directories are followed to where
