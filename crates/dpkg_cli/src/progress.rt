@@ -80,6 +80,7 @@ fn going_of(alloc: Global, words: &[String]) -> Option<Going> {
         Ok(Asked::Remove(asked)) => names("removing", asked.names.as_slice().len()),
         Ok(Asked::Purge(asked)) => names("purging", asked.names.as_slice().len()),
         Ok(Asked::RemoveSelected(_)) => names("removing", 0),
+        Ok(Asked::ProcessTriggers(_)) => names("processing triggers of", 0),
         _ => None,
     }
 }
