@@ -3,7 +3,7 @@ use Rattle.std.specs.Prelude.{IsNone, is_some}
 use Rattle.unit_reports.specs.Held.{held_by}
 use Rattle.unit_reports.specs.declared.report.Unit.{Unit as AUnit}
 use Rattle.command_line.specs.Endings.{HasEnded}
-use Rattle.command_line.specs.Printing.{units_of}
+use Rattle.command_line.specs.Printing.{last_in, units_of}
 use Rattle.command_line.specs.Triggering.{HasTriggeredBehind, last_behind, touched_of}
 use Rattle.command_line.specs.declared.triggering.Triggering.{Triggering}
 use Rattle.command_line.proofs.unpacking.run_watched.Goals as goal
@@ -30,7 +30,7 @@ returns-clause-done g c =
       ran = c.in_ok-done.ensures.done;
       after = held_behind;
       behind = state;
-      triggered = subst (λ (t : Triggering). HasTriggeredBehind t c.args.watch.now _ touched came held_mid held_behind done state) c.triggering_for-triggering.ensures
+      triggered = subst (λ (t : Triggering). HasTriggeredBehind t c.args.watch.now (last_in c.in_ok-done.done) touched came held_mid held_behind done state) c.triggering_for-triggering.ensures
           (subst (λ (last : Option AUnit). HasTriggeredBehind c.triggering_for-triggering.result c.args.watch.now last touched came held_mid held_behind done state) c.last-last.ensures (c.trigger_behind-triggered.ensures.triggered touched c.touched_in-touched.ensures));
       ending = subst (λ (last : Option AUnit). HasEnded last behind.administration.database c.end-left.result state (g.S.Opened.Host.state c.end-left.new.session.host))
           (c.last_behind.ensures ∙ ap (λ (last : Option AUnit). last_behind last came) c.last-last.ensures) c.end-left.ensures;
