@@ -1,5 +1,5 @@
 -- What the processing of triggers carries over.
-use Rattle.std.proofs.Common.{◌≡◌, inl, ℕ, Bool, List, [], ◌∷◌, Option, Some, None, refl, sym, ap, subst}
+use Rattle.std.proofs.Common.{◌≡◌, inl, ℕ, Bool, List, [], Option, Some, None, refl, sym, ap, subst}
 use Rattle.std.specs.Prelude.{is_some, true, IfSome, IsTrue}
 use Rattle.host_core.specs.Host.{State, Since}
 use Rattle.host_core.proofs.Moments.{since_start}
@@ -7,7 +7,7 @@ use Rattle.status_records.specs.declared.record.Record.{Record}
 use Rattle.trigger_engine.specs.Stages.{AreTriggerStages}
 use Rattle.trigger_run.specs.Names.{once}
 use Rattle.trigger_run.specs.Run.{HasRun, IsAmidRun, IsTriggerRun}
-use Rattle.trigger_run.specs.Turns.{IsAmidNext, IsAmidTurn, IsBrokenNext, IsTurn, ProcessesTo}
+use Rattle.trigger_run.specs.Turns.{IsAmidNext, IsAmidTurn, IsTurn, ProcessesTo}
 use Rattle.trigger_run.specs.Units.{IsProcessing, IsUnitOf}
 use Rattle.unit_reports.specs.Held.{Held}
 use Rattle.unit_reports.specs.declared.report.Report.{Report}

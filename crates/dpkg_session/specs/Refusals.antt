@@ -1,6 +1,5 @@
 -- The refusals of an unpack, in the order in which they are looked for.
-use Rattle.std.specs.Prelude.{◌≡◌, not, ℕ, Bool, true, false, List, Option, Some, None, cond}
-use Rattle.std.specs.Option.{option_map_or}
+use Rattle.std.specs.Prelude.{◌≡◌, not, ℕ, Bool, List, Option, Some, None, cond}
 use Rattle.std.specs.List.{find}
 use Rattle.std.specs.Cmp.Lexicographic.{slice_cmp}
 use Rattle.std.specs.Ordering.{nat_cmp, is_lt}
@@ -9,11 +8,9 @@ use Rattle.aliases.specs.Aliases.{resolved}
 use Rattle.host_core.specs.Paths.{Path}
 use Rattle.diversions.specs.Ways.{place, Ways}
 use Rattle.package_tree.specs.declared.package.Package.{Package}
-use Rattle.status_records.specs.Records.{record_in}
-use Rattle.status_records.specs.Triggers.{has_triggers}
 use Rattle.status_records.specs.declared.record.Record.{Record}
 use Rattle.unit_reports.specs.Held.{Held}
-use Rattle.unit_reports.specs.declared.refusal.Rule.TheVariants.{ConffileDiverted, TriggerState}
+use Rattle.unit_reports.specs.declared.refusal.Rule.TheVariants.{ConffileDiverted}
 use Rattle.unpack_relations.specs.Checks.{IsChecked}
 use Rattle.unpack_relations.specs.declared.checking.Checked.{Checked}
 use Rattle.unpack_relations.specs.declared.checking.Checked.TheVariants.{Refused}
@@ -41,19 +38,9 @@ abbrev pub IsDecisionBy : Option Path → Package → Bool → List Record → C
 IsDecisionBy (Some path) p auto_deconfigure records decision = decision ≡ Refused (ConffileDiverted path)
 IsDecisionBy None p auto_deconfigure records decision = IsChecked records p auto_deconfigure decision
 
--- the record of this name has triggers
-abbrev pub is_triggered : List Record → List ℕ → Bool
-is_triggered records name = option_map_or (λ r. has_triggers r.triggers) (record_in records name) false
-
--- a package with triggers is refused before anything else is looked at
-abbrev pub IsDecisionBeside : Bool → Option Path → Package → Bool → List Record → Checked → Type 0
-IsDecisionBeside true away p auto_deconfigure records decision = decision ≡ Refused TriggerState
-IsDecisionBeside false away p auto_deconfigure records decision = IsDecisionBy away p auto_deconfigure records decision
-
 -- the first rule that refuses a package, or what its unpack does to other packages, which are deconfigured only by leave
 abbrev pub IsDecisionOf : Package → Bool → List Record → Ways → Checked → Type 0
-IsDecisionOf p auto_deconfigure records ways decision =
-    IsDecisionBeside (is_triggered records p.name) (conffile_away ways p) p auto_deconfigure records decision
+IsDecisionOf p auto_deconfigure records ways decision = IsDecisionBy (conffile_away ways p) p auto_deconfigure records decision
 
 -- the same by what is held
 abbrev pub IsDecisionFor : Package → Bool → Held → Checked → Type 0

@@ -2,12 +2,17 @@
 //!
 //! # What is proved
 //!
-//! `Session::open`, `run`, `install`, `configure`, `remove`, `purge` and `into_host`. `configure`,
-//! `remove` and `purge` have the clauses of `run`, with the units of configure_run and removal_run
-//! in the place of the unpacks; `install` is a run of unpacks and then a configure of the packages
-//! whose unpack was done, each with those that were deconfigured for it, without those that a later
-//! candidate took away, with a report of each. An open session always knows its administration,
-//! records, lists and diversions (`ready`), and keeps the places of all listed paths (`opened`).
+//! `Session::open`, `run`, `install`, `configure`, `remove`, `purge`, `remove_selected`, `change`,
+//! `process_triggers` and `into_host`. `configure`, `remove`, `purge` and `remove_selected` (what
+//! the records want to go) have the clauses of `run`, with the units of configure_run and
+//! removal_run in the place of the unpacks, and so have `change`, with those of record_changes, and
+//! `process_triggers`, with those of trigger_run for all packages with triggers to process;
+//! `install` is a run of unpacks and then a configure of the packages whose unpack was done, each
+//! with those that were deconfigured for it, without those that a later candidate took away, with a
+//! report of each. `watch_triggers` and `activations` only look, and tell what trigger_watch says of
+//! the records and lists (`looks`); the session stays as it is, and open. An open session always
+//! knows its administration, records, lists and diversions (`ready`), and keeps the places of all
+//! listed paths (`opened`).
 //!
 //! An opening reads the aliases of the root behind the administration, and only looks for that: each
 //! listed path, each that a diversion names and those in the usual directories are followed to where

@@ -89,11 +89,13 @@ fn process_pending<H: Host, W: Watcher>(
     requires open { IsOpen diversions.now.ways administration.old }
     requires indexed { IfSome administration.old.packages
         (ArePackagesOf administration.old.database.records) }
-    ensures whole { IsNone result.last → IsTriggerRun (pending_names administration.old.database.records) result.units.items
-        (held_by administration.old diversions.now) (held_by administration.new diversions.now)
+    ensures whole { IsNone result.last
+        → IsTriggerRun (pending_names administration.old.database.records)
+        result.units.items (held_by administration.old diversions.now)
+        (held_by administration.new diversions.now) (H.state host.old) (H.state host.new) }
+    ensures part { HasRun (pending_names administration.old.database.records)
+        result.units.items result.last (held_by administration.old diversions.now)
         (H.state host.old) (H.state host.new) }
-    ensures part { HasRun (pending_names administration.old.database.records) result.units.items result.last
-        (held_by administration.old diversions.now) (H.state host.old) (H.state host.new) }
     ensures told { TellsCalls (H.state host.old) (H.state host.new) result }
     ensures any_moment { Since (IsAmidRun (pending_names administration.old.database.records)
         (held_by administration.old diversions.now) (H.state host.old)) (H.state host.old)
@@ -120,12 +122,13 @@ impl<H: Host> Session<H> {
     /// with their names. Each unit is told as it is finished; one that is broken off closes the session.
     pub fn process_triggers<W: Watcher>(&mut self, watcher: &mut W) -> Report
         ensures whole { self.old.closed ≡ false → IsNone result.last
-            → IsTriggerRun (pending_names self.old.administration.database.records) result.units.items
-            (held_by self.old.administration self.old.diversions)
+            → IsTriggerRun (pending_names self.old.administration.database.records)
+            result.units.items (held_by self.old.administration self.old.diversions)
             (held_by self.new.administration self.new.diversions) (H.state self.old.host)
             (H.state self.new.host) }
-        ensures part { self.old.closed ≡ false → HasRun (pending_names self.old.administration.database.records) result.units.items
-            result.last (held_by self.old.administration self.old.diversions)
+        ensures part { self.old.closed ≡ false
+            → HasRun (pending_names self.old.administration.database.records)
+            result.units.items result.last (held_by self.old.administration self.old.diversions)
             (H.state self.old.host) (H.state self.new.host) }
         ensures told { TellsCalls (H.state self.old.host) (H.state self.new.host) result }
         ensures any_moment { self.old.closed ≡ false

@@ -3,13 +3,12 @@ ghost use Rattle.std.specs.Prelude.{◌≡◌, List, IfOk, option_copied};
 ghost use Rattle.recorded_packages.specs.Packages.{ArePackagesOf};
 ghost use Rattle.status_records.specs.declared.record.Record.{Record};
 ghost use Rattle.unpack_relations.specs.Checks.{AreBesideApart};
-ghost use Rattle.dpkg_session.specs.Refusals.{IsDecisionBy, IsDecisionOf, is_triggered, conffile_away, first_away, first_of, is_away};
+ghost use Rattle.dpkg_session.specs.Refusals.{IsDecisionOf, conffile_away, first_away, first_of, is_away};
 
 use diversions::Diversions;
 use host_core::ShipPath;
 use package_tree::Package;
 use relation_index::Packages;
-use status_db::NotedDatabase;
 use std::alloc::{AllocError, Global};
 use texts::Text;
 use unit_reports::Rule;
@@ -67,19 +66,9 @@ fn conffile_away<'a>(
     Ok(first_of(shipped, flagged))
 }
 
-// Whether the record of this name has triggers.
-fn is_triggered(database: &NotedDatabase, name: &Text) -> bool
-    ensures { result ≡ is_triggered database.now.records name.now }
-{
-    match database.get(name) {
-        Some(entry) => entry.triggers.are_some(),
-        None => false,
-    }
-}
-
-// The rule that refuses a package without triggers, a diverted conffile or else one of relations between packages; or what its
+// The first rule that refuses a package, a diverted conffile or else one of relations between packages; or what its
 // unpack does to other packages.
-fn decision_by(
+pub(crate) fn decision_of(
     alloc: Global,
     incoming: &Package,
     packages: &Packages,
@@ -87,8 +76,8 @@ fn decision_by(
     auto_deconfigure: bool,
 ) -> Result<Checked, AllocError>
     ensures decided { IfOk result (λ checked. (records : List Record)
-        → ArePackagesOf records packages.now → IsDecisionBy (conffile_away diversions.now.ways
-        incoming.now) incoming.now auto_deconfigure records checked) }
+        → ArePackagesOf records packages.now → IsDecisionOf incoming.now auto_deconfigure records
+        diversions.now.ways checked) }
     ensures apart { IfOk result (λ checked. (records : List Record)
         → ArePackagesOf records packages.now → AreBesideApart incoming.now.name records checked) }
 {
@@ -97,24 +86,4 @@ fn decision_by(
     }
     let checked = check(alloc, packages, incoming, auto_deconfigure)?;
     Ok(checked)
-}
-
-// The first rule that refuses a package, its triggers before all others; or what its unpack does to other packages.
-pub(crate) fn decision_of(
-    alloc: Global,
-    incoming: &Package,
-    database: &NotedDatabase,
-    packages: &Packages,
-    diversions: &Diversions,
-    auto_deconfigure: bool,
-) -> Result<Checked, AllocError>
-    requires { ArePackagesOf database.now.records packages.now }
-    ensures decided { IfOk result (IsDecisionOf incoming.now auto_deconfigure database.now.records
-        diversions.now.ways) }
-    ensures apart { IfOk result (AreBesideApart incoming.now.name database.now.records) }
-{
-    if is_triggered(database, &incoming.name) {
-        return Ok(Checked::Refused(Rule::TriggerState));
-    }
-    decision_by(alloc, incoming, packages, diversions, auto_deconfigure)
 }

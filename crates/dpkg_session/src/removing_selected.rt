@@ -35,14 +35,16 @@ fn remove_going<H: Host, W: Watcher>(
     requires open { IsOpen diversions.now.ways administration.old }
     requires indexed { IfSome administration.old.packages
         (ArePackagesOf administration.old.database.records) }
-    ensures whole { IsNone result.last → IsRemovalRun (selected_names administration.old.database.records) Selected result.units.items
-        (held_by administration.old diversions.now) (held_by administration.new diversions.now)
+    ensures whole { IsNone result.last
+        → IsRemovalRun (selected_names administration.old.database.records) Selected
+        result.units.items (held_by administration.old diversions.now)
+        (held_by administration.new diversions.now) (H.state host.old) (H.state host.new) }
+    ensures part { HasRun (selected_names administration.old.database.records) Selected
+        result.units.items result.last (held_by administration.old diversions.now)
         (H.state host.old) (H.state host.new) }
-    ensures part { HasRun (selected_names administration.old.database.records) Selected result.units.items result.last
-        (held_by administration.old diversions.now) (H.state host.old) (H.state host.new) }
     ensures told { TellsCalls (H.state host.old) (H.state host.new) result }
-    ensures any_moment { Since (IsAmidRun (selected_names administration.old.database.records) Selected
-        (held_by administration.old diversions.now) (H.state host.old)) (H.state host.old)
+    ensures any_moment { Since (IsAmidRun (selected_names administration.old.database.records)
+        Selected (held_by administration.old diversions.now) (H.state host.old)) (H.state host.old)
         (H.state host.new) }
     ensures counts { CountsLast (H.state host.old) (H.state host.new) result.last }
     ensures not_closed { IfSome result.last (λ unit. IsBrokenBy Closed unit.reply → ⊥) }
@@ -74,12 +76,13 @@ impl<H: Host> Session<H> {
     /// off closes the session.
     pub fn remove_selected<W: Watcher>(&mut self, watcher: &mut W) -> Report
         ensures whole { self.old.closed ≡ false → IsNone result.last
-            → IsRemovalRun (selected_names self.old.administration.database.records) Selected result.units.items
-            (held_by self.old.administration self.old.diversions)
+            → IsRemovalRun (selected_names self.old.administration.database.records) Selected
+            result.units.items (held_by self.old.administration self.old.diversions)
             (held_by self.new.administration self.new.diversions) (H.state self.old.host)
             (H.state self.new.host) }
-        ensures part { self.old.closed ≡ false → HasRun (selected_names self.old.administration.database.records) Selected result.units.items
-            result.last (held_by self.old.administration self.old.diversions)
+        ensures part { self.old.closed ≡ false
+            → HasRun (selected_names self.old.administration.database.records) Selected
+            result.units.items result.last (held_by self.old.administration self.old.diversions)
             (H.state self.old.host) (H.state self.new.host) }
         ensures told { TellsCalls (H.state self.old.host) (H.state self.new.host) result }
         ensures any_moment { self.old.closed ≡ false
@@ -87,8 +90,8 @@ impl<H: Host> Session<H> {
             (held_by self.old.administration self.old.diversions) (H.state self.old.host))
             (H.state self.old.host) (H.state self.new.host) }
         ensures loss { self.old.closed ≡ false
-            → LosesLikeAStop (IsAmidRun (selected_names self.old.administration.database.records) Selected
-            (held_by self.old.administration self.old.diversions) (H.state self.old.host))
+            → LosesLikeAStop (IsAmidRun (selected_names self.old.administration.database.records)
+            Selected (held_by self.old.administration self.old.diversions) (H.state self.old.host))
             (H.state self.old.host) (H.state self.new.host) }
         ensures stands { self.old.closed ≡ false → IsNone result.last
             → StandsOnceAnswered (H.state self.old.host) (H.state self.new.host) }

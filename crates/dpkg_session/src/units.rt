@@ -235,14 +235,7 @@ fn decide_and_unpack<H: Host>(
     ensures not_closed { IsBrokenBy Closed result.reply → ⊥ }
 {
     let alloc = administration.alloc;
-    match decision_of(
-        alloc,
-        &incoming,
-        &administration.database,
-        packages,
-        diversions,
-        auto_deconfigure,
-    ) {
+    match decision_of(alloc, &incoming, packages, diversions, auto_deconfigure) {
         Ok(Checked::Refused(rule)) => {
             return refused(alloc, rule, incoming.name);
         }

@@ -22,6 +22,7 @@ abbrev pub has_name : List ℕ → List ℕ → Bool
 has_name text [] = true
 has_name text (b ∷ bs) = list_any (bytes_eq (b ∷ bs)) (words_of text)
 
+-- a name behind those of a text, with a space between
 abbrev pub behind : List ℕ → List ℕ → List ℕ
 behind [] name = name
 behind (b ∷ bs) name = (b ∷ bs) ++ codes " " ++ name
@@ -44,6 +45,7 @@ pending_text (Some text) = text
 abbrev pub with_pending : List ℕ → Triggers → Triggers
 with_pending names t = record { pending = Some (with_names (pending_text t.pending) (words_of names)); awaited = t.awaited }
 
+-- an activated record has a version last configured beside its own where it had one
 pub still_one_version : (s : State) (names : List ℕ) (t : Triggers) (last : Bool) → is_configured s t && last ≡ false → is_configured s (triggers_beside s (with_pending names t)) && last ≡ false
 still_one_version state.NotInstalled names t last e = refl
 still_one_version state.ConfigFiles names t last e = refl

@@ -14,7 +14,7 @@ pub mod Units
 pub mod Behind
 pub mod Sounds
 pub mod Turns
-mod Selections
+mod Changes
 mod Triggers
 pub mod Sessions
 pub mod Diverts

@@ -1,5 +1,5 @@
 -- Triggers that are processed, of one package after another: the next opening can read all at each moment.
-use Rattle.std.proofs.Common.{◌≡◌, inl, inr, ℕ, Bool, true, List, [], ◌∷◌, Option, refl, sym, subst}
+use Rattle.std.proofs.Common.{◌≡◌, inl, inr, ℕ, Bool, List, [], Option, refl, sym, subst}
 use Rattle.host_core.specs.Events.{Event}
 use Rattle.host_core.specs.Host.{State}
 use Rattle.host_core.proofs.Moments.{since_weaker_if}

@@ -20,10 +20,10 @@ ghost use Rattle.host_core.specs.World.{Avoids, World};
 ghost use Rattle.opening.specs.Parts.{parts, IsFirstFault};
 ghost use Rattle.opening.specs.TakenUp.{IsOpeningOrAdopting};
 ghost use Rattle.opening.specs.Undamaged.{IsUndamaged};
+ghost use Rattle.record_changes.specs.Run.{HasRun as HasChanged};
+ghost use Rattle.record_changes.specs.declared.change.RecordChange.{RecordChange as ARecordChange};
 ghost use Rattle.removal_run.specs.Run.{HasRun as HasRemoved};
 ghost use Rattle.removal_run.specs.declared.extents.Extents.{Extents as AnExtents};
-ghost use Rattle.selection_run.specs.Run.{HasRun as HasSelected};
-ghost use Rattle.selection_run.specs.declared.selection.Selection.{Selection as ASelection};
 ghost use Rattle.trigger_run.specs.Run.{HasRun as HasProcessed};
 ghost use Rattle.status_db.specs.Held.{AreKept, IsTableOf};
 ghost use Rattle.status_db.specs.Noting.{IsMerging};
@@ -73,11 +73,11 @@ pub fn a_removal_can_be_opened_amid()
         names extents us last before s t → CanBeOpenedAmid s t }
 {}
 
-/// At each moment while it is recorded what is wanted of packages, likewise.
-pub fn a_selection_can_be_opened_amid()
-    ensures { (selections : List ASelection) (us : List AUnit) (last : Option AUnit)
-        (before : Held) (s t : State) → FindsStanding before s → HasSelected
-        selections us last before s t → CanBeOpenedAmid s t }
+/// At each moment while records are changed, likewise.
+pub fn a_change_can_be_opened_amid()
+    ensures { (changes : List ARecordChange) (us : List AUnit) (last : Option AUnit)
+        (before : Held) (s t : State) → FindsStanding before s → HasChanged
+        changes us last before s t → CanBeOpenedAmid s t }
 {}
 
 /// At each moment while triggers are processed, likewise.

@@ -5,7 +5,7 @@
 //! Laws of what the next opening finds. From an administration that stands (`FindsStanding`: what
 //! `Session::open` answers, and `history_stands` keeps) it can be opened (`CanBeOpened`) at each
 //! moment of an unpack and an install (`an_unpack_can_be_opened_amid`), a configure, a removal or a
-//! purge, while it is recorded what is wanted of packages, while triggers are processed, while a diversion is added or taken away, and while notes are merged at a command's end
+//! purge, while records are changed, while triggers are processed, while a diversion is added or taken away, and while notes are merged at a command's end
 //! (`a_checkpoint_can_be_opened_amid`; behind that the status file alone has all records): the records with their notes, the lists and
 //! stored scripts of all recorded packages and the diversions can be read, and what lies in
 //! `tmp.ci` can be taken away. They begin from the clause `part` of each command, since what its
@@ -27,9 +27,9 @@ mod laws;
 mod tree_texts;
 
 pub use laws::{
-    a_checkpoint_can_be_opened_amid, a_configure_can_be_opened_amid,
+    a_change_can_be_opened_amid, a_checkpoint_can_be_opened_amid, a_configure_can_be_opened_amid,
     a_diversion_can_be_opened_amid, a_loss_can_be_opened, a_removal_can_be_opened_amid,
-    a_selection_can_be_opened_amid, an_opening_can_be_opened_amid, an_unpack_can_be_opened_amid,
-    triggers_can_be_opened_amid, what_can_be_opened_is_undamaged,
+    an_opening_can_be_opened_amid, an_unpack_can_be_opened_amid, triggers_can_be_opened_amid,
+    what_can_be_opened_is_undamaged,
 };
 pub use tree_texts::ships_texts;

@@ -37,7 +37,7 @@ packages_of interests = each_once (map (λ interest. interest.«package») inter
 abbrev pub names_for : List Interest → List ℕ → List (List ℕ)
 names_for interests owner = each_once (map (λ interest. interest.name) (filter (λ interest. bytes_eq interest.«package» owner) interests))
 
--- what is activated of a package, as the text of a field; a text that no field can have (no file declares such names) activates nothing
+-- what is activated of a package, as the text of a field; a text that no field can have activates nothing, and none of what was watched comes to one (laws: `each_is_told`)
 abbrev pub activation : List Interest → List ℕ → List Activation
 activation interests owner =
     let text = spaced (names_for interests owner) in

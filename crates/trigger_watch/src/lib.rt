@@ -8,14 +8,16 @@
 //! its list hit, where files count, and those that it activates by itself. `activations` tells, by
 //! what was told then and what the touched packages hit now, which interests of other packages are
 //! activated: of each of these packages once, in the order of the interests, the names, each once
-//! (`activations_of`).
+//! (`activations_of`). Of what was watched no such package is passed over (`each_is_told`).
 #![tactic(auto)]
 
 mod activating;
 mod hits;
+mod laws;
 mod names;
 mod watching;
 
 pub use activating::{Activation, activations};
 pub use hits::Hits;
+pub use laws::each_is_told;
 pub use watching::{TriggerWatch, watch};

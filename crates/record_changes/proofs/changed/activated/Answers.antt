@@ -1,7 +1,5 @@
-use Rattle.std.proofs.Common.{◌≡◌, ◌∙◌, Bool, true, false, refl, subst, sym, ap}
+use Rattle.std.proofs.Common.{◌∙◌, sym, ap}
 use Rattle.status_records.proofs.SameRecords.{same_record}
-use Rattle.status_records.specs.Triggers.{triggers_beside}
-use Rattle.status_records.specs.Words.{is_installed}
 use Rattle.status_records.specs.declared.record.Record.{Record}
 use Rattle.record_changes.specs.Activated.{with_pending}
 use Rattle.record_changes.proofs.Changing.{installed_keeps}

@@ -1,4 +1,4 @@
-use Rattle.std.proofs.Common.{◌≡◌, ◌∙◌, ◌<◌, ◌+◌, ℕ, List, [], ◌∷◌, ◌++◌, Bor, length, map, take, get_or, sym, ap, arith}
+use Rattle.std.proofs.Common.{◌≡◌, ◌∙◌, ◌<◌, ◌+◌, ℕ, List, [], ◌∷◌, Bor, length, map, take, get_or, sym, ap}
 use Rattle.std.proofs.lemmas.List.{map-append, take_all, take_more}
 use Rattle.record_changes.specs.Activated.{with_name, with_names}
 use Rattle.record_changes.proofs.Names.{with_more}

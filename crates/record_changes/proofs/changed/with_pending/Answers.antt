@@ -1,9 +1,8 @@
-use Rattle.std.proofs.Common.{◌≡◌, ◌∙◌, ℕ, List, Bool, true, false, Option, Some, None, subst, sym, ap}
+use Rattle.std.proofs.Common.{◌≡◌, ◌∙◌, ℕ, List, true, false, Option, Some, None, subst, sym, ap}
 use Rattle.std.specs.Prelude.{MatchOption}
 use Rattle.std.proofs.lemmas.Bool.{true≢false}
 use Rattle.status_records.specs.TriggerNames.{are_trigger_names}
-use Rattle.status_records.specs.declared.triggers.Triggers.{Triggers}
-use Rattle.record_changes.specs.Activated.{pending_text, with_names, with_pending, words_of}
+use Rattle.record_changes.specs.Activated.{pending_text, with_names, words_of}
 use Rattle.record_changes.proofs.Names.{AreNames, all_names}
 use Rattle.record_changes.proofs.changed.with_pending.Goals as goal
 

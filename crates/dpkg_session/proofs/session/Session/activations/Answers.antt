@@ -1,10 +1,10 @@
-use Rattle.dpkg_session.proofs.Looked.{standing_looked}
 use Rattle.unit_reports.specs.Held.{held_by}
+use Rattle.dpkg_session.proofs.Looked.{standing_looked}
 use Rattle.dpkg_session.proofs.session.Session.activations.Goals as goal
 
 pub invariant_of-self : goal.invariant_of-self
 invariant_of-self g c = record {
-  ready = λ open_still. standing_looked _ _ _ _ c.activations.ensures (c.args.self.now.ready c.requires);
+  ready = λ open_still. standing_looked (held_by c.args.self.now.administration c.args.self.now.diversions) _ _ c.activations.ensures.looks.reads (c.args.self.now.ready c.requires);
   opened = λ open_still. c.args.self.now.opened c.requires;
   indexed = λ open_still. c.args.self.now.indexed c.requires;
   writable = λ open_still. c.args.self.now.writable c.requires;

@@ -1,4 +1,4 @@
--- Selections, one after another: the next opening can read all at each moment.
+-- Changes of records, one after another: the next opening can read all at each moment.
 use Rattle.std.proofs.Common.{◌≡◌, ◌⊎◌, inl, inr, ℕ, Bool, true, false, cond, List, [], ◌∷◌, Option, Some, None, sym, ap, subst, ◌∙◌}
 use Rattle.std.specs.Str.{bytes_eq}
 use Rattle.host_core.specs.Events.{Event}
@@ -8,13 +8,15 @@ use Rattle.host_core.specs.World.{World, KeepsBut}
 use Rattle.diversions.specs.Ways.{Ways}
 use Rattle.file_lists.specs.Info.{AreLoose}
 use Rattle.held_administration.specs.Order.{record_names}
-use Rattle.selection_run.specs.Run.{HasRun}
-use Rattle.selection_run.specs.Turns.{IsAmidTurn, IsTurn}
-use Rattle.selection_run.specs.Units.{IsAmidSelection, IsSelection, entry_of, recorded}
-use Rattle.selection_run.specs.declared.selection.Selection.{Selection}
+use Rattle.record_changes.specs.Activated.{changed}
+use Rattle.record_changes.specs.Run.{HasRun}
+use Rattle.record_changes.specs.Turns.{IsAmidTurn, IsTurn}
+use Rattle.record_changes.specs.Units.{IsAmidChange, IsChange, entry_of, recorded}
+use Rattle.record_changes.specs.declared.change.Change.{Change}
+use Rattle.record_changes.specs.declared.change.Change.TheVariants.{Want, Activate}
+use Rattle.record_changes.specs.declared.change.RecordChange.{RecordChange}
 use Rattle.status_db.specs.Held.{HasRecords, is_record_place}
 use Rattle.status_records.specs.Records.{record_in}
-use Rattle.status_records.specs.Standings.{wanting}
 use Rattle.status_records.specs.declared.record.Record.{Record}
 use Rattle.unit_reports.specs.Held.{Held}
 use Rattle.unit_reports.specs.declared.report.Unit.{Unit as AUnit}
@@ -38,7 +40,12 @@ found_one names (x ∷ rs) name r all found = by (bytes_eq x.name name) (found_o
     by true rest is = subst (IsOneOf names) (ap (or_record x) is) all.0
     by false rest is = rest is
 
-module _ (asked : Selection) (before : Held) (old now : World) (sound : IsSound before old) where
+-- a changed record stands under its name
+changed_one : (names : List (List ℕ)) (change : Change) (r : Record) → IsOneOf names r → IsOneOf names (changed change r)
+changed_one names (Want want) r one = record { stands = one.stands; named = one.named }
+changed_one names (Activate triggers) r one = record { stands = one.stands; named = one.named }
+
+module _ (asked : RecordChange) (before : Held) (old now : World) (sound : IsSound before old) where
   abbrev names : List (List ℕ)
   names = record_names before.records.records
 
@@ -51,11 +58,11 @@ module _ (asked : Selection) (before : Held) (old now : World) (sound : IsSound 
   recorded_of r found =
       let own = of_own before.records.records sound.standing in
       let one = found_one names before.records.records asked.name r own found in
-      of_put names (wanting asked.want r) before.records.records (record { stands = one.stands; named = one.named }) own
+      of_put names (changed asked.change r) before.records.records (changed_one names asked.change r one) own
 
-  selection_opens : (so_far : List Event) → IsAmidSelection asked before old so_far now → CanBeOpened now
-  selection_opens so_far (inl still) = still_opens before old now sound still.same
-  selection_opens so_far (inr is) = by is.noting.records
+  change_opens : (so_far : List Event) → IsAmidChange asked before old so_far now → CanBeOpened now
+  change_opens so_far (inl still) = still_opens before old now sound still.same
+  change_opens so_far (inr is) = by is.noting.records
     where
       loose : AreLoose now
       loose = noting_loose before.records before.lists old sound.order (recorded asked is.r before.records.records) now is.noting
@@ -64,10 +71,10 @@ module _ (asked : Selection) (before : Held) (old now : World) (sound : IsSound 
       by (inl has) = held_opens names before.ways before.records.records now (held_since before.records.records (of_own before.records.records sound.standing) is.noting.rest has) is.noting.opens loose
       by (inr has) = held_opens names before.ways (recorded asked is.r before.records.records) now (held_since (recorded asked is.r before.records.records) (recorded_of is.r is.found) is.noting.rest has) is.noting.opens loose
 
-selection_goes : (asked : Selection) (before after : Held) (u : AUnit) (s t : State) → IsSelection asked before after u s t → Goes before after s t
-selection_goes asked before after u s t (IsSelection.unknown none refused alone) = goes_same before after s t alone.held alone.here
-selection_goes asked before after u s t (IsSelection.wanted r found same done alone) = goes_same before after s t alone.held alone.here
-selection_goes asked before after u s t (IsSelection.changed r found other done is) = record {
+change_goes : (asked : RecordChange) (before after : Held) (u : AUnit) (s t : State) → IsChange asked before after u s t → Goes before after s t
+change_goes asked before after u s t (IsChange.unknown none refused alone) = goes_same before after s t alone.held alone.here
+change_goes asked before after u s t (IsChange.made r found same done alone) = goes_same before after s t alone.held alone.here
+change_goes asked before after u s t (IsChange.noted r found other done is) = record {
   falls = is.silent.honest;
   sound = λ h sound. (let there = is.order h in
       let records = before.records.records in
@@ -76,14 +83,14 @@ selection_goes asked before after u s t (IsSelection.changed r found other done 
       (subst (λ (l : Ways). IsHeld (record_names records) l after.records.records t.world) (sym is.ways) (subst (λ (rs : List Record). IsHeld (record_names records) before.ways rs t.world) (sym is.records) held)) there);
 }
 
-turn_runs : (left : List Selection) (before : Held) (u : AUnit) (later : List Selection) (after : Held) (s t : State) → IsTurn left before u later after s t → Runs before after s t
+turn_runs : (left : List RecordChange) (before : Held) (u : AUnit) (later : List RecordChange) (after : Held) (s t : State) → IsTurn left before u later after s t → Runs before after s t
 turn_runs left before u later after s t turn = record {
-  goes = selection_goes turn.asked before after u s t turn.is;
-  opened = λ sound. since_weaker_if _ _ s t (λ h so_far now amid. selection_opens turn.asked before s.world now (sound (turn.moments.honest h)) so_far amid) turn.moments;
+  goes = change_goes turn.asked before after u s t turn.is;
+  opened = λ sound. since_weaker_if _ _ s t (λ h so_far now amid. change_opens turn.asked before s.world now (sound (turn.moments.honest h)) so_far amid) turn.moments;
 }
 
-next_opens : (left later : List Selection) (before : Held) (old : World) (so_far : List Event) (now : World) → IsSound before old → IsAmidTurn left later before old so_far now → CanBeOpened now
-next_opens left later before old so_far now sound next = selection_opens next.0 before old now sound so_far next.3
+next_opens : (left later : List RecordChange) (before : Held) (old : World) (so_far : List Event) (now : World) → IsSound before old → IsAmidTurn left later before old so_far now → CanBeOpened now
+next_opens left later before old so_far now sound next = change_opens next.0 before old now sound so_far next.3
 
-pub selection_ends : (selections : List Selection) (us : List AUnit) (last : Option AUnit) (before : Held) (s t : State) → HasRun selections us last before s t → Ends before s t
-selection_ends selections us last before s t has = turns_end IsTurn turn_runs IsAmidTurn next_opens selections has.left has.left before has.after s has.end t us has.turns has.since
+pub changes_end : (changes : List RecordChange) (us : List AUnit) (last : Option AUnit) (before : Held) (s t : State) → HasRun changes us last before s t → Ends before s t
+changes_end changes us last before s t has = turns_end IsTurn turn_runs IsAmidTurn next_opens changes has.left has.left before has.after s has.end t us has.turns has.since
