@@ -3,7 +3,8 @@
 //! # What is proved
 //!
 //! `command_of` gives the command of the words, with its texts and flags, exactly where clap
-//! accepts them and they are no usage fault (`asked`, `usage`): confold with confnew is one; a flag
+//! accepts them and they are no usage fault (`asked`, `usage`): confold with confnew is one, and so is
+//! `--triggers-only` beside a package or `--no-triggers`; a flag
 //! for help or the version asks for that, whatever else the words are (`flagged`); behind a usage
 //! fault stands the screen of the subcommand that the words name (`screen`); `rehearsal_of` tells
 //! whether the command is only rehearsed, which calls are assumed to fail then, and whether changed
