@@ -12,4 +12,5 @@ mod Rehearsed
 mod Compared
 mod Verified
 mod ChangedPaths
+mod Behind
 pub mod Told

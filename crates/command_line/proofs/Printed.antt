@@ -27,11 +27,13 @@ use Rattle.command_line.specs.Endings.{with_notes}
 use Rattle.command_line.specs.Printing.{AppendsFront, AppendsPart, AreRoundsTold, AreTold, HasPrinted, IsDoneTold, IsLeft, Prints, last_in, last_of_round, last_of_rounds, output_left, units_answer, units_of, units_of_round}
 use Rattle.command_line.specs.Reports.{IsGiven, IsGivenInPart, bad_answer, comparison_answer, done_answer, memory_answer, round_lines, rounds_status, wanting_answer}
 use Rattle.command_line.specs.Roots.{Around}
-use Rattle.command_line.specs.Unpacks.{HasInstalledRounds, HasRunTrees}
+use Rattle.command_line.specs.Triggering.{AreAllTold, AreTriggersTold, units_behind}
+use Rattle.command_line.specs.Unpacks.{HasInstalledRounds, HasRunTrees, IsAllTold}
 use Rattle.command_line.specs.declared.answer.Answer.{Answer}
 use Rattle.command_line.specs.declared.answer.Left.{Left}
 use Rattle.command_line.specs.declared.printing.Flow.{Flow}
 use Rattle.command_line.specs.declared.ending.Ended.{Ended}
+use Rattle.command_line.specs.declared.triggering.Triggered.{Triggered}
 use Rattle.command_line.specs.declared.unpacking.Done.{Done}
 use Rattle.command_line.specs.declared.unpacking.Done.TheVariants as done
 use Rattle.command_line.specs.declared.printing.Flow.TheVariants as flow
@@ -73,11 +75,27 @@ module _ {W : Type 0} (tells : W → AUnit → State → W → Type 0) (flow_of 
   pub printed_all : (us : List AUnit) (old new : W) → flow_of old ≡ flow.Whole → AreTold tells old us new → HasPrinted (flat_map unit_lines us) (flow_of new) (held old) (held new)
   printed_all us old new whole told = printed_on told.0 [] us [] (held old) old new (subst (λ f. HasPrinted [] f (held old) (held old)) (sym whole) (appends_nothing (held old))) told.1
 
+  -- those of more units behind some
+  printed_behind : (us more : List AUnit) (first : Option (List ℕ)) (mid new : W) → HasPrinted (flat_map unit_lines us) (flow_of mid) first (held mid) → AreTold tells mid more new → HasPrinted (flat_map unit_lines (us ++ more)) (flow_of new) first (held new)
+  printed_behind us more first mid new so_far (s, told) =
+      subst (λ (l : List ℕ). HasPrinted l (flow_of new) first (held new)) (sym (flat_map-append unit_lines us more)) (printed_on s [] more (flat_map unit_lines us) first mid new so_far told)
+
+  printed_triggers : (us : List AUnit) (came : Triggered) (first : Option (List ℕ)) (old new : W) → HasPrinted (flat_map unit_lines us) (flow_of old) first (held old) → AreTriggersTold tells old came new
+      → HasPrinted (flat_map unit_lines (us ++ units_behind came)) (flow_of new) first (held new)
+  printed_triggers us came first old new so_far (mid, noted, processed) =
+      let nu = came.noted.units.items in
+      let pu = came.processed.units.items in
+      subst (λ (l : List AUnit). HasPrinted (flat_map unit_lines l) (flow_of new) first (held new)) (append_assoc us nu pu)
+      (printed_behind (us ++ nu) pu first mid new (printed_behind us nu first old mid so_far noted) processed)
+
+  printed_ended : (us : List AUnit) (came : Triggered) (old new : W) → flow_of old ≡ flow.Whole → AreAllTold tells old us came new → HasPrinted (flat_map unit_lines (us ++ units_behind came)) (flow_of new) (held old) (held new)
+  printed_ended us came old new whole (mid, told, behind) = printed_triggers us came (held old) mid new (printed_all us old mid whole told) behind
+
   -- where there is a result
-  pub printed_result : {T E : Type 0} (result : Result T E) (units : T → List AUnit) (old new : W) → flow_of old ≡ flow.Whole → IfOk result (λ done. AreTold tells old (units done) new)
-      → IfOk result (λ done. HasPrinted (flat_map unit_lines (units done)) (flow_of new) (held old) (held new))
-  printed_result (Ok done) units old new whole told = printed_all (units done) old new whole told
-  printed_result (Err e) units old new whole told = tt
+  pub printed_work : {E : Type 0} (result : Result (Ended Report) E) (old new : W) → flow_of old ≡ flow.Whole → IfOk result (λ ended. AreAllTold tells old ended.done.units.items ended.triggered new)
+      → IfOk result (λ ended. HasPrinted (flat_map unit_lines (ended.done.units.items ++ units_behind ended.triggered)) (flow_of new) (held old) (held new))
+  printed_work (Ok ended) old new whole told = printed_ended ended.done.units.items ended.triggered old new whole told
+  printed_work (Err e) old new whole told = tt
 
   printed_rounds : (came : List Installed) (lines : List ℕ) (first : Option (List ℕ)) (old new : W) → HasPrinted lines (flow_of old) first (held old) → AreRoundsTold tells old came new
       → HasPrinted (lines ++ flat_map unit_lines (flat_map units_of_round came)) (flow_of new) first (held new)
@@ -97,9 +115,12 @@ module _ {W : Type 0} (tells : W → AUnit → State → W → Type 0) (flow_of 
       printed_rounds rounds.items [] (held old) old new (subst (λ f. HasPrinted [] f (held old) (held old)) (sym whole) (appends_nothing (held old))) told
 
   -- the same of what came of trees
-  pub printed_trees : {E : Type 0} (result : Result (Ended Done) E) (old new : W) → flow_of old ≡ flow.Whole → IfOk result (λ ended. IsDoneTold tells old ended.done new)
-      → IfOk result (λ ended. HasPrinted (flat_map unit_lines (units_of ended.done)) (flow_of new) (held old) (held new))
-  printed_trees (Ok ended) old new whole told = printed_done ended.done old new whole told
+  printed_with : (ended : Ended Done) (old new : W) → flow_of old ≡ flow.Whole → IsAllTold tells old ended new → HasPrinted (flat_map unit_lines (units_of ended.done ++ units_behind ended.triggered)) (flow_of new) (held old) (held new)
+  printed_with ended old new whole (mid, told, behind) = printed_triggers (units_of ended.done) ended.triggered (held old) mid new (printed_done ended.done old mid whole told) behind
+
+  pub printed_trees : {E : Type 0} (result : Result (Ended Done) E) (old new : W) → flow_of old ≡ flow.Whole → IfOk result (λ ended. IsAllTold tells old ended new)
+      → IfOk result (λ ended. HasPrinted (flat_map unit_lines (units_of ended.done ++ units_behind ended.triggered)) (flow_of new) (held old) (held new))
+  printed_trees (Ok ended) old new whole told = printed_with ended old new whole told
   printed_trees (Err e) old new whole told = tt
 
 -- What is left of the answer on units.

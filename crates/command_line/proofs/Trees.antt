@@ -28,8 +28,9 @@ use Rattle.command_line.specs.Reading.{AreReadFor, AreReadOnce, HaveGoneOn, IsRe
 use Rattle.command_line.specs.Roots.{Around, around, held_anew}
 use Rattle.command_line.specs.declared.hosts.Hosts.{Ghosts}
 use Rattle.command_line.specs.Order.{AreLookedAt, AreRoundsOf, HasLooked, IsLookedAt, IsOrderOf, is_one_round}
-use Rattle.command_line.specs.Printing.{last_of_round}
-use Rattle.command_line.specs.Unpacks.{HasInstalledRound, HasInstalledRounds, HasRunToEnd, HasRunTrees, IsUnpackedOn}
+use Rattle.command_line.specs.Printing.{last_in, last_of_round, units_of}
+use Rattle.command_line.specs.Unpacks.{HasInstalledRound, HasInstalledRounds, HasRunToEnd, HasRunTrees, IsUnpackedOn, triggering_for}
+use Rattle.command_line.proofs.Behind.{around_as}
 
 -- what is known of trees between two moments is known between an earlier one and a later one
 pub record Within (outer inner : Around) : Type 0 where
@@ -141,7 +142,8 @@ pub ended_within : (outer inner : Around) → Within outer inner → (policy : O
 ended_within outer inner within policy u ended before s end has = record {
   after = has.after;
   mid = has.mid;
-  ran = run_within outer inner within policy u ended.done before has.after s has.mid has.ran;
+  ran = around_as (triggering_for u) (units_of ended.done) (last_in ended.done) (HasRunTrees inner policy u ended.done before) (HasRunTrees outer policy u ended.done before) ended.triggered before has.after s has.mid
+      (λ mid begun done ran. run_within outer inner within policy u ended.done before mid begun done ran) has.ran;
   ending = has.ending;
 }
 

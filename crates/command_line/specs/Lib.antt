@@ -14,3 +14,4 @@ pub mod Rehearsed
 pub mod Reading
 pub mod Order
 pub mod Printing
+pub mod Triggering

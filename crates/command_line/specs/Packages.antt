@@ -1,5 +1,5 @@
 -- What is asked of packages by their names, or by what is wanted of them, and what came of it.
-use Rattle.std.specs.Prelude.{ℕ, Bool, IsNone, List, Option, Result, Ok, Err, if◌then◌else◌, map}
+use Rattle.std.specs.Prelude.{ℕ, Bool, IsNone, List, Option, Result, Ok, Err, Some, None, true, false, if◌then◌else◌, map}
 use Rattle.host_core.specs.Events.{Event}
 use Rattle.host_core.specs.Host.{Since, State}
 use Rattle.host_core.specs.World.{World}
@@ -12,6 +12,7 @@ use Rattle.status_records.specs.declared.words.Want.TheVariants as want
 use Rattle.conffiles.specs.declared.decisions.Changed.{Changed}
 use Rattle.conffiles.specs.declared.decisions.Changed.TheVariants.{Keep, Install}
 use Rattle.conffiles.specs.declared.decisions.ConfPolicy.{ConfPolicy}
+use Rattle.trigger_watch.specs.declared.watching.TriggerWatch.{TriggerWatch}
 use Rattle.unit_reports.specs.Held.{Held}
 use Rattle.unit_reports.specs.Units.{CountsLast, TellsCalls}
 use Rattle.unit_reports.specs.declared.report.Report.{Report}
@@ -32,7 +33,10 @@ use Rattle.command_words.specs.declared.selections.Selected.{Selected as Told}
 use Rattle.command_words.specs.declared.selections.Wanted.{Wanted}
 use Rattle.command_words.specs.declared.selections.Wanted.TheVariants as wanted
 use Rattle.command_line.specs.Endings.{HasEnded}
-use Rattle.command_line.specs.Roots.{Around, Given, IsOpenedOn, IsRootFault, held_anew}
+use Rattle.command_line.specs.Roots.{Around, Given, IsOpenedOn, IsUnitsFault, held_anew}
+use Rattle.command_line.specs.Triggering.{HasTriggeredBehind, IsAround, IsUntriggered, last_behind, touched_of}
+use Rattle.command_line.specs.declared.triggering.Triggered.{Triggered}
+use Rattle.command_line.specs.declared.triggering.Triggering.{Triggering}
 use Rattle.command_line.specs.declared.ending.Ended.{Ended}
 use Rattle.command_line.specs.declared.packages.Work.{Work}
 use Rattle.command_line.specs.declared.packages.Work.TheVariants as work
@@ -98,15 +102,43 @@ pub record HasWorked (asked : Work) (done : Report) (before after : Held) (s end
   pub told : TellsCalls s end done
   pub any_moment : Since (IsWorking asked before s) s end
 
--- the units, and the end of the command behind them
-pub record HasWorkedToEnd (asked : Work) (ended : Ended Report) (before : Held) (s end : State) : Type 0 where
+-- What is done of triggers around the work: nothing where records alone are changed or what is pending is processed. Where packages are
+-- configured, files don't count.
+abbrev pub triggering_of : Work → Bool → Option Triggering
+triggering_of (work.Configure names policy) process = Some (record { by_files = false; process = process })
+triggering_of (work.Remove names) process = Some (record { by_files = true; process = process })
+triggering_of (work.Purge names) process = Some (record { by_files = true; process = process })
+triggering_of (work.Select told) process = None
+triggering_of work.RemoveSelected process = Some (record { by_files = true; process = process })
+triggering_of work.ProcessTriggers process = None
+
+-- the work, with that around it
+abbrev pub HasWorkedAround : Option Triggering → Work → Report → Triggered → Held → Held → State → State → Type 0
+HasWorkedAround None asked done came before after s end = IsUntriggered came × HasWorked asked done before after s end
+HasWorkedAround (Some t) asked done came before after s end = IsAround t done.units.items done.last (HasWorked asked done before) came before after s end
+
+-- and the end of the command behind all units
+pub record HasWorkedWith (t : Option Triggering) (asked : Work) (ended : Ended Report) (before : Held) (s end : State) : Type 0 where
   pub after : Held
   pub mid : State
-  pub worked : HasWorked asked ended.done before after s mid
-  pub ending : HasEnded ended.done.last after.records ended.left mid end
+  pub worked : HasWorkedAround t asked ended.done ended.triggered before after s mid
+  pub ending : HasEnded (last_behind ended.done.last ended.triggered) after.records ended.left mid end
+
+abbrev pub HasWorkedToEnd : Work → Bool → Ended Report → Held → State → State → Type 0
+HasWorkedToEnd asked process ended before s end = HasWorkedWith (triggering_of asked process) asked ended before s end
+
+-- the same of a part of it, since triggers are watched
+pub record HasWorkedSince (t : Triggering) (watch : TriggerWatch) (asked : Work) (ended : Ended Report) (before : Held) (s end : State) : Type 0 where
+  pub mid : Held
+  pub done : State
+  pub worked : HasWorked asked ended.done before mid s done
+  pub after : Held
+  pub behind : State
+  pub triggered : HasTriggeredBehind t watch ended.done.last (touched_of ended.done.units.items) ended.triggered mid after done behind
+  pub ending : HasEnded (last_behind ended.done.last ended.triggered) after.records ended.left behind end
 
 -- the same, from what the administration that was opened on a host holds, to the state in which this host was given back
-pub record IsWorkedOn (left : Given) (begun : State) (asked : Work) (ended : Ended Report) : Type 0 where
+pub record IsWorkedOn (left : Given) (begun : State) (asked : Work) (process : Bool) (ended : Ended Report) : Type 0 where
   pub table : List Record
   pub lists : List PackageList
   pub ways : Ways
@@ -114,13 +146,13 @@ pub record IsWorkedOn (left : Given) (begun : State) (asked : Work) (ended : End
   pub opened : IsOpenedOn begun state table lists ways
   pub end : State
   pub given : left end
-  pub worked : HasWorkedToEnd asked ended (held_anew table lists ways) state end
+  pub worked : HasWorkedToEnd asked process ended (held_anew table lists ways) state end
 
 -- the same, on a host behind the root's word
-abbrev pub HasWorkedUnder : Around → List ℕ → Work → Ended Report → Type 0
-HasWorkedUnder a word asked ended = (begun : State) × a.root word begun × IsWorkedOn a.left begun asked ended
+abbrev pub HasWorkedUnder : Around → List ℕ → Work → Bool → Ended Report → Type 0
+HasWorkedUnder a word asked process ended = (begun : State) × a.root word begun × IsWorkedOn a.left begun asked process ended
 
--- what came of it: its report, or why the root couldn't be opened
-abbrev pub HasEndedWork : Around → List ℕ → Work → Result (Ended Report) NotOpened → Type 0
-HasEndedWork a word asked (Ok ended) = HasWorkedUnder a word asked ended
-HasEndedWork a word asked (Err fault) = IsRootFault a word fault
+-- what came of it: its report, or why it wasn't begun
+abbrev pub HasEndedWork : Around → List ℕ → Work → Bool → Result (Ended Report) NotOpened → Type 0
+HasEndedWork a word asked process (Ok ended) = HasWorkedUnder a word asked process ended
+HasEndedWork a word asked process (Err fault) = IsUnitsFault (triggering_of asked process) a word fault

@@ -17,8 +17,9 @@ use Rattle.conffiles.specs.declared.decisions.ConfPolicy.{ConfPolicy}
 use Rattle.command_line.specs.Queries.{IsQueryAnswer, bad_path_answer, inquiry_of, text_answer}
 use Rattle.command_line.specs.declared.changing.Change.{Change}
 use Rattle.command_line.specs.Printing.{AppendsPart}
-use Rattle.command_line.specs.Roots.{Around, IsRootFault, opening_answer}
-use Rattle.command_line.specs.Unpacks.{HasUnpacked}
+use Rattle.command_line.specs.Roots.{Around, IsUnitsFault, opening_answer}
+use Rattle.command_line.specs.Triggering.{with_triggers}
+use Rattle.command_line.specs.Unpacks.{HasUnpacked, triggering_for}
 use Rattle.command_line.specs.Verifying.{IsVerifyAnswer}
 use Rattle.command_line.specs.Endings.{with_notes}
 use Rattle.command_line.specs.declared.ending.Ended.{Ended}
@@ -75,19 +76,19 @@ abbrev pub done_answer : Done → Answer
 done_answer (done.Unpacked report) = report_answer report
 done_answer (done.Installed rounds) = install_answer rounds.items
 
--- what came of trees, whose packages are configured too where a policy for conffiles is given: reports, or why the root
--- couldn't be opened
+-- what came of trees, whose packages are configured too where a policy for conffiles is given: reports, or why their units weren't
+-- begun
 abbrev pub HasEndedAs : Around → Option ConfPolicy → Unpacking → Result (Ended Done) NotOpened → Type 0
 HasEndedAs a policy u (Ok ended) = HasUnpacked a policy u ended
-HasEndedAs a policy u (Err fault) = IsRootFault a u.root fault
+HasEndedAs a policy u (Err fault) = IsUnitsFault (Some (triggering_for u)) a u.root fault
 
 abbrev pub trees_answer : Result (Ended Done) NotOpened → Answer
-trees_answer (Ok ended) = with_notes ended.left (done_answer ended.done)
+trees_answer (Ok ended) = with_notes ended.left (with_triggers ended.triggered (done_answer ended.done))
 trees_answer (Err fault) = opening_answer fault
 
--- what came of work on packages under the root of a word: its report, or why the root couldn't be opened
+-- what came of work on packages under the root of a word: its report, or why it wasn't begun
 abbrev pub work_answer : Result (Ended Report) NotOpened → Answer
-work_answer (Ok ended) = with_notes ended.left (report_answer ended.done)
+work_answer (Ok ended) = with_notes ended.left (with_triggers ended.triggered (report_answer ended.done))
 work_answer (Err fault) = opening_answer fault
 
 -- what came of a change of the diversions, which notes no record
@@ -109,8 +110,8 @@ abbrev pub IsTreesAnswer : Around → Option ConfPolicy → Unpacking → Answer
 IsTreesAnswer a policy u answer = (ended : Result (Ended Done) NotOpened) × HasEndedAs a policy u ended × (answer ≡ trees_answer ended)
 
 -- work on packages by their names has ended as its answer tells
-abbrev pub IsWorkAnswer : Around → List ℕ → Work → Answer → Type 0
-IsWorkAnswer a word asked answer = (ended : Result (Ended Report) NotOpened) × HasEndedWork a word asked ended × (answer ≡ work_answer ended)
+abbrev pub IsWorkAnswer : Around → List ℕ → Work → Bool → Answer → Type 0
+IsWorkAnswer a word asked process answer = (ended : Result (Ended Report) NotOpened) × HasEndedWork a word asked process ended × (answer ≡ work_answer ended)
 
 -- help is the screen of the topic, on standard output
 abbrev pub IsHelpAnswer : Topic → Answer → Type 0
@@ -128,12 +129,12 @@ IsAnswerTo a (Divert d) answer = IsReadChange a d.root (bad_of_divert d) (IsDive
 IsAnswerTo a (Undivert u) answer = IsReadChange a u.root (bad_of_undivert u) (IsUndivertOf u) answer
 IsAnswerTo a (Unpack u) answer = IsTreesAnswer a None u answer
 IsAnswerTo a (Install u) answer = IsTreesAnswer a (Some (policy_of u.forced)) u answer
-IsAnswerTo a (Configure c) answer = IsWorkAnswer a c.root (work_of c) answer
-IsAnswerTo a (ProcessTriggers p) answer = IsWorkAnswer a p.root work.ProcessTriggers answer
-IsAnswerTo a (Remove r) answer = IsWorkAnswer a r.root (work.Remove r.names) answer
-IsAnswerTo a (Purge r) answer = IsWorkAnswer a r.root (work.Purge r.names) answer
-IsAnswerTo a (Select x) answer = IsWorkAnswer a x.root (work.Select x.selections) answer
-IsAnswerTo a (RemoveSelected x) answer = IsWorkAnswer a x.root work.RemoveSelected answer
+IsAnswerTo a (Configure c) answer = IsWorkAnswer a c.root (work_of c) c.triggers answer
+IsAnswerTo a (ProcessTriggers p) answer = IsWorkAnswer a p.root work.ProcessTriggers true answer
+IsAnswerTo a (Remove r) answer = IsWorkAnswer a r.root (work.Remove r.names) r.triggers answer
+IsAnswerTo a (Purge r) answer = IsWorkAnswer a r.root (work.Purge r.names) r.triggers answer
+IsAnswerTo a (Select x) answer = IsWorkAnswer a x.root (work.Select x.selections) false answer
+IsAnswerTo a (RemoveSelected x) answer = IsWorkAnswer a x.root work.RemoveSelected x.triggers answer
 
 -- for want of memory
 abbrev pub memory_answer : Answer

@@ -1,6 +1,6 @@
 -- How the root of a command is opened, and what is known of its hosts.
-use Rattle.std.specs.Prelude.{◌≡◌, ◌<◌, ◌⊎◌, ℕ, false, List, [], ◌++◌, Some, None, codes}
-use Rattle.host_core.specs.Host.{AtEachMoment, Needs, Silent, State}
+use Rattle.std.specs.Prelude.{◌≡◌, ◌<◌, ◌⊎◌, ℕ, false, List, [], ◌++◌, Option, Some, None, codes}
+use Rattle.host_core.specs.Host.{AtEachMoment, Needs, Reads, Silent, State}
 use Rattle.administration.specs.declared.fault.AdministrationFault.{AdministrationFault}
 use Rattle.command_line.specs.declared.hosts.Hosts.{Ghosts}
 use Rattle.command_line.specs.declared.fault.Lock.{Lock}
@@ -18,6 +18,7 @@ use Rattle.dpkg_session.specs.Standing.{CountsRefusal, OpensAll, TakesUpAll}
 use Rattle.shown_lines.specs.Lines.{line}
 use Rattle.report_lines.specs.Openings.{opening_line}
 use Rattle.command_line.specs.declared.answer.Answer.{Answer}
+use Rattle.command_line.specs.declared.triggering.Triggering.{Triggering}
 
 -- which states the hosts have that are opened for a word
 abbrev pub Behind : Type 1
@@ -83,13 +84,39 @@ pub record IsStoppedOn (left : Given) (begun : State) : Type 0 where
 abbrev pub IsGivenUpOn : Given → State → AdministrationFault → Type 0
 IsGivenUpOn left begun fault = IsRefusedOn left begun fault ⊎ ((fault ≡ opening_faults.NoMemory) × IsStoppedOn left begun)
 
+-- nothing was begun for this fault: memory was wanting, or, where triggers are to be watched, it was looked at and nothing else done
+abbrev pub IsUnbegun : Option Triggering → AdministrationFault → State → State → Type 0
+IsUnbegun None fault s end = (fault ≡ opening_faults.NoMemory) × (end ≡ s)
+IsUnbegun (Some t) fault s end = Reads s end × Silent s end × CountsRefusal fault s end
+
+-- the administration of a host was opened, and the host given back with this fault, and nothing begun
+pub record IsUnbegunOn (t : Option Triggering) (left : Given) (begun : State) (fault : AdministrationFault) : Type 0 where
+  pub state : State
+  pub silent : Silent begun state
+  pub opens : OpensAll None begun state
+  pub opening : AtEachMoment IsOpeningOrAdopting begun state
+  pub end : State
+  pub given : left end
+  pub unbegun : IsUnbegun t fault state end
+
+-- the same of a command with units, around which triggers may be watched
+abbrev pub IsNotBegunOn : Option Triggering → Given → State → AdministrationFault → Type 0
+IsNotBegunOn t left begun fault = IsRefusedOn left begun fault ⊎ IsUnbegunOn t left begun fault
+
 -- so it went on a host behind the root's word, unless none was opened: another program held a lock of it, the device failed, or
 -- memory was wanting
-abbrev pub IsRootFault : Around → List ℕ → NotOpened → Type 0
-IsRootFault a word (Locked lock) = a.unopened × a.locked word lock
-IsRootFault a word (Opening fault) =
-    ((begun : State) × a.root word begun × IsGivenUpOn a.left begun fault)
+abbrev pub IsFaultUnder : (Given → State → AdministrationFault → Type 0) → Around → List ℕ → NotOpened → Type 0
+IsFaultUnder Went a word (Locked lock) = a.unopened × a.locked word lock
+IsFaultUnder Went a word (Opening fault) =
+    ((begun : State) × a.root word begun × Went a.left begun fault)
     ⊎ (a.unopened × (((fault ≡ opening_faults.Device) × a.failed) ⊎ (fault ≡ opening_faults.NoMemory)))
+
+abbrev pub IsRootFault : Around → List ℕ → NotOpened → Type 0
+IsRootFault a word fault = IsFaultUnder IsGivenUpOn a word fault
+
+-- why the units of a command weren't begun
+abbrev pub IsUnitsFault : Option Triggering → Around → List ℕ → NotOpened → Type 0
+IsUnitsFault t a word fault = IsFaultUnder (IsNotBegunOn t) a word fault
 
 -- the file of a lock, under the root
 abbrev pub lock_path : Lock → List ℕ

@@ -1,13 +1,15 @@
 -- What the report on an unpack has to do with the words for the root and the trees.
-use Rattle.std.specs.Prelude.{◌≡◌, ◌++◌, ℕ, Bool, List, [], ◌∷◌, MatchOption, Option, Some, None}
+use Rattle.std.specs.Prelude.{◌≡◌, ◌++◌, ℕ, Bool, List, [], ◌∷◌, true, MatchOption, Option, Some, None}
 use Rattle.host_core.specs.Host.{State}
 use Rattle.diversions.specs.Ways.{Ways}
 use Rattle.file_lists.specs.declared.paths.PackageList.{PackageList}
 use Rattle.status_records.specs.declared.record.Record.{Record}
 use Rattle.conffiles.specs.declared.decisions.ConfPolicy.{ConfPolicy}
+use Rattle.trigger_watch.specs.declared.watching.TriggerWatch.{TriggerWatch}
 use Rattle.unit_reports.specs.Held.{Held}
 use Rattle.unit_reports.specs.Units.{CountsLast, TellsCalls}
 use Rattle.unit_reports.specs.declared.report.Report.{Report}
+use Rattle.unit_reports.specs.declared.report.Unit.{Unit as AUnit}
 use Rattle.dpkg_session.specs.Installs.{HasInstalledThrough, TellsBoth, last_of}
 use Rattle.dpkg_session.specs.Run.{HasRunThrough}
 use Rattle.dpkg_session.specs.declared.installing.Installed.{Installed}
@@ -15,10 +17,12 @@ use Rattle.dpkg_session.specs.declared.report.Candidate.{Candidate}
 use Rattle.command_words.specs.declared.unpacking.Unpacking.{Unpacking}
 use Rattle.command_line.specs.Endings.{HasEnded}
 use Rattle.command_line.specs.Order.{AreRoundsOf}
-use Rattle.command_line.specs.Printing.{last_in, last_of_round}
+use Rattle.command_line.specs.Printing.{IsDoneTold, last_in, last_of_round, units_of}
 use Rattle.command_line.specs.Reading.{AreReadFor}
 use Rattle.command_line.specs.Roots.{Around, IsOpenedOn, held_anew}
+use Rattle.command_line.specs.Triggering.{AreTriggersTold, HasTriggeredBehind, IsAround, last_behind, touched_of}
 use Rattle.command_line.specs.declared.ending.Ended.{Ended}
+use Rattle.command_line.specs.declared.triggering.Triggering.{Triggering}
 use Rattle.command_line.specs.declared.unpacking.Done.{Done}
 use Rattle.command_line.specs.declared.unpacking.Done.TheVariants as done
 
@@ -73,12 +77,30 @@ HasRunTrees a None u (done.Installed rounds) before after s end = ⊥
 HasRunTrees a (Some policy) u (done.Unpacked report) before after s end = ⊥
 HasRunTrees a (Some policy) u (done.Installed rounds) before after s end = HasInstalledTrees a u policy rounds.items before after s end
 
--- the units, and the end of the command behind them
+-- what is done of triggers around trees: files count
+abbrev pub triggering_for : Unpacking → Triggering
+triggering_for u = record { by_files = true; process = u.triggers }
+
+-- the units with that around them, and the end of the command behind all units
 pub record HasRunToEnd (a : Around) (policy : Option ConfPolicy) (u : Unpacking) (ended : Ended Done) (before : Held) (s end : State) : Type 0 where
   pub after : Held
   pub mid : State
-  pub ran : HasRunTrees a policy u ended.done before after s mid
-  pub ending : HasEnded (last_in ended.done) after.records ended.left mid end
+  pub ran : IsAround (triggering_for u) (units_of ended.done) (last_in ended.done) (HasRunTrees a policy u ended.done before) ended.triggered before after s mid
+  pub ending : HasEnded (last_behind (last_in ended.done) ended.triggered) after.records ended.left mid end
+
+-- the same of a part of it, since triggers are watched
+pub record HasRunSince (a : Around) (watch : TriggerWatch) (policy : Option ConfPolicy) (u : Unpacking) (ended : Ended Done) (before : Held) (s end : State) : Type 0 where
+  pub mid : Held
+  pub done : State
+  pub ran : HasRunTrees a policy u ended.done before mid s done
+  pub after : Held
+  pub behind : State
+  pub triggered : HasTriggeredBehind (triggering_for u) watch (last_in ended.done) (touched_of (units_of ended.done)) ended.triggered mid after done behind
+  pub ending : HasEnded (last_behind (last_in ended.done) ended.triggered) after.records ended.left behind end
+
+-- the units of trees were told, and behind them those of what was noted and processed
+abbrev pub IsAllTold : {W : Type 0} → (W → AUnit → State → W → Type 0) → W → Ended Done → W → Type 0
+IsAllTold {W} tells old ended new = (mid : W) × IsDoneTold tells old ended.done mid × AreTriggersTold tells mid ended.triggered new
 
 -- the same, from what the administration that was opened on a host holds, to the state in which this host was given back
 pub record IsUnpackedOn (a : Around) (begun : State) (policy : Option ConfPolicy) (u : Unpacking) (ended : Ended Done) : Type 0 where

@@ -1,5 +1,5 @@
 // What the words ask for, carried out, and what is to be written for it.
-ghost use Rattle.std.specs.Prelude.{◌≡◌, ◌≤◌, ◌⊎◌, ℕ, List, Option, IfErr, IfOk, Ok, OnErr, Result, is_ok, map, option_to_list, string_bytes, true, []};
+ghost use Rattle.std.specs.Prelude.{◌≡◌, ◌≤◌, ◌⊎◌, ◌++◌, ℕ, List, Option, Some, IfErr, IfOk, Ok, OnErr, Result, is_ok, map, option_to_list, string_bytes, false, true, []};
 ghost use Rattle.std.specs.List.{flat_map};
 ghost use Rattle.diversions.specs.Entries.{is_owner};
 ghost use Rattle.unit_reports.specs.declared.report.Report.{Report as AReport};
@@ -7,13 +7,14 @@ ghost use Rattle.report_lines.specs.Reports.{unit_lines};
 ghost use Rattle.command_words.specs.Commands.{asked_of};
 ghost use Rattle.command_words.specs.Topics.{named_in};
 ghost use Rattle.command_line.specs.Changes.{HasEndedChange, IsDivertOf, IsUndivertOf, bad_of_divert, bad_of_undivert, is_good, owner_in};
-ghost use Rattle.command_line.specs.Packages.{HasEndedWork, HasWorkedUnder, work_of};
+ghost use Rattle.command_line.specs.Packages.{HasEndedWork, HasWorkedUnder, triggering_of, work_of};
 ghost use Rattle.command_line.specs.Endings.{with_notes};
 ghost use Rattle.command_line.specs.Printing.{HasPrinted, IsLeft, output_left, status_left, units_answer, units_of};
 ghost use Rattle.command_line.specs.Queries.{IsInquired, IsQueryAnswer, bad_path_answer, inquiry_of, unanswered_answer};
 ghost use Rattle.command_line.specs.Reports.{HasEndedAs, IsAnswerOf, IsHelpAnswer, IsReadChange, comparison_answer, done_answer, ended_answer, has_units, memory_answer, names_answer, opens_root, prints, report_answer, round_status, rounds_status, trees_answer, version_answer, work_answer};
-ghost use Rattle.command_line.specs.Roots.{IsRootFault, around, locked_line, opening_answer};
-ghost use Rattle.command_line.specs.Unpacks.{HasUnpacked};
+ghost use Rattle.command_line.specs.Roots.{IsUnitsFault, around, locked_line, opening_answer};
+ghost use Rattle.command_line.specs.Triggering.{units_behind};
+ghost use Rattle.command_line.specs.Unpacks.{HasUnpacked, triggering_for};
 ghost use Rattle.command_line.specs.Verifying.{IsVerifyAnswer};
 ghost use Rattle.command_line.specs.declared.answer.Answer.{Answer as AnAnswer};
 ghost use Rattle.command_line.specs.declared.ending.Ended.{Ended as AnEnded};
@@ -29,6 +30,7 @@ use crate::packages::{Work, policy_of, work_under};
 use crate::printing::{Flow, Printer};
 use crate::questions::{Inquiry, bad_path, inquire_under, inquiry_of};
 use crate::steady::Unanswered;
+use crate::triggering::{last_behind, triggered_status};
 use crate::unpacking::{Done, unpack};
 use crate::verifying::check_under;
 use command_words::{
@@ -268,10 +270,11 @@ fn unpack_telling<S: Hosts, O: Write>(
     ensures same_output { printer.new.out.ghost_name ≡ printer.old.out.ghost_name }
     ensures done { IfOk result (HasUnpacked (around S.Hosts hosts.old hosts.new) policy
         unpacking.now) }
-    ensures refused { IfErr result (IsRootFault (around S.Hosts hosts.old hosts.new)
-        unpacking.now.root) }
+    ensures refused { IfErr result (IsUnitsFault (Some (triggering_for unpacking.now))
+        (around S.Hosts hosts.old hosts.new) unpacking.now.root) }
     ensures told { printer.old.flow ≡ Whole → IfOk
-        result (λ ended. HasPrinted (flat_map unit_lines (units_of ended.done)) printer.new.flow
+        result (λ ended. HasPrinted (flat_map unit_lines (units_of ended.done ++ units_behind
+        ended.triggered)) printer.new.flow
         (O.contents printer.old.out.now) (O.contents printer.new.out.now)) }
     ensures untold { OnErr result (printer.new ≡ printer.old) }
     ensures below { S.below hosts.new ≡ S.below hosts.old }
@@ -303,8 +306,9 @@ fn unpacked<S: Hosts, O: Write>(
     match ended {
         Ok(came) => {
             let none = None;
-            let last = came.done.last(&none);
-            units_left(alloc, flow, last, done_status(&came.done), came.left)
+            let last = last_behind(came.done.last(&none), &came.triggered);
+            let status = done_status(&came.done).max(triggered_status(&came.triggered));
+            units_left(alloc, flow, last, status, came.left)
         }
         Err(fault) => whole(not_opened(alloc, &fault)),
     }
@@ -337,19 +341,22 @@ fn work_telling<S: Hosts, O: Write>(
     streams: ScriptStreams,
     wait: u32,
     asked: &Work,
+    process: bool,
     printer: &mut Printer<'_, O>,
 ) -> Result<Ended<Report>, NotOpened>
     ensures same_output { printer.new.out.ghost_name ≡ printer.old.out.ghost_name }
     ensures done { IfOk result (HasWorkedUnder (around S.Hosts hosts.old hosts.new) root.now
-        asked.now) }
-    ensures refused { IfErr result (IsRootFault (around S.Hosts hosts.old hosts.new) root.now) }
+        asked.now process) }
+    ensures refused { IfErr result (IsUnitsFault (triggering_of asked.now process)
+        (around S.Hosts hosts.old hosts.new) root.now) }
     ensures told { printer.old.flow ≡ Whole → IfOk
-        result (λ ended. HasPrinted (flat_map unit_lines ended.done.units.items) printer.new.flow
+        result (λ ended. HasPrinted (flat_map unit_lines (ended.done.units.items ++ units_behind
+        ended.triggered)) printer.new.flow
         (O.contents printer.old.out.now) (O.contents printer.new.out.now)) }
     ensures untold { OnErr result (printer.new ≡ printer.old) }
     ensures below { S.below hosts.new ≡ S.below hosts.old }
 {
-    work_under(alloc, hosts, root, streams, wait, asked, printer)
+    work_under(alloc, hosts, root, streams, wait, asked, process, printer)
 }
 
 fn worked<S: Hosts, O: Write>(
@@ -359,10 +366,12 @@ fn worked<S: Hosts, O: Write>(
     streams: ScriptStreams,
     wait: u32,
     asked: &Work,
+    process: bool,
     out: &mut O,
 ) -> Result<Left, AllocError>
     ensures ended { (ended : Result (AnEnded AReport) ANotOpened)
-        × HasEndedWork (around S.Hosts hosts.old hosts.new) root.now asked.now ended
+        × HasEndedWork (around S.Hosts hosts.old hosts.new) root.now asked.now process
+        ended
         × IsLeft (work_answer ended) (O.contents out.old) (O.contents out.new) result }
     ensures bound { IfOk result (λ left. status_left left ≤ 2) }
     ensures below { S.below hosts.new ≡ S.below hosts.old }
@@ -372,16 +381,23 @@ fn worked<S: Hosts, O: Write>(
         out,
         flow: Flow::Whole,
     };
-    let ended = work_telling(alloc, hosts, root, streams, wait, asked, &mut printer);
+    let ended = work_telling(
+        alloc,
+        hosts,
+        root,
+        streams,
+        wait,
+        asked,
+        process,
+        &mut printer,
+    );
     let flow = printer.flow;
     match ended {
-        Ok(came) => units_left(
-            alloc,
-            flow,
-            &came.done.last,
-            report_status(&came.done),
-            came.left,
-        ),
+        Ok(came) => {
+            let last = last_behind(&came.done.last, &came.triggered);
+            let status = report_status(&came.done).max(triggered_status(&came.triggered));
+            units_left(alloc, flow, last, status, came.left)
+        }
         Err(fault) => whole(not_opened(alloc, &fault)),
     }
 }
@@ -393,7 +409,8 @@ fn configured<S: Hosts, O: Write>(
     out: &mut O,
 ) -> Result<Left, AllocError>
     ensures ended { (ended : Result (AnEnded AReport) ANotOpened)
-        × HasEndedWork (around S.Hosts hosts.old hosts.new) asked.root (work_of asked) ended
+        × HasEndedWork (around S.Hosts hosts.old hosts.new) asked.root (work_of asked)
+        asked.triggers ended
         × IsLeft (work_answer ended) (O.contents out.old) (O.contents out.new) result }
     ensures bound { IfOk result (λ left. status_left left ≤ 2) }
     ensures below { S.below hosts.new ≡ S.below hosts.old }
@@ -402,12 +419,12 @@ fn configured<S: Hosts, O: Write>(
         root,
         names,
         streams,
-        triggers: _,
+        triggers,
         forced,
         wait,
     } = asked;
     let work = Work::Configure(names, policy_of(forced));
-    worked(alloc, hosts, &root, streams, wait, &work, out)
+    worked(alloc, hosts, &root, streams, wait, &work, triggers, out)
 }
 
 fn removed<S: Hosts, O: Write>(
@@ -418,7 +435,7 @@ fn removed<S: Hosts, O: Write>(
 ) -> Result<Left, AllocError>
     ensures ended { (ended : Result (AnEnded AReport) ANotOpened)
         × HasEndedWork (around S.Hosts hosts.old hosts.new) asked.root (Work.Remove asked.names)
-        ended × IsLeft (work_answer ended) (O.contents out.old) (O.contents out.new)
+        asked.triggers ended × IsLeft (work_answer ended) (O.contents out.old) (O.contents out.new)
         result }
     ensures bound { IfOk result (λ left. status_left left ≤ 2) }
     ensures below { S.below hosts.new ≡ S.below hosts.old }
@@ -427,11 +444,11 @@ fn removed<S: Hosts, O: Write>(
         root,
         names,
         streams,
-        triggers: _,
+        triggers,
         wait,
     } = asked;
     let work = Work::Remove(names);
-    worked(alloc, hosts, &root, streams, wait, &work, out)
+    worked(alloc, hosts, &root, streams, wait, &work, triggers, out)
 }
 
 fn purged<S: Hosts, O: Write>(
@@ -442,7 +459,7 @@ fn purged<S: Hosts, O: Write>(
 ) -> Result<Left, AllocError>
     ensures ended { (ended : Result (AnEnded AReport) ANotOpened)
         × HasEndedWork (around S.Hosts hosts.old hosts.new) asked.root (Work.Purge asked.names)
-        ended × IsLeft (work_answer ended) (O.contents out.old) (O.contents out.new)
+        asked.triggers ended × IsLeft (work_answer ended) (O.contents out.old) (O.contents out.new)
         result }
     ensures bound { IfOk result (λ left. status_left left ≤ 2) }
     ensures below { S.below hosts.new ≡ S.below hosts.old }
@@ -451,11 +468,11 @@ fn purged<S: Hosts, O: Write>(
         root,
         names,
         streams,
-        triggers: _,
+        triggers,
         wait,
     } = asked;
     let work = Work::Purge(names);
-    worked(alloc, hosts, &root, streams, wait, &work, out)
+    worked(alloc, hosts, &root, streams, wait, &work, triggers, out)
 }
 
 fn selected<S: Hosts, O: Write>(
@@ -466,7 +483,7 @@ fn selected<S: Hosts, O: Write>(
 ) -> Result<Left, AllocError>
     ensures ended { (ended : Result (AnEnded AReport) ANotOpened)
         × HasEndedWork (around S.Hosts hosts.old hosts.new) asked.root
-        (Work.Select asked.selections) ended
+        (Work.Select asked.selections) false ended
         × IsLeft (work_answer ended) (O.contents out.old) (O.contents out.new) result }
     ensures bound { IfOk result (λ left. status_left left ≤ 2) }
     ensures below { S.below hosts.new ≡ S.below hosts.old }
@@ -477,7 +494,16 @@ fn selected<S: Hosts, O: Write>(
         wait,
     } = asked;
     let work = Work::Select(selections);
-    worked(alloc, hosts, &root, ScriptStreams::Own, wait, &work, out)
+    worked(
+        alloc,
+        hosts,
+        &root,
+        ScriptStreams::Own,
+        wait,
+        &work,
+        false,
+        out,
+    )
 }
 
 fn removed_selected<S: Hosts, O: Write>(
@@ -488,7 +514,7 @@ fn removed_selected<S: Hosts, O: Write>(
 ) -> Result<Left, AllocError>
     ensures ended { (ended : Result (AnEnded AReport) ANotOpened)
         × HasEndedWork (around S.Hosts hosts.old hosts.new) asked.now.root Work.RemoveSelected
-        ended × IsLeft (work_answer ended) (O.contents out.old) (O.contents out.new)
+        asked.now.triggers ended × IsLeft (work_answer ended) (O.contents out.old) (O.contents out.new)
         result }
     ensures bound { IfOk result (λ left. status_left left ≤ 2) }
     ensures below { S.below hosts.new ≡ S.below hosts.old }
@@ -501,6 +527,7 @@ fn removed_selected<S: Hosts, O: Write>(
         asked.streams,
         asked.wait,
         &work,
+        asked.triggers,
         out,
     )
 }
@@ -513,7 +540,7 @@ fn processed<S: Hosts, O: Write>(
 ) -> Result<Left, AllocError>
     ensures ended { (ended : Result (AnEnded AReport) ANotOpened)
         × HasEndedWork (around S.Hosts hosts.old hosts.new) asked.now.root Work.ProcessTriggers
-        ended × IsLeft (work_answer ended) (O.contents out.old) (O.contents out.new)
+        true ended × IsLeft (work_answer ended) (O.contents out.old) (O.contents out.new)
         result }
     ensures bound { IfOk result (λ left. status_left left ≤ 2) }
     ensures below { S.below hosts.new ≡ S.below hosts.old }
@@ -526,6 +553,7 @@ fn processed<S: Hosts, O: Write>(
         asked.streams,
         asked.wait,
         &work,
+        true,
         out,
     )
 }

@@ -79,6 +79,7 @@ mod shown;
 mod steady;
 mod telling;
 mod telling_hosts;
+mod triggering;
 mod unpacking;
 mod verifying;
 mod writing;

@@ -1,19 +1,20 @@
 // Packages are configured, removed or purged by their names, or by what is wanted of them, which is recorded too: the root is
 // opened to do it.
-ghost use Rattle.std.specs.Prelude.{◌≡◌, ◌≤◌, false, IfErr, IfOk, OnErr, is_some, option_map};
+ghost use Rattle.std.specs.Prelude.{◌≡◌, ◌≤◌, None, Some, false, IfErr, IfOk, OnErr, is_some, option_map};
 ghost use Rattle.unit_reports.specs.Held.{held_by};
 ghost use Rattle.unit_reports.specs.Watching.{IsTold};
-ghost use Rattle.command_line.specs.Packages.{HasWorked, HasWorkedToEnd, HasWorkedUnder, IsWorkedOn, changed_of, policy_of, selections_of, want_of};
-ghost use Rattle.command_line.specs.Printing.{AreTold};
-ghost use Rattle.command_line.specs.Roots.{IsGivenUpOn, IsRootFault, around};
+ghost use Rattle.command_line.specs.Packages.{HasWorked, HasWorkedSince, HasWorkedToEnd, HasWorkedUnder, HasWorkedWith, IsWorkedOn, changed_of, policy_of, selections_of, triggering_of, want_of};
+ghost use Rattle.command_line.specs.Roots.{IsNotBegunOn, IsUnbegun, IsUnitsFault, around};
+ghost use Rattle.command_line.specs.Triggering.{AreAllTold, touched_of};
 
 use crate::ending::{Ended, end};
 use crate::fault::{NotOpened, RootFault};
 use crate::hosts::Hosts;
+use crate::triggering::{Triggering, add_touched_of, last_behind, trigger_behind, untriggered};
 use administration::AdministrationFault;
 use command_words::{Forced, ScriptStreams, Selected, Selections, Wanted};
 use conffiles::{Changed, ConfPolicy};
-use dpkg_session::{Change, RecordChange, Report, Session, Watcher};
+use dpkg_session::{Change, RecordChange, Report, Session, TriggerWatch, Unit, Watcher};
 use host_core::Host;
 use status_records::Want;
 use std::alloc::{AllocError, Global};
@@ -137,25 +138,141 @@ fn carry_out<H: Host, W: Watcher>(
     }
 }
 
-// The work of an open session, and the end of the command behind it.
-fn work_to_end<H: Host, W: Watcher>(
+// What is done of triggers around the work.
+fn triggering_of(asked: &Work, process: bool) -> Option<Triggering>
+    ensures { result ≡ triggering_of asked.now process }
+{
+    match asked {
+        Work::Configure(_, _) => Some(Triggering {
+            by_files: false,
+            process,
+        }),
+        Work::Select(_) | Work::ProcessTriggers => None,
+        Work::Remove(_) | Work::Purge(_) | Work::RemoveSelected => Some(Triggering {
+            by_files: true,
+            process,
+        }),
+    }
+}
+
+// The work of an open session around which triggers don't count, and the end of the command behind it.
+fn work_alone<H: Host, W: Watcher>(
     alloc: Global,
     session: &mut Session<H>,
     asked: &Work,
     watcher: &mut W,
 ) -> Result<Ended<Report>, AllocError>
     requires { session.old.closed ≡ false }
-    ensures done { IfOk result (λ ended. HasWorkedToEnd asked.now ended
+    ensures done { IfOk result (λ ended. HasWorkedWith None asked.now ended
         (held_by session.old.administration session.old.diversions) (H.state session.old.host)
         (H.state session.new.host)) }
     ensures unmoved { OnErr result (H.state session.new.host ≡ H.state session.old.host) }
-    ensures watched { IfOk result (λ ended. IsTold W.tells (H.state session.old.host) watcher.old
-        ended.done.units.items watcher.new) }
+    ensures watched { IfOk result (λ ended. AreAllTold W.tells watcher.old ended.done.units.items
+        ended.triggered watcher.new) }
     ensures unwatched { OnErr result (watcher.new ≡ watcher.old) }
 {
     let done = carry_out(alloc, session, asked, watcher)?;
     let left = end(session, &done.last);
-    Ok(Ended { done, left })
+    let triggered = untriggered(alloc);
+    Ok(Ended {
+        done,
+        triggered,
+        left,
+    })
+}
+
+// The names of the packages that units touched.
+fn touched_in(alloc: Global, units: &[Unit]) -> Result<Vec<Text>, AllocError>
+    ensures { IfOk result (λ names. names.items ≡ touched_of units.now) }
+{
+    let mut names = Vec::new(alloc);
+    add_touched_of(units, &mut names)?;
+    Ok(names)
+}
+
+// The work of an open session since triggers are watched, with what is done of them behind it, and the end of the command.
+fn work_watched<H: Host, W: Watcher>(
+    alloc: Global,
+    session: &mut Session<H>,
+    asked: &Work,
+    triggering: Triggering,
+    watch: &TriggerWatch,
+    watcher: &mut W,
+) -> Result<Ended<Report>, AllocError>
+    requires { session.old.closed ≡ false }
+    ensures done { IfOk result (λ ended. HasWorkedSince triggering watch.now asked.now ended
+        (held_by session.old.administration session.old.diversions) (H.state session.old.host)
+        (H.state session.new.host)) }
+    ensures unmoved { OnErr result (H.state session.new.host ≡ H.state session.old.host) }
+    ensures watched { IfOk result (λ ended. AreAllTold W.tells watcher.old ended.done.units.items
+        ended.triggered watcher.new) }
+    ensures unwatched { OnErr result (watcher.new ≡ watcher.old) }
+{
+    let done = carry_out(alloc, session, asked, watcher)?;
+    let touched = touched_in(alloc, done.units.as_slice());
+    let triggered = trigger_behind(
+        alloc, session, triggering, watch, &done.last, touched, watcher,
+    );
+    let left = end(session, last_behind(&done.last, &triggered));
+    Ok(Ended {
+        done,
+        triggered,
+        left,
+    })
+}
+
+// The same from the watch on.
+fn watch_and_work<H: Host, W: Watcher>(
+    alloc: Global,
+    session: &mut Session<H>,
+    asked: &Work,
+    triggering: Triggering,
+    watcher: &mut W,
+) -> Result<Ended<Report>, AdministrationFault>
+    requires { session.old.closed ≡ false }
+    ensures done { IfOk result (λ ended. HasWorkedWith (Some triggering) asked.now ended
+        (held_by session.old.administration session.old.diversions) (H.state session.old.host)
+        (H.state session.new.host)) }
+    ensures unbegun { IfErr result (λ fault. IsUnbegun (Some triggering) fault (H.state session.old.host)
+        (H.state session.new.host)) }
+    ensures watched { IfOk result (λ ended. AreAllTold W.tells watcher.old ended.done.units.items
+        ended.triggered watcher.new) }
+    ensures unwatched { OnErr result (watcher.new ≡ watcher.old) }
+{
+    match session.watch_triggers(triggering.by_files) {
+        Ok(watch) => match work_watched(alloc, session, asked, triggering, &watch, watcher) {
+            Ok(ended) => Ok(ended),
+            Err(_) => Err(AdministrationFault::NoMemory),
+        },
+        Err(fault) => Err(AdministrationFault::from(fault)),
+    }
+}
+
+// The work of an open session, with what is done of triggers around it, and the end of the command behind all.
+fn work_to_end<H: Host, W: Watcher>(
+    alloc: Global,
+    session: &mut Session<H>,
+    asked: &Work,
+    process: bool,
+    watcher: &mut W,
+) -> Result<Ended<Report>, AdministrationFault>
+    requires { session.old.closed ≡ false }
+    ensures done { IfOk result (λ ended. HasWorkedToEnd asked.now process ended
+        (held_by session.old.administration session.old.diversions) (H.state session.old.host)
+        (H.state session.new.host)) }
+    ensures unbegun { IfErr result (λ fault. IsUnbegun (triggering_of asked.now process) fault
+        (H.state session.old.host) (H.state session.new.host)) }
+    ensures watched { IfOk result (λ ended. AreAllTold W.tells watcher.old ended.done.units.items
+        ended.triggered watcher.new) }
+    ensures unwatched { OnErr result (watcher.new ≡ watcher.old) }
+{
+    match triggering_of(asked, process) {
+        Some(triggering) => watch_and_work(alloc, session, asked, triggering, watcher),
+        None => match work_alone(alloc, session, asked, watcher) {
+            Ok(ended) => Ok(ended),
+            Err(_) => Err(AdministrationFault::NoMemory),
+        },
+    }
 }
 
 // The work on the host of the root, which is given back.
@@ -164,21 +281,24 @@ fn work_on<S: Hosts, W: Watcher>(
     hosts: &mut S,
     host: S::Opened,
     asked: &Work,
+    process: bool,
     watcher: &mut W,
 ) -> Result<Ended<Report>, AdministrationFault>
-    ensures done { IfOk result (IsWorkedOn (S.left hosts.new) (S.Opened.state host) asked.now) }
-    ensures refused { IfErr result (IsGivenUpOn (S.left hosts.new) (S.Opened.state host)) }
+    ensures done { IfOk result (IsWorkedOn (S.left hosts.new) (S.Opened.state host) asked.now
+        process) }
+    ensures refused { IfErr result (IsNotBegunOn (triggering_of asked.now process)
+        (S.left hosts.new) (S.Opened.state host)) }
     ensures faults { S.faults hosts.old ≤ S.faults hosts.new }
-    ensures watched { IfOk result (λ ended. AreTold W.tells watcher.old ended.done.units.items
-        watcher.new) }
+    ensures watched { IfOk result (λ ended. AreAllTold W.tells watcher.old ended.done.units.items
+        ended.triggered watcher.new) }
     ensures unwatched { OnErr result (watcher.new ≡ watcher.old) }
     ensures below { S.below hosts.new ≡ S.below hosts.old }
 {
     match Session::open(alloc, host) {
         Ok(mut session) => {
-            let ended = work_to_end(alloc, &mut session, asked, watcher);
+            let ended = work_to_end(alloc, &mut session, asked, process, watcher);
             hosts.close_root(session.into_host());
-            Ok(ended?)
+            ended
         }
         Err((host, fault)) => {
             hosts.close_root(host);
@@ -187,8 +307,8 @@ fn work_on<S: Hosts, W: Watcher>(
     }
 }
 
-/// Does the work under the root, or tells why the root can't be opened. Want of memory outside of the units is told
-/// likewise.
+/// Does the work under the root, and processes what is pending behind it where that is wanted and the work may activate triggers; or tells
+/// why the root can't be opened. Want of memory outside of the units, and a fault of the look at triggers before them, are told likewise.
 pub(crate) fn work_under<S: Hosts, W: Watcher>(
     alloc: Global,
     hosts: &mut S,
@@ -196,18 +316,20 @@ pub(crate) fn work_under<S: Hosts, W: Watcher>(
     streams: ScriptStreams,
     wait: u32,
     asked: &Work,
+    process: bool,
     watcher: &mut W,
 ) -> Result<Ended<Report>, NotOpened>
     ensures done { IfOk result (HasWorkedUnder (around S.Hosts hosts.old hosts.new) root.now
-        asked.now) }
-    ensures refused { IfErr result (IsRootFault (around S.Hosts hosts.old hosts.new) root.now) }
-    ensures watched { IfOk result (λ ended. AreTold W.tells watcher.old ended.done.units.items
-        watcher.new) }
+        asked.now process) }
+    ensures refused { IfErr result (IsUnitsFault (triggering_of asked.now process)
+        (around S.Hosts hosts.old hosts.new) root.now) }
+    ensures watched { IfOk result (λ ended. AreAllTold W.tells watcher.old ended.done.units.items
+        ended.triggered watcher.new) }
     ensures unwatched { OnErr result (watcher.new ≡ watcher.old) }
     ensures below { S.below hosts.new ≡ S.below hosts.old }
 {
     match hosts.open_root(root.as_str(), streams, wait) {
-        Ok(host) => match work_on(alloc, hosts, host, asked, watcher) {
+        Ok(host) => match work_on(alloc, hosts, host, asked, process, watcher) {
             Ok(ended) => Ok(ended),
             Err(fault) => Err(NotOpened::Opening(fault)),
         },

@@ -1,11 +1,13 @@
 // Trees: the root is opened, they are read one after another, and their packages are unpacked or installed.
-ghost use Rattle.std.specs.Prelude.{◌≡◌, ◌≤◌, IfErr, IfOk, None, OnErr, false, is_some};
+ghost use Rattle.std.specs.Prelude.{◌≡◌, ◌≤◌, ◌++◌, IfErr, IfOk, None, OnErr, OnOk, Some, false, is_some};
+ghost use Rattle.std.specs.List.{flat_map};
 ghost use Rattle.std.specs.Vec.Iter.{into_iter_items};
 ghost use Rattle.unit_reports.specs.Held.{held_by};
-ghost use Rattle.command_line.specs.Printing.{AreTold, IsDoneTold, last_in, last_of_rounds};
+ghost use Rattle.command_line.specs.Printing.{AreTold, IsDoneTold, last_in, last_of_rounds, units_of, units_of_round};
 ghost use Rattle.command_line.specs.Reading.{HaveGoneOn};
-ghost use Rattle.command_line.specs.Roots.{around, IsGivenUpOn, IsRootFault};
-ghost use Rattle.command_line.specs.Unpacks.{HasRunToEnd, HasRunTrees, HasUnpacked, HasUnpackedTrees, IsUnpackedOn};
+ghost use Rattle.command_line.specs.Roots.{around, IsNotBegunOn, IsUnbegun, IsUnitsFault};
+ghost use Rattle.command_line.specs.Triggering.{touched_of};
+ghost use Rattle.command_line.specs.Unpacks.{HasRunSince, HasRunToEnd, HasRunTrees, HasUnpacked, HasUnpackedTrees, IsAllTold, IsUnpackedOn, triggering_for};
 
 use crate::ending::{Ended, end};
 use crate::fault::{NotOpened, RootFault};
@@ -13,11 +15,13 @@ use crate::hosts::Hosts;
 use crate::installing::install_trees;
 use crate::packages::listed;
 use crate::reading::TreeWords;
+use crate::triggering::{Triggering, add_touched_of, last_behind, trigger_behind};
 use administration::AdministrationFault;
 use command_words::Unpacking;
 use conffiles::ConfPolicy;
-use dpkg_session::{Installed, Report, Session, Unit, Watcher};
+use dpkg_session::{Installed, Report, Session, TriggerWatch, Unit, Watcher};
 use std::alloc::{AllocError, Global};
+use texts::Text;
 
 /// What came of trees: a report of their unpacks; or of each round that was begun of an install one of the unpacks, and one of what
 /// was configured then.
@@ -147,7 +151,83 @@ fn run_trees<S: Hosts, W: Watcher>(
     }
 }
 
-// What a session makes of trees, and the end of the command behind them.
+// Adds the names of the packages that the units of a round touched.
+fn add_touched_in(came: &Installed, names: &mut Vec<Text>) -> Result<(), AllocError>
+    ensures { OnOk result (names.new.items ≡ names.old.items ++ touched_of
+        (units_of_round came.now)) }
+{
+    add_touched_of(came.unpacked.units.as_slice(), names)?;
+    add_touched_of(came.configured.units.as_slice(), names)
+}
+
+fn add_touched_of_rounds(rounds: &[Installed], names: &mut Vec<Text>) -> Result<(), AllocError>
+    ensures { OnOk result (names.new.items ≡ names.old.items ++ touched_of
+        (flat_map units_of_round rounds.now)) }
+{
+    for came in rounds {
+        add_touched_in(came, names)?;
+    }
+    Ok(())
+}
+
+// The names of the packages that the units touched.
+fn touched_in(alloc: Global, done: &Done) -> Result<Vec<Text>, AllocError>
+    ensures { IfOk result (λ names. names.items ≡ touched_of (units_of done.now)) }
+{
+    let mut names = Vec::new(alloc);
+    match done {
+        Done::Unpacked(report) => add_touched_of(report.units.as_slice(), &mut names)?,
+        Done::Installed(rounds) => add_touched_of_rounds(rounds.as_slice(), &mut names)?,
+    }
+    Ok(names)
+}
+
+// What is done of triggers around trees.
+fn triggering_for(unpacking: &Unpacking) -> Triggering
+    ensures { result ≡ triggering_for unpacking.now }
+{
+    Triggering {
+        by_files: true,
+        process: unpacking.triggers,
+    }
+}
+
+// What a session makes of trees since triggers are watched, with what is done of these behind them, and the end of the command.
+fn run_watched<S: Hosts, W: Watcher>(
+    alloc: Global,
+    hosts: &mut S,
+    session: &mut Session<S::Opened>,
+    unpacking: &Unpacking,
+    policy: Option<ConfPolicy>,
+    watch: &TriggerWatch,
+    watcher: &mut W,
+) -> Result<Ended<Done>, AllocError>
+    requires { session.old.closed ≡ false }
+    ensures done { IfOk result (λ ended. HasRunSince (around S.Hosts hosts.old hosts.new)
+        watch.now policy unpacking.now ended
+        (held_by session.old.administration session.old.diversions)
+        (S.Opened.state session.old.host) (S.Opened.state session.new.host)) }
+    ensures unread { OnErr result (S.Opened.state session.new.host ≡ S.Opened.state
+        session.old.host) }
+    ensures on { HaveGoneOn S.Hosts hosts.old hosts.new }
+    ensures watched { IfOk result (λ ended. IsAllTold W.tells watcher.old ended watcher.new) }
+    ensures unwatched { OnErr result (watcher.new ≡ watcher.old) }
+{
+    let done = run_trees(alloc, hosts, session, unpacking, policy, watcher)?;
+    let none = None;
+    let last = done.last(&none);
+    let touched = touched_in(alloc, &done);
+    let triggering = triggering_for(unpacking);
+    let triggered = trigger_behind(alloc, session, triggering, watch, last, touched, watcher);
+    let left = end(session, last_behind(last, &triggered));
+    Ok(Ended {
+        done,
+        triggered,
+        left,
+    })
+}
+
+// What a session makes of trees, with what is done of triggers around them, and the end of the command behind all.
 fn run_to_end<S: Hosts, W: Watcher>(
     alloc: Global,
     hosts: &mut S,
@@ -155,22 +235,26 @@ fn run_to_end<S: Hosts, W: Watcher>(
     unpacking: &Unpacking,
     policy: Option<ConfPolicy>,
     watcher: &mut W,
-) -> Result<Ended<Done>, AllocError>
+) -> Result<Ended<Done>, AdministrationFault>
     requires { session.old.closed ≡ false }
     ensures done { IfOk result (λ ended. HasRunToEnd (around S.Hosts hosts.old hosts.new) policy
         unpacking.now ended (held_by session.old.administration session.old.diversions)
         (S.Opened.state session.old.host) (S.Opened.state session.new.host)) }
-    ensures unread { OnErr result (S.Opened.state session.new.host ≡ S.Opened.state
-        session.old.host) }
+    ensures unbegun { IfErr result (λ fault. IsUnbegun (Some (triggering_for unpacking.now)) fault
+        (S.Opened.state session.old.host) (S.Opened.state session.new.host)) }
     ensures on { HaveGoneOn S.Hosts hosts.old hosts.new }
-    ensures watched { IfOk result (λ ended. IsDoneTold W.tells watcher.old ended.done
-        watcher.new) }
+    ensures watched { IfOk result (λ ended. IsAllTold W.tells watcher.old ended watcher.new) }
     ensures unwatched { OnErr result (watcher.new ≡ watcher.old) }
 {
-    let done = run_trees(alloc, hosts, session, unpacking, policy, watcher)?;
-    let none = None;
-    let left = end(session, done.last(&none));
-    Ok(Ended { done, left })
+    match session.watch_triggers(triggering_for(unpacking).by_files) {
+        Ok(watch) => {
+            match run_watched(alloc, hosts, session, unpacking, policy, &watch, watcher) {
+                Ok(ended) => Ok(ended),
+                Err(_) => Err(AdministrationFault::NoMemory),
+            }
+        }
+        Err(fault) => Err(AdministrationFault::from(fault)),
+    }
 }
 
 // The units on the host of the root, which is given back.
@@ -184,10 +268,10 @@ fn unpack_on<S: Hosts, W: Watcher>(
 ) -> Result<Ended<Done>, AdministrationFault>
     ensures done { IfOk result (IsUnpackedOn (around S.Hosts hosts.old hosts.new)
         (S.Opened.state host) policy unpacking.now) }
-    ensures refused { IfErr result (IsGivenUpOn (S.left hosts.new) (S.Opened.state host)) }
+    ensures refused { IfErr result (IsNotBegunOn (Some (triggering_for unpacking.now))
+        (S.left hosts.new) (S.Opened.state host)) }
     ensures faults { S.faults hosts.old ≤ S.faults hosts.new }
-    ensures watched { IfOk result (λ ended. IsDoneTold W.tells watcher.old ended.done
-        watcher.new) }
+    ensures watched { IfOk result (λ ended. IsAllTold W.tells watcher.old ended watcher.new) }
     ensures unwatched { OnErr result (watcher.new ≡ watcher.old) }
     ensures below { S.below hosts.new ≡ S.below hosts.old }
 {
@@ -195,7 +279,7 @@ fn unpack_on<S: Hosts, W: Watcher>(
         Ok(mut session) => {
             let ended = run_to_end(alloc, hosts, &mut session, unpacking, policy, watcher);
             hosts.close_root(session.into_host());
-            Ok(ended?)
+            ended
         }
         Err((host, fault)) => {
             hosts.close_root(host);
@@ -205,7 +289,7 @@ fn unpack_on<S: Hosts, W: Watcher>(
 }
 
 /// Unpacks the trees under the root, and configures their packages where a policy for conffiles is given; or tells why the root
-/// can't be opened. Want of memory outside of the units is told likewise.
+/// can't be opened. Want of memory outside of the units, and a fault of the look at triggers before them, are told likewise.
 pub(crate) fn unpack<S: Hosts, W: Watcher>(
     alloc: Global,
     hosts: &mut S,
@@ -215,11 +299,10 @@ pub(crate) fn unpack<S: Hosts, W: Watcher>(
 ) -> Result<Ended<Done>, NotOpened>
     ensures done { IfOk result (HasUnpacked (around S.Hosts hosts.old hosts.new) policy
         unpacking.now) }
-    ensures refused { IfErr result (IsRootFault (around S.Hosts hosts.old hosts.new)
-        unpacking.now.root) }
+    ensures refused { IfErr result (IsUnitsFault (Some (triggering_for unpacking.now))
+        (around S.Hosts hosts.old hosts.new) unpacking.now.root) }
     ensures faults { S.faults hosts.old ≤ S.faults hosts.new }
-    ensures watched { IfOk result (λ ended. IsDoneTold W.tells watcher.old ended.done
-        watcher.new) }
+    ensures watched { IfOk result (λ ended. IsAllTold W.tells watcher.old ended watcher.new) }
     ensures unwatched { OnErr result (watcher.new ≡ watcher.old) }
     ensures below { S.below hosts.new ≡ S.below hosts.old }
 {

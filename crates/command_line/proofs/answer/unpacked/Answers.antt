@@ -1,27 +1,33 @@
-use Rattle.std.proofs.Common.{rules, ◌≡◌, ◌∙◌, ℕ, List, Option, Ok, Err, ap, refl, subst, sym}
+use Rattle.std.proofs.Common.{rules, ◌≡◌, ◌∙◌, ◌++◌, ℕ, List, Option, Ok, Err, ap, max, refl, subst, sym}
 use Rattle.std.specs.List.{flat_map}
 use Rattle.report_lines.specs.Reports.{unit_lines}
 use Rattle.unit_reports.specs.declared.report.Unit.{Unit as AUnit}
 use Rattle.command_line.specs.Endings.{with_notes}
 use Rattle.command_line.specs.Printing.{IsLeft, last_in, units_answer, units_of}
 use Rattle.command_line.specs.Reports.{done_answer, trees_answer}
+use Rattle.command_line.specs.Triggering.{last_behind, units_behind, with_triggers}
 use Rattle.command_line.specs.declared.answer.Answer.{Answer}
 use Rattle.command_line.proofs.Printed.{done_lines}
+use Rattle.command_line.proofs.Behind.{breaks_off, triggered_answer, units_answer_as}
 use Rattle.command_line.proofs.answer.unpacked.Goals as goal
 
 pub returns-in-Ok-clause-ended : goal.returns-in-Ok-clause-ended
 returns-in-Ok-clause-ended g c =
-    let came = c.in-Ok.came.done in
+    let came = c.in-Ok.came in
+    let done = came.done in
     let ended = c.in-Ok.ensures.done in
-    let lines = flat_map unit_lines (units_of came) in
+    let lines = flat_map unit_lines (units_of done ++ units_behind came.triggered) in
     let held = g.O.Write.contents c.args.out.now in
     let printed = g.O.Write.contents c.unpack_telling-ended.new.printer.out.now in
     let left = c.units_left.ensures.left lines held printed (c.in-Ok.ensures.told refl) in
-    let same : units_answer lines c.last-last.result.now c.done_status.result ≡ done_answer came =
-    ap (λ (last : Option AUnit). units_answer lines last c.done_status.result) c.last-last.ensures ∙ ap (λ n. units_answer lines (last_in came) n) c.done_status.ensures.value
-    ∙ sym (done_lines _ c.args.policy c.args.unpacking.now came _ _ _ _ ended.2.ran.ran) in
-    let notes = c.in-Ok.came.left in
-    (Ok c.in-Ok.came, ended, subst (λ (h : Option (List ℕ)). IsLeft (with_notes notes (done_answer came)) held h c.units_left.result) (search rules) (subst (λ (a : Answer). IsLeft (with_notes notes a) held printed c.units_left.result) same left))
+    let ran = ended.2.ran.ran in
+    let off = breaks_off _ ran.watch (last_in done) _ came.triggered _ _ _ _ ran.triggered in
+    let same : units_answer lines c.last_behind-last.result.now c.max-status.result ≡ with_triggers came.triggered (done_answer done) =
+    units_answer_as lines (c.last_behind-last.ensures ∙ ap (λ (last : Option AUnit). last_behind last came.triggered) c.last.ensures) (search rules)
+    ∙ triggered_answer (units_of done) (last_in done) came.triggered (done_answer done).status off
+    ∙ ap (λ (a : Answer). with_triggers came.triggered a) (sym (done_lines _ c.args.policy c.args.unpacking.now done _ _ _ _ ran.run)) in
+    let notes = came.left in
+    (Ok came, ended, subst (λ (h : Option (List ℕ)). IsLeft (with_notes notes (with_triggers came.triggered (done_answer done))) held h c.units_left.result) (search rules) (subst (λ (a : Answer). IsLeft (with_notes notes a) held printed c.units_left.result) same left))
 
 pub returns-in-Err-clause-ended : goal.returns-in-Err-clause-ended
 returns-in-Err-clause-ended g c =

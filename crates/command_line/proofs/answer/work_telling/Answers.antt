@@ -1,11 +1,9 @@
-use Rattle.unit_reports.specs.declared.report.Report.{Report}
-use Rattle.command_line.specs.declared.ending.Ended.{Ended}
-use Rattle.command_line.proofs.Printed.{printed_result}
-use Rattle.command_line.proofs.Steps.{told_keep}
+use Rattle.command_line.proofs.Printed.{printed_work}
+use Rattle.command_line.proofs.Steps.{work_keeps}
 use Rattle.command_line.proofs.answer.work_telling.Goals as goal
 
 pub returns-clause-same_output : goal.returns-clause-same_output
-returns-clause-same_output g c = told_keep c.work_under.result (λ (ended : Ended Report). ended.done.units.items) _ (λ t. t.out.ghost_name) (λ a b u at h. h.0) c.args.printer.now c.work_under.new.watcher c.work_under.ensures.watched c.work_under.ensures.unwatched
+returns-clause-same_output g c = work_keeps c.work_under.result _ (λ t. t.out.ghost_name) (λ a b u at h. h.0) c.args.printer.now c.work_under.new.watcher c.work_under.ensures.watched c.work_under.ensures.unwatched
 
 pub returns-clause-told : goal.returns-clause-told
-returns-clause-told g c = λ whole. printed_result _ (λ t. t.flow) (λ t. g.O.Write.contents t.out.now) (λ a u at b h. h.1) c.work_under.result (λ (ended : Ended Report). ended.done.units.items) c.args.printer.now c.work_under.new.watcher whole c.work_under.ensures.watched
+returns-clause-told g c = λ whole. printed_work _ (λ t. t.flow) (λ t. g.O.Write.contents t.out.now) (λ a u at b h. h.1) c.work_under.result c.args.printer.now c.work_under.new.watcher whole c.work_under.ensures.watched
