@@ -23,10 +23,19 @@
 //! was broken off no round is begun (`HasInstalledRounds`). For `configure`, `remove` and `purge`
 //! it tells likewise by the report of the units of the named packages. For `select` and
 //! `remove-selected` it does so of what is to be wanted of packages, as words tell it, and of the
-//! packages that go because it is recorded that this is wanted. For `divert` and `undivert` it
-//! tells likewise how the one unit ended, of a change as the words ask for it, on the
-//! administration that was opened; a path or target that no package may ship is told on standard
-//! error before the root is opened.
+//! packages that go because it is recorded that this is wanted.
+//!
+//! Around the units of these commands triggers are watched, but for those of `select`
+//! (`IsAround`): before anything is done it is looked at what packages hit, and a fault of that
+//! look ends the command (`IsUnbegun`). Behind units of which none was broken off the triggers that
+//! the touched packages have activated since become pending, and, unless the words have a flag
+//! against it, what is pending then is processed (`HasTriggered`). The lines of both stand behind
+//! those of the units, and the worst status is told (`with_triggers`). With `--triggers-only` what
+//! is pending is processed and nothing else done.
+//!
+//! For `divert` and `undivert` it tells likewise how the one unit ended, of a change as the words
+//! ask for it, on the administration that was opened; a path or target that no package may ship is
+//! told on standard error before the root is opened.
 //!
 //! For a question the answer is its text over what it reads of the records, lists and diversions
 //! that stand on the host behind the root's word, which was only looked at (`IsInquiredOn`), or the

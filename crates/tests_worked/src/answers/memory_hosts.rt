@@ -3,6 +3,7 @@ ghost use Rattle.std.specs.Prelude.{◌≡◌, ⊤, IsTrue, Some, option_map};
 ghost use Rattle.host_memory.specs.Memory.{memory_state};
 
 mod access_rows;
+mod activation_rows;
 mod adoption_rows;
 mod architecture_rows;
 mod configure_rows;

@@ -1,4 +1,4 @@
-// Packages with triggers, as dpkg records them: what is told of them, what they meet, and what is refused of them.
+// Packages with triggers, as dpkg records them: what is told of them, what they meet, and what is done with them.
 use super::{TreeFile, answers, expect};
 use std::test::Fail;
 
@@ -75,28 +75,29 @@ cut up unpacked ok
 ",
 );
 
-const REFUSED: TriggerRow = (
+// What is pending goes with an upgrade and with a package, and is processed behind the units of others; what is awaited stays.
+const UNITS: TriggerRow = (
     &[RECORDED],
     &[
-        "dpkg_cli unpack aw pend",
         "dpkg_cli configure missing aw pend up",
-        "dpkg_cli configure",
-        "dpkg_cli remove aw missing",
-        "dpkg_cli purge pend",
+        "dpkg_cli list",
+        "dpkg_cli unpack aw pend",
+        "dpkg_cli purge both missing",
+        "dpkg_cli list",
     ],
-    "refused aw TriggerState
-refused pend TriggerState
+    "refused missing Unknown
 ||1
-refused missing Unknown
-refused aw TriggerState
-refused pend TriggerState
-refused up TriggerState
-||1
-||0
-refused aw TriggerState
-refused missing Unknown
-||1
-refused pend TriggerState
+",
+);
+
+const TAKEN_AWAY: TriggerRow = (
+    &[RECORDED],
+    &[
+        "dpkg_cli purge pend",
+        "dpkg_cli remove --no-triggers both aw",
+        "dpkg_cli list",
+    ],
+    "refused missing Unknown
 ||1
 ",
 );
@@ -105,9 +106,9 @@ refused pend TriggerState
 const NEEDED: TriggerRow = (
     &[RECORDED],
     &[
-        "dpkg_cli install met",
-        "dpkg_cli install unmet",
-        "dpkg_cli unpack before",
+        "dpkg_cli install --no-triggers met",
+        "dpkg_cli install --no-triggers unmet",
+        "dpkg_cli unpack --no-triggers before",
         "read /var/lib/dpkg/status",
     ],
     "state met 1 install ok unpacked
@@ -161,8 +162,8 @@ Triggers-Awaited: pend
 const DISPLACED: TriggerRow = (
     &[RECORDED],
     &[
-        "dpkg_cli install instead",
-        "dpkg_cli unpack --auto-deconfigure breaks",
+        "dpkg_cli install --no-triggers instead",
+        "dpkg_cli unpack --no-triggers --auto-deconfigure breaks",
         "dpkg_cli status both",
     ],
     "state aw none
@@ -184,7 +185,7 @@ Triggers-Awaited: pend
 ",
 );
 
-const ROWS: &[TriggerRow] = &[TOLD, REFUSED, NEEDED, DISPLACED];
+const ROWS: &[TriggerRow] = &[TOLD, UNITS, TAKEN_AWAY, NEEDED, DISPLACED];
 
 #[test]
 fn packages_with_triggers_are_told_of(rt: HostRuntime) -> Result<(), Fail> {
