@@ -307,8 +307,9 @@ fn work_on<S: Hosts, W: Watcher>(
     }
 }
 
-/// Does the work under the root, and processes what is pending behind it where that is wanted and the work may activate triggers; or tells
-/// why the root can't be opened. Want of memory outside of the units, and a fault of the look at triggers before them, are told likewise.
+/// Does the work under the root, and processes what is pending behind it where that is wanted and the work activates triggers; or
+/// tells why the root can't be opened. Want of memory outside of the units, and a fault of the look at triggers before them, are
+/// told likewise.
 pub(crate) fn work_under<S: Hosts, W: Watcher>(
     alloc: Global,
     hosts: &mut S,

@@ -148,8 +148,8 @@ fn process<H: Host, W: Watcher>(
     }
 }
 
-/// Notes the triggers that packages have activated since the watch was taken, and processes what is pending then; nothing behind a unit
-/// that was broken off.
+/// Notes the triggers that packages have activated since the watch was taken, and processes what is pending then; nothing behind a
+/// unit that was broken off.
 pub(crate) fn trigger_behind<H: Host, W: Watcher>(
     alloc: Global,
     session: &mut Session<H>,
