@@ -144,7 +144,7 @@ state ti 1 install ok triggers-pending
 done
 state te 1 install ok installed
 done
-call old ti postinst triggered \"/usr/share/x own\": exit 0
+call old ti postinst triggered /usr/share/x own: exit 0
 state ti 1 install ok installed
 done
 ||0
@@ -200,7 +200,7 @@ done
 state ti 1 install ok triggers-pending
 done
 ||0
-call old ti postinst triggered \"/usr/share/x own\": exit 0
+call old ti postinst triggered /usr/share/x own: exit 0
 state ti 1 install ok installed
 done
 ||0
@@ -277,7 +277,7 @@ state ti 1 install ok triggers-pending
 done
 ||0
 refused ti WrongState
-call old ti postinst triggered \"/usr/share/x own\": exit 0
+call old ti postinst triggered /usr/share/x own: exit 0
 state ti 1 install ok installed
 done
 ||1
@@ -289,7 +289,7 @@ done
 state ti 1 install ok triggers-pending
 done
 ||0
-call old ti postinst triggered \"/usr/share/x own\": exit 0
+call old ti postinst triggered /usr/share/x own: exit 0
 state ti 1 install ok installed
 done
 ||0

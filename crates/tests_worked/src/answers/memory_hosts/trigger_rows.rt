@@ -86,7 +86,33 @@ const UNITS: TriggerRow = (
         "dpkg_cli list",
     ],
     "refused missing Unknown
+refused aw WrongState
+refused pend WrongState
+state up 1 install ok triggers-awaited
+done
+state both 1 install ok triggers-awaited
+done
+state pend 1 install ok installed
+done
 ||1
+aw 2 triggers-awaited
+both 1 triggers-awaited
+pend 1 installed
+up 1 triggers-awaited
+||0
+state aw 3 install ok unpacked
+done
+state pend 3 install ok unpacked
+done
+||0
+refused missing Unknown
+state both none
+done
+||1
+aw 3 unpacked
+pend 3 unpacked
+up 1 triggers-awaited
+||0
 ",
 );
 
@@ -97,8 +123,18 @@ const TAKEN_AWAY: TriggerRow = (
         "dpkg_cli remove --no-triggers both aw",
         "dpkg_cli list",
     ],
-    "refused missing Unknown
-||1
+    "state pend none
+done
+state both 1 install ok triggers-awaited
+done
+||0
+state both none
+done
+state aw none
+done
+||0
+up 1 unpacked
+||0
 ",
 );
 
