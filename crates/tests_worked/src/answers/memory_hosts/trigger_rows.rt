@@ -128,9 +128,9 @@ done
 state both 1 install ok triggers-awaited
 done
 ||0
-state both none
-done
 state aw none
+done
+state both none
 done
 ||0
 up 1 unpacked
