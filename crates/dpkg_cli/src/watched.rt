@@ -47,6 +47,25 @@ fn learn(architectures: &mut Architectures, path: &RootPath, node: &Node) {
     }
 }
 
+// Keeps what a frontend is to be told of a note.
+fn keep(written: &mut Option<String>, line: Line<'_>, path: &RootPath, node: &Node) {
+    if !is_note(path) || !line.frontend.is_open() {
+        return;
+    }
+    let alloc = line.rt.alloc();
+    *written = records_in(path, node).and_then(|record| lines_of_note(alloc, record));
+}
+
+// Tells it, once the note has its name.
+fn tell(written: &mut Option<String>, line: Line<'_>, path: &RootPath) {
+    if !is_note(path) {
+        return;
+    }
+    if let Some(lines) = written.take() {
+        line.frontend.tell(lines.as_str());
+    }
+}
+
 impl<'a, D: Disk> Watched<'a, D> {
     fn show(&self, path: &RootPath, node: &Node) {
         if !is_note(path) {
@@ -54,25 +73,6 @@ impl<'a, D: Disk> Watched<'a, D> {
         }
         if let Some(package) = records_in(path, node).and_then(package_in) {
             self.line.show_package(package);
-        }
-    }
-
-    // Keeps what a frontend is to be told of a note.
-    fn keep(&mut self, path: &RootPath, node: &Node) {
-        if !is_note(path) || !self.line.frontend.is_open() {
-            return;
-        }
-        let alloc = self.line.rt.alloc();
-        self.written = records_in(path, node).and_then(|record| lines_of_note(alloc, record));
-    }
-
-    // Tells it, once the note has its name.
-    fn tell(&mut self, path: &RootPath) {
-        if !is_note(path) {
-            return;
-        }
-        if let Some(line) = self.written.take() {
-            self.line.frontend.tell(line.as_str());
         }
     }
 }
@@ -104,7 +104,7 @@ impl<'a, D: Disk> Host for Watched<'a, D> {
 
     fn write_new(&mut self, path: &RootPath, node: &Node) -> Result<(), HostFault> {
         self.show(path, node);
-        self.keep(path, node);
+        keep(&mut self.written, self.line, path, node);
         learn(&mut self.architectures, path, node);
         self.host.write_new(path, node)
     }
@@ -139,8 +139,8 @@ impl<'a, D: Disk> Host for Watched<'a, D> {
 
     fn rename(&mut self, from: &RootPath, to: &RootPath) -> Result<(), HostFault> {
         let renamed = self.host.rename(from, to);
-        if renamed.is_ok() {
-            self.tell(to);
+        if let Ok(()) = &renamed {
+            tell(&mut self.written, self.line, to);
         }
         renamed
     }
