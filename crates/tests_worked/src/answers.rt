@@ -46,11 +46,14 @@ fn is_unread_tree(text: &str) -> bool {
     }
 }
 
-// Whether a unit was broken off for want of memory, behind the lines of calls that it made.
+// Whether a unit was broken off for want of memory, behind the lines of calls that it made, or behind all units what they activate
+// of triggers.
 fn is_broken_off(text: &str, calls: &str) -> bool {
     match text.strip_suffix("broken memory\n||2\n") {
-        Some(made) => calls.starts_with(made) && (made.is_empty() || made.ends_with("\n")),
-        None => false,
+        Some(made) if made.is_empty() || made.ends_with("\n") => {
+            calls.starts_with(made) || made.starts_with(calls)
+        }
+        _ => false,
     }
 }
 
