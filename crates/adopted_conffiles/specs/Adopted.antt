@@ -1,6 +1,7 @@
 -- Conffiles that another program unpacked with a package (Policy 10.7.3): dpkg leaves the shipped file of each beside its place, and records no
--- digest of it. They are taken up as our own unpack leaves them: each such digest is recorded, and its conffile isn't settled yet.
-use Rattle.std.specs.Prelude.{◌≡◌, ◌&&◌, ◌||◌, Bool, true, false, cond, List, [], ◌∷◌, Option, Some, None, map}
+-- digest of it. They are taken up as our own unpack leaves them: each such digest is recorded, and its conffile isn't settled yet. What the record of a
+-- package that another program configured still tells of conffiles that weren't settled, or of a removal, is taken away.
+use Rattle.std.specs.Prelude.{◌≡◌, ◌&&◌, ◌||◌, not, Bool, true, false, cond, List, [], ◌∷◌, Option, Some, None, map}
 use Rattle.std.specs.List.{AllByRecursion, flat_map}
 use Rattle.md5.specs.Md5.{md5}
 use Rattle.aliases.specs.Aliases.{resolved}
@@ -12,6 +13,7 @@ use Rattle.host_core.specs.declared.node.Node.{Node}
 use Rattle.host_core.specs.declared.node.Node.TheVariants.{File, Dir, Link}
 use Rattle.status_records.specs.ConffilePaths.{is_before}
 use Rattle.status_records.specs.Standings.{with_conffiles}
+use Rattle.status_records.specs.Words.{is_installed}
 use Rattle.status_records.specs.declared.entries.ConffileEntry.{ConffileEntry}
 use Rattle.status_records.specs.declared.entries.PendingDigest.{PendingDigest}
 use Rattle.status_records.specs.declared.record.Record.{Record}
@@ -67,9 +69,18 @@ abbrev pub taken_with : Record → List PendingDigest → List Record
 taken_with r [] = []
 taken_with r (p ∷ ps) = with_conffiles r.conffiles (p ∷ ps) r ∷ []
 
+-- of an installed package, pending triggers or not, the record still tells what held before it was configured: another program configures it
+-- and keeps fields that it doesn't know
+abbrev pub tells_more : Record → Bool
+tells_more r = is_installed r.state && (not (has_none r.pending) || r.removed_since)
+
+-- the record without that: all conffiles are settled, and no removal has reached the files since
+abbrev pub settled : Record → Record
+settled r = record (with_conffiles r.conffiles [] r) { removed_since = false }
+
 -- the record as it is taken up, if there is anything to take up
 abbrev pub taken : World → Ways → Record → List Record
-taken w ways r = cond (awaits r) (taken_with r (pending_beside w ways r)) []
+taken w ways r = cond (tells_more r) (settled r ∷ []) (cond (awaits r) (taken_with r (pending_beside w ways r)) [])
 
 abbrev pub first_or : List Record → Record → Record
 first_or [] r = r

@@ -11,24 +11,23 @@ use Rattle.host_core.specs.declared.fault.HostFault.TheVariants.{Device, NoMemor
 use Rattle.administration.specs.Fault.{fault_of}
 use Rattle.dpkg_session.specs.Installs.{last_of}
 use Rattle.dpkg_session.specs.Standing.{CountsRefusal}
-use Rattle.trigger_watch.specs.Watch.{IsWatch}
-use Rattle.trigger_watch.specs.declared.watching.TriggerWatch.{TriggerWatch}
+use Rattle.trigger_watch.specs.declared.touching.Touch.{Touch}
 use Rattle.report_lines.specs.Reports.{report_lines, unit_lines}
 use Rattle.unit_reports.specs.Held.{Held}
 use Rattle.unit_reports.specs.declared.report.Report.{Report}
 use Rattle.unit_reports.specs.declared.report.Unit.{Unit as AUnit}
-use Rattle.conffiles.specs.declared.decisions.ConfPolicy.{ConfPolicy}
+use Rattle.configure_run.specs.declared.options.ConfigureOptions.{ConfigureOptions}
 use Rattle.command_words.specs.declared.unpacking.Unpacking.{Unpacking}
 use Rattle.command_line.specs.Packages.{HasWorkedAround, HasWorkedSince, HasWorkedWith}
-use Rattle.command_line.specs.Printing.{AreTold, last_in, units_answer, units_of}
+use Rattle.command_line.specs.Printing.{AreTold, AreToldInTurns, last_in, units_answer, units_of}
 use Rattle.command_line.specs.Reports.{done_answer, report_answer}
-use Rattle.administration.specs.declared.fault.AdministrationFault.TheVariants as opening_faults
-use Rattle.command_line.specs.Roots.{Around, IsUnbegun}
-use Rattle.command_line.specs.Triggering.{AreTriggersTold, HasProcessed, HasProcessedAll, HasTriggered, HasTriggeredBehind, IsAround, IsIdle, IsUntriggered, last_behind, triggered_status, units_behind, with_triggers}
+use Rattle.command_line.specs.Roots.{Around}
+use Rattle.command_line.specs.Triggering.{AreTriggersTold, HasBegun, HasProcessed, HasTriggered, HasTriggeredBehind, IsAround, IsIdle, IsUntriggered, last_behind, triggered_status, units_behind, with_triggers}
 use Rattle.command_line.specs.Unpacks.{HasRunSince, HasRunToEnd, HasRunTrees, triggering_for}
 use Rattle.command_line.specs.declared.answer.Answer.{Answer}
 use Rattle.command_line.specs.declared.ending.Ended.{Ended}
 use Rattle.command_line.specs.declared.packages.Work.{Work}
+use Rattle.command_line.specs.declared.triggering.Known.{Known}
 use Rattle.command_line.specs.declared.triggering.Triggered.{Triggered}
 use Rattle.command_line.specs.declared.triggering.Triggering.{Triggering}
 use Rattle.command_line.specs.declared.unpacking.Done.{Done}
@@ -52,10 +51,6 @@ counts_fault T s t Device c = c
 counts_fault T s t NoMemory c = c
 counts_fault T s t Declined c = c
 
--- memory was wanting behind a look, and nothing had been begun
-pub unbegun_behind : {T : Type 0} (t : Triggering) (x : T) (P : T → World → Type 0) (s mid end : State) → end ≡ mid → Looks (Ok x) P s mid → IsUnbegun (Some t) opening_faults.NoMemory s end
-unbegun_behind t x P s mid end same l = subst (λ e. IsUnbegun (Some t) opening_faults.NoMemory s e) (sym same) (l.reads, l.silent, l.counts)
-
 pub held_same : {A D : Type 0} (f : A → D → Held) (a b : A) (d e : D) → b ≡ a → e ≡ d → f b e ≡ f a d
 held_same f a b d e is same = ap (λ x. f x e) is ∙ ap (f a) same
 
@@ -69,32 +64,28 @@ pub last_idle : (last : Option AUnit) (came : Triggered) → IsUntriggered came 
 last_idle (Some u) came idle = refl
 last_idle None came idle = ap (λ (o : Option AUnit). last_of o came.processed.last) idle.noted.last ∙ idle.processed.last
 
--- what is processed, where it is wanted and no unit was broken off
-
-pub processed_when : (wanted : Bool) (last : Option AUnit) (done : Report) (before after : Held) (s end : State) → wanted ≡ true → last ≡ None → HasProcessedAll done before after s end → HasProcessed wanted last done before after s end
-processed_when true None done before after s end is none all = all
-processed_when true (Some u) done before after s end is none all = cc
-processed_when false last done before after s end is none all = cc
-
 -- nothing was told
 
 pub told_none : {W : Type 0} (tells : W → AUnit → State → W → Type 0) (s : State) (w : W) (us : List AUnit) → us ≡ [] → AreTold tells w us w
 told_none tells s w us is = subst (λ (l : List AUnit). AreTold tells w l w) (sym is) (s, refl)
 
+pub turns_none : {W : Type 0} (tells : W → AUnit → State → W → Type 0) (w : W) (us : List AUnit) → us ≡ [] → AreToldInTurns tells w us w
+turns_none tells w us is = subst (λ (l : List AUnit). AreToldInTurns tells w l w) (sym is) AreToldInTurns.nothing
+
 pub told_idle : {W : Type 0} (tells : W → AUnit → State → W → Type 0) (s : State) (w : W) (came : Triggered) → IsUntriggered came → AreTriggersTold tells w came w
-told_idle tells s w came idle = (w, told_none tells s w came.noted.units.items idle.noted.units, told_none tells s w came.processed.units.items idle.processed.units)
+told_idle tells s w came idle = (w, told_none tells s w came.noted.units.items idle.noted.units, turns_none tells w came.processed.units.items idle.processed.units)
 
--- units since triggers are watched, and the watch before them
+-- units, and what is done of triggers before them
 
-pub work_since : (t : Triggering) (watch : TriggerWatch) (asked : Work) (ended : Ended Report) (before : Held) (s begun end : State)
-    → Looks (Ok watch) (λ found w. IsWatch w before.records.records before.lists t.by_files found) s begun → HasWorkedSince t watch asked ended before begun end → HasWorkedWith (Some t) asked ended before s end
-work_since t watch asked ended before s begun end looks since = record {
+pub work_since : (t : Triggering) (known : Known) (asked : Work) (ended : Ended Report) (before : Held) (s begun end : State)
+    → HasBegun t.by_files known before s begun → HasWorkedSince t known asked ended before begun end → HasWorkedWith (Some t) asked ended before s end
+work_since t known asked ended before s begun end first since = record {
   after = since.after;
   mid = since.behind;
   worked = record {
-    watch = watch;
+    known = known;
     begun = begun;
-    watched = looks;
+    first = first;
     mid = since.mid;
     done = since.done;
     run = since.worked;
@@ -103,15 +94,15 @@ work_since t watch asked ended before s begun end looks since = record {
   ending = since.ending;
 }
 
-pub run_since : (a : Around) (watch : TriggerWatch) (policy : Option ConfPolicy) (u : Unpacking) (ended : Ended Done) (before : Held) (s begun end : State)
-    → Looks (Ok watch) (λ found w. IsWatch w before.records.records before.lists true found) s begun → HasRunSince a watch policy u ended before begun end → HasRunToEnd a policy u ended before s end
-run_since a watch policy u ended before s begun end looks since = record {
+pub run_since : (a : Around) (known : Known) (options : Option ConfigureOptions) (u : Unpacking) (ended : Ended Done) (before : Held) (s begun end : State)
+    → HasBegun true known before s begun → HasRunSince a known options u ended before begun end → HasRunToEnd a options u ended before s end
+run_since a known options u ended before s begun end first since = record {
   after = since.after;
   mid = since.behind;
   ran = record {
-    watch = watch;
+    known = known;
     begun = begun;
-    watched = looks;
+    first = first;
     mid = since.mid;
     done = since.done;
     run = since.ran;
@@ -123,9 +114,9 @@ run_since a watch policy u ended before s begun end looks since = record {
 pub around_as : (t : Triggering) (us : List AUnit) (last : Option AUnit) (Run More : Held → State → State → Type 0) (came : Triggered) (before after : Held) (s end : State)
     → ((mid : Held) (begun done : State) → Run mid begun done → More mid begun done) → IsAround t us last Run came before after s end → IsAround t us last More came before after s end
 around_as t us last Run More came before after s end so around = record {
-  watch = around.watch;
+  known = around.known;
   begun = around.begun;
-  watched = around.watched;
+  first = around.first;
   mid = around.mid;
   done = around.done;
   run = so around.mid around.begun around.done around.run;
@@ -142,24 +133,23 @@ pub record BreaksOff (last : Option AUnit) (came : Triggered) : Type 0 where
   pub units : is_some last ≡ true → IsUntriggered came
   pub noted : is_some came.noted.last ≡ true → IsIdle came.processed
 
-breaks_processed : (process : Bool) (last : Option AUnit) (done : Report) (before after : Held) (s end : State) → HasProcessed process last done before after s end → is_some last ≡ true → IsIdle done
-breaks_processed true None done before after s end h is = cc
-breaks_processed true (Some u) done before after s end h is = h.0
-breaks_processed false last done before after s end h is = h.0
+breaks_processed : (process : Bool) (names : List (List ℕ)) (last : Option AUnit) (done : Report) (before after : Held) (s end : State) → HasProcessed process names last done before after s end → is_some last ≡ true → IsIdle done
+breaks_processed process names None done before after s end h is = cc
+breaks_processed process names (Some u) done before after s end h is = h.0
 
-pub breaks_off : (t : Triggering) (watch : TriggerWatch) (last : Option AUnit) (touched : List (List ℕ)) (came : Triggered) (before after : Held) (s end : State) → HasTriggeredBehind t watch last touched came before after s end → BreaksOff last came
-breaks_off t watch None touched came before after s end h = record {
+pub breaks_off : (t : Triggering) (known : Known) (last : Option AUnit) (touched : List Touch) (came : Triggered) (before after : Held) (s end : State) → HasTriggeredBehind t known last touched came before after s end → BreaksOff last came
+breaks_off t known None touched came before after s end h = record {
   units = λ is. cc;
-  noted = breaks_processed t.process came.noted.last came.processed h.mid after h.noting end h.processed;
+  noted = breaks_processed t.process _ came.noted.last came.processed h.mid after h.noting end h.processed;
 }
-breaks_off t watch (Some u) touched came before after s end h = record { units = λ is. h.0; noted = λ is. h.0.processed }
+breaks_off t known (Some u) touched came before after s end h = record { units = λ is. h.0; noted = λ is. h.0.processed }
 
 pub breaks_idle : (last : Option AUnit) (came : Triggered) → IsUntriggered came → BreaksOff last came
 breaks_idle last came idle = record { units = λ is. idle; noted = λ is. idle.processed }
 
 pub breaks_work : (t : Option Triggering) (asked : Work) (done : Report) (came : Triggered) (before after : Held) (s end : State) → HasWorkedAround t asked done came before after s end → BreaksOff done.last came
 breaks_work None asked done came before after s end h = breaks_idle done.last came h.0
-breaks_work (Some t) asked done came before after s end h = breaks_off t h.watch done.last _ came h.mid after h.done end h.triggered
+breaks_work (Some t) asked done came before after s end h = breaks_off t h.known done.last _ came h.mid after h.done end h.triggered
 
 -- two reports, nothing in the second behind a broken unit in the first
 both_lines : (us vs : List AUnit) (a b : Option AUnit) (second : List ℕ) → second ≡ flat_map unit_lines vs ++ flat_map unit_lines (option_to_list b) → (is_some a ≡ true → (vs ≡ []) × (b ≡ None))

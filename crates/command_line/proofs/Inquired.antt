@@ -36,11 +36,13 @@ kept s t P reads needs = λ h. subst P (sym reads.world) (needs (reads.honest h)
 answered_behind : (asked : Inquiry) (answer : Answer) (s t : State) → Reads s t → IsAnsweredFrom s asked answer → IsAnsweredFrom t asked answer
 answered_behind inquiry.Audit answer s t reads from = (from.0, (from.1.0, from.1.1, from.1.2, from.1.3, kept s t (HasAll from.1.0 from.1.1 from.1.2 from.1.3) reads from.1.4, from.1.5), from.2)
 answered_behind inquiry.Diversions answer s t reads from = (from.0, (from.1.0, kept s t (λ w. HasDiversions w from.1.0) reads from.1.1, from.1.2), from.2)
-answered_behind inquiry.List answer s t reads from = (from.0, (from.1.0, kept s t (λ w. HasRecords w from.1.0) reads from.1.1, from.1.2), from.2)
+answered_behind (inquiry.List layout patterns) answer s t reads from = (from.0, (from.1.0, kept s t (λ w. HasRecords w from.1.0) reads from.1.1, from.1.2), from.2)
 answered_behind (inquiry.ListFiles name) answer s t reads from = (from.0, (from.1.0, from.1.1, from.1.2, kept s t (λ w. HasOneList w from.1.0 name from.1.2 from.1.1) reads from.1.3, from.1.4), from.2)
 answered_behind (inquiry.Search path) answer s t reads from =
     (from.0, (from.1.0, from.1.1, from.1.2, from.1.3, kept s t (λ w. HasFollowed from.1.0 from.1.1 from.1.2 from.1.3 w × IsWhole w path from.1.2.aliases) reads from.1.4, from.1.5), from.2)
-answered_behind inquiry.Selections answer s t reads from = (from.0, (from.1.0, kept s t (λ w. HasRecords w from.1.0) reads from.1.1, from.1.2), from.2)
+answered_behind (inquiry.SearchMatching pattern) answer s t reads from =
+    (from.0, (from.1.0, from.1.1, from.1.2, from.1.3, kept s t (HasAll from.1.0 from.1.1 from.1.2 from.1.3) reads from.1.4, from.1.5), from.2)
+answered_behind (inquiry.Selections patterns) answer s t reads from = (from.0, (from.1.0, kept s t (λ w. HasRecords w from.1.0) reads from.1.1, from.1.2), from.2)
 answered_behind (inquiry.Status name) answer s t reads from = (from.0, (from.1.0, kept s t (λ w. HasRecords w from.1.0) reads from.1.1, from.1.2), from.2)
 answered_behind (inquiry.Truename user path) answer s t reads from = (from.0, (from.1.0, kept s t (HasWays path from.1.0) reads from.1.1, from.1.2), from.2)
 
@@ -52,18 +54,21 @@ unread_fault inquiry.Audit w host.Declined = inl tt
 unread_fault inquiry.Diversions w host.Device = tt
 unread_fault inquiry.Diversions w host.NoMemory = tt
 unread_fault inquiry.Diversions w host.Declined = tt
-unread_fault inquiry.List w host.Device = tt
-unread_fault inquiry.List w host.NoMemory = tt
-unread_fault inquiry.List w host.Declined = tt
+unread_fault (inquiry.List layout patterns) w host.Device = tt
+unread_fault (inquiry.List layout patterns) w host.NoMemory = tt
+unread_fault (inquiry.List layout patterns) w host.Declined = tt
 unread_fault (inquiry.ListFiles name) w host.Device = inl tt
 unread_fault (inquiry.ListFiles name) w host.NoMemory = inl tt
 unread_fault (inquiry.ListFiles name) w host.Declined = inl tt
 unread_fault (inquiry.Search place) w host.Device = inl tt
 unread_fault (inquiry.Search place) w host.NoMemory = inl tt
 unread_fault (inquiry.Search place) w host.Declined = inl tt
-unread_fault inquiry.Selections w host.Device = tt
-unread_fault inquiry.Selections w host.NoMemory = tt
-unread_fault inquiry.Selections w host.Declined = tt
+unread_fault (inquiry.SearchMatching pattern) w host.Device = inl tt
+unread_fault (inquiry.SearchMatching pattern) w host.NoMemory = inl tt
+unread_fault (inquiry.SearchMatching pattern) w host.Declined = inl tt
+unread_fault (inquiry.Selections patterns) w host.Device = tt
+unread_fault (inquiry.Selections patterns) w host.NoMemory = tt
+unread_fault (inquiry.Selections patterns) w host.Declined = tt
 unread_fault (inquiry.Status name) w host.Device = tt
 unread_fault (inquiry.Status name) w host.NoMemory = tt
 unread_fault (inquiry.Status name) w host.Declined = tt

@@ -11,6 +11,7 @@ mod Turns
 mod Rehearsed
 mod Compared
 mod Verified
-mod ChangedPaths
 mod Behind
+mod Begun
+mod Asking
 pub mod Told

@@ -1,6 +1,6 @@
 -- Who owns the diversions that words ask for: the administrator, or a package by its name.
 use Rattle.std.proofs.Common.{◌≡◌, ℕ, Bool, true, false, List, [], ◌∷◌, Option, Some, None, length, nat_le, if◌then◌else◌, codes, refl, subst}
-use Rattle.std.specs.Prelude.{option_map}
+use Rattle.std.specs.Prelude.{◌&&◌, option_map}
 use Rattle.std.specs.Option.{option_or}
 use Rattle.std.specs.Str.{bytes_eq}
 use Rattle.texts.specs.PackageNames.{is_package_name}
@@ -8,6 +8,7 @@ use Rattle.clap.specs.Words.{Kinds, Row, Text, fault_of, first_of}
 use Rattle.diversions.specs.Entries.{is_owner}
 use Rattle.command_words.specs.CommandLine.{whole_app}
 use Rattle.command_words.specs.Commands.{asked_by, asked_in, asked_of, comparison_of, configure_asked, entered, flagged, flagged_by, parsed_of, unless_faulty}
+use Rattle.command_words.specs.Frontends.{has_descriptors}
 use Rattle.command_words.specs.Packages.{configuring_of, removing_of}
 use Rattle.command_words.specs.Selecting.{removing_selected_of, selecting_of}
 use Rattle.command_words.specs.Unpacks.{unpacking_of}
@@ -121,7 +122,7 @@ by_named name rows =
 
 in_named : (sub : Option (Text × List Row)) → Named (asked_in sub)
 in_named None = tt
-in_named (Some sub) = if_named (is_rehearsable sub.1) _ None (by_named sub.0 sub.1) tt
+in_named (Some sub) = if_named (has_descriptors sub.1 && is_rehearsable sub.1) _ None (by_named sub.0 sub.1) tt
 
 faulty_named : (kinds : Kinds) (asked : Option Asked) → Named asked → Named (unless_faulty kinds asked)
 faulty_named [] asked named = named

@@ -7,7 +7,7 @@ use Rattle.std.specs.List.{flat_map}
 use Rattle.std.specs.Result.{IsErrAnd}
 use Rattle.std.proofs.lemmas.Grind.{flat_map-append}
 use Rattle.version_order.specs.declared.fault.VersionFault.{VersionFault}
-use Rattle.conffiles.specs.declared.decisions.ConfPolicy.{ConfPolicy}
+use Rattle.configure_run.specs.declared.options.ConfigureOptions.{ConfigureOptions}
 use Rattle.host_core.specs.Host.{State}
 use Rattle.host_core.specs.declared.fault.HostFault.{HostFault}
 use Rattle.report_lines.specs.Notes.{notes_line}
@@ -23,12 +23,13 @@ use Rattle.undo_rows.specs.declared.rows.Called.{Called}
 use Rattle.unit_reports.specs.Watching.{IsToldBehind}
 use Rattle.unit_reports.specs.declared.report.Report.{Report}
 use Rattle.unit_reports.specs.declared.report.Unit.{Unit as AUnit}
+use Rattle.unpack_relations.specs.declared.options.UnpackOptions.{UnpackOptions}
 use Rattle.command_line.specs.Endings.{with_notes}
-use Rattle.command_line.specs.Printing.{AppendsFront, AppendsPart, AreRoundsTold, AreTold, HasPrinted, IsDoneTold, IsLeft, Prints, last_in, last_of_round, last_of_rounds, output_left, units_answer, units_of, units_of_round}
+use Rattle.command_line.specs.Printing.{AppendsFront, AppendsPart, AreRoundsTold, AreTold, AreToldInTurns, HasPrinted, IsDoneTold, IsLeft, Prints, last_in, last_of_round, last_of_rounds, output_left, units_answer, units_of, units_of_round}
 use Rattle.command_line.specs.Reports.{IsGiven, IsGivenInPart, bad_answer, comparison_answer, done_answer, memory_answer, round_lines, rounds_status, wanting_answer}
 use Rattle.command_line.specs.Roots.{Around}
 use Rattle.command_line.specs.Triggering.{AreAllTold, AreTriggersTold, units_behind}
-use Rattle.command_line.specs.Unpacks.{HasInstalledRounds, HasRunTrees, IsAllTold}
+use Rattle.command_line.specs.Unpacks.{HasInstalledRounds, HasRunTrees, IsAllTold, allowed_of}
 use Rattle.command_line.specs.declared.answer.Answer.{Answer}
 use Rattle.command_line.specs.declared.answer.Left.{Left}
 use Rattle.command_line.specs.declared.printing.Flow.{Flow}
@@ -80,13 +81,19 @@ module _ {W : Type 0} (tells : W → AUnit → State → W → Type 0) (flow_of 
   printed_behind us more first mid new so_far (s, told) =
       subst (λ (l : List ℕ). HasPrinted l (flow_of new) first (held new)) (sym (flat_map-append unit_lines us more)) (printed_on s [] more (flat_map unit_lines us) first mid new so_far told)
 
+  printed_in_turns : (us : List AUnit) (first : Option (List ℕ)) (mid : W) (more : List AUnit) (new : W) → HasPrinted (flat_map unit_lines us) (flow_of mid) first (held mid) → AreToldInTurns tells mid more new → HasPrinted (flat_map unit_lines (us ++ more)) (flow_of new) first (held new)
+  printed_in_turns us first mid more new so_far AreToldInTurns.nothing = subst (λ (l : List AUnit). HasPrinted (flat_map unit_lines l) (flow_of mid) first (held mid)) (sym (append-nil us)) so_far
+  printed_in_turns us first mid more new so_far (AreToldInTurns.then vs others at end told last) =
+      subst (λ (l : List AUnit). HasPrinted (flat_map unit_lines l) (flow_of end) first (held end)) (append_assoc us vs others)
+      (printed_behind (us ++ vs) others first at end (printed_in_turns us first mid vs at so_far told) last)
+
   printed_triggers : (us : List AUnit) (came : Triggered) (first : Option (List ℕ)) (old new : W) → HasPrinted (flat_map unit_lines us) (flow_of old) first (held old) → AreTriggersTold tells old came new
       → HasPrinted (flat_map unit_lines (us ++ units_behind came)) (flow_of new) first (held new)
   printed_triggers us came first old new so_far (mid, noted, processed) =
       let nu = came.noted.units.items in
       let pu = came.processed.units.items in
       subst (λ (l : List AUnit). HasPrinted (flat_map unit_lines l) (flow_of new) first (held new)) (append_assoc us nu pu)
-      (printed_behind (us ++ nu) pu first mid new (printed_behind us nu first old mid so_far noted) processed)
+      (printed_in_turns (us ++ nu) first mid pu new (printed_behind us nu first old mid so_far noted) processed)
 
   printed_ended : (us : List AUnit) (came : Triggered) (old new : W) → flow_of old ≡ flow.Whole → AreAllTold tells old us came new → HasPrinted (flat_map unit_lines (us ++ units_behind came)) (flow_of new) (held old) (held new)
   printed_ended us came old new whole (mid, told, behind) = printed_triggers us came (held old) mid new (printed_all us old mid whole told) behind
@@ -155,14 +162,14 @@ left_units (Some fault) lines text last status rest old new printed is told =
 
 -- The lines of what came of trees are those of its units, and of the one that was broken off.
 
-installed_lines : (auto : Bool) (cs : List Candidate) (policy : ConfPolicy) (us : List AUnit) (last : Option AUnit) (configured : Report) (before : Held) (s t : State) → HasInstalled auto cs policy us last configured before s t
+installed_lines : (auto : UnpackOptions) (cs : List Candidate) (options : ConfigureOptions) (us : List AUnit) (last : Option AUnit) (configured : Report) (before : Held) (s t : State) → HasInstalled auto cs options us last configured before s t
     → (flat_map unit_lines us ++ flat_map unit_lines (option_to_list last)) ++ report_lines configured ≡ flat_map unit_lines (us ++ configured.units.items) ++ flat_map unit_lines (option_to_list (last_of last configured.last))
-installed_lines auto cs policy us None configured before s t is =
+installed_lines auto cs options us None configured before s t is =
     let lines = flat_map unit_lines us in
     let more = flat_map unit_lines configured.units.items in
     let end = flat_map unit_lines (option_to_list configured.last) in
     ap (λ (l : List ℕ). l ++ (more ++ end)) (append-nil lines) ∙ sym (append_assoc lines more end) ∙ ap (λ (l : List ℕ). l ++ end) (sym (flat_map-append unit_lines us configured.units.items))
-installed_lines auto cs policy us (Some u) configured before s t is =
+installed_lines auto cs options us (Some u) configured before s t is =
     let empty = is.1 in
     let lines = flat_map unit_lines us ++ flat_map unit_lines (u ∷ []) in
     let none : report_lines configured ≡ [] = ap (λ (l : List AUnit). flat_map unit_lines l ++ flat_map unit_lines (option_to_list configured.last)) empty.units ∙ ap (λ (o : Option AUnit). flat_map unit_lines (option_to_list o)) empty.last in
@@ -183,25 +190,25 @@ behind_round (Some u) lines us more Rest P Q is so rest =
     subst (λ (m : List Installed). lines ++ flat_map round_lines m ≡ flat_map unit_lines (us ++ flat_map units_of_round m) ++ flat_map unit_lines (u ∷ [])) (sym rest.0)
     (append-nil lines ∙ is ∙ ap (λ (l : List AUnit). flat_map unit_lines l ++ flat_map unit_lines (u ∷ [])) (sym (append-nil us)))
 
-rounds_lines : (a : Around) (u : Unpacking) (policy : ConfPolicy) (earlier : List (List ℕ)) (rounds : List (List (List ℕ))) (came : List Installed) (before after : Held) (s end : State) → HasInstalledRounds a u policy earlier rounds came before after s end
+rounds_lines : (a : Around) (u : Unpacking) (options : ConfigureOptions) (earlier : List (List ℕ)) (rounds : List (List (List ℕ))) (came : List Installed) (before after : Held) (s end : State) → HasInstalledRounds a u options earlier rounds came before after s end
     → flat_map round_lines came ≡ flat_map unit_lines (flat_map units_of_round came) ++ flat_map unit_lines (option_to_list (last_of_rounds came))
-rounds_lines a u policy earlier [] [] before after s end h = refl
-rounds_lines a u policy earlier [] (c ∷ cs) before after s end h = absurd h
-rounds_lines a u policy earlier (words ∷ rounds) [] before after s end h = absurd h
-rounds_lines a u policy earlier (words ∷ rounds) (c ∷ cs) before after s end h =
+rounds_lines a u options earlier [] [] before after s end h = refl
+rounds_lines a u options earlier [] (c ∷ cs) before after s end h = absurd h
+rounds_lines a u options earlier (words ∷ rounds) [] before after s end h = absurd h
+rounds_lines a u options earlier (words ∷ rounds) (c ∷ cs) before after s end h =
     let round = h.2 in
     let all = round.all in
     behind_round (last_of_round c) (round_lines c) (units_of_round c) cs _ (end ≡ h.1) (after ≡ h.0)
-    (installed_lines u.auto_deconfigure round.candidates policy c.unpacked.units.items c.unpacked.last c.configured _ _ _ all.install.part)
-    (rounds_lines a u policy (earlier ++ words) rounds cs h.0 after h.1 end) h.3
+    (installed_lines (allowed_of u) round.candidates options c.unpacked.units.items c.unpacked.last c.configured _ _ _ all.install.part)
+    (rounds_lines a u options (earlier ++ words) rounds cs h.0 after h.1 end) h.3
 
-pub done_lines : (a : Around) (policy : Option ConfPolicy) (u : Unpacking) (came : Done) (before after : Held) (s end : State) → HasRunTrees a policy u came before after s end
+pub done_lines : (a : Around) (options : Option ConfigureOptions) (u : Unpacking) (came : Done) (before after : Held) (s end : State) → HasRunTrees a options u came before after s end
     → done_answer came ≡ units_answer (flat_map unit_lines (units_of came)) (last_in came) (done_answer came).status
-done_lines a policy u (done.Unpacked report) before after s end ran = refl
+done_lines a options u (done.Unpacked report) before after s end ran = refl
 done_lines a None u (done.Installed rounds) before after s end ran = absurd ran
-done_lines a (Some policy) u (done.Installed rounds) before after s end ran =
+done_lines a (Some options) u (done.Installed rounds) before after s end ran =
     ap (λ (l : List ℕ). record { output = l; error = []; status = rounds_status rounds.items })
-    (rounds_lines a u policy [] ran.rounds rounds.items before after s end ran.runs)
+    (rounds_lines a u options [] ran.rounds rounds.items before after s end ran.runs)
 
 -- what is written of an answer that nothing is written of yet
 pub left_none : (wanted told : Answer) (held : Option (List ℕ)) → told ≡ wanted → (front : List ℕ) × Appends held held front × (wanted ≡ record told { output = front ++ told.output })

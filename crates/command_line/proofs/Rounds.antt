@@ -5,7 +5,7 @@ use Rattle.std.specs.List.{flat_map}
 use Rattle.std.proofs.lemmas.Result.{on_ok_weaker}
 use Rattle.std.proofs.lemmas.List.{length-append}
 use Rattle.host_core.specs.Host.{State}
-use Rattle.conffiles.specs.declared.decisions.ConfPolicy.{ConfPolicy}
+use Rattle.configure_run.specs.declared.options.ConfigureOptions.{ConfigureOptions}
 use Rattle.package_tree.specs.declared.control_file.ControlFile.{ControlFile}
 use Rattle.unit_reports.specs.Held.{Held}
 use Rattle.unit_reports.specs.declared.report.Unit.{Unit as AUnit}
@@ -57,20 +57,20 @@ at_some None P Q e q = cc
 at_some (Some x) P Q e q = q
 
 -- one round, and those behind it
-pub rounds_then : (outer first rest : Around) → Within outer first → Within outer rest → (u : Unpacking) (policy : ConfPolicy) (earlier words : List (List ℕ)) (rounds : List (List (List ℕ))) (came : Installed) (more : List Installed) (before mid after : Held) (s m end : State)
-    → HasInstalledRound first u policy earlier words came before mid s m → last_of_round came ≡ None → HasInstalledRounds rest u policy (earlier ++ words) rounds more mid after m end
-    → HasInstalledRounds outer u policy earlier (words ∷ rounds) (came ∷ more) before after s end
-rounds_then outer first rest in_first in_rest u policy earlier words rounds came more before mid after s m end round none behind = (
+pub rounds_then : (outer first rest : Around) → Within outer first → Within outer rest → (u : Unpacking) (options : ConfigureOptions) (earlier words : List (List ℕ)) (rounds : List (List (List ℕ))) (came : Installed) (more : List Installed) (before mid after : Held) (s m end : State)
+    → HasInstalledRound first u options earlier words came before mid s m → last_of_round came ≡ None → HasInstalledRounds rest u options (earlier ++ words) rounds more mid after m end
+    → HasInstalledRounds outer u options earlier (words ∷ rounds) (came ∷ more) before after s end
+rounds_then outer first rest in_first in_rest u options earlier words rounds came more before mid after s m end round none behind = (
   mid,
   m,
-  round_within outer first in_first u policy earlier words came before mid s m round,
-  at_none (last_of_round came) _ (λ broken. (more ≡ []) × (end ≡ m) × (after ≡ mid)) none (rounds_within outer rest in_rest u policy (earlier ++ words) rounds more mid after m end behind),
+  round_within outer first in_first u options earlier words came before mid s m round,
+  at_none (last_of_round came) _ (λ broken. (more ≡ []) × (end ≡ m) × (after ≡ mid)) none (rounds_within outer rest in_rest u options (earlier ++ words) rounds more mid after m end behind),
 )
 
 -- one round of which a unit was broken off
-pub rounds_broken : (a : Around) (u : Unpacking) (policy : ConfPolicy) (earlier words : List (List ℕ)) (rounds : List (List (List ℕ))) (came : Installed) (before mid : Held) (s m : State)
-    → HasInstalledRound a u policy earlier words came before mid s m → is_some (last_of_round came) ≡ true → HasInstalledRounds a u policy earlier (words ∷ rounds) (came ∷ []) before mid s m
-rounds_broken a u policy earlier words rounds came before mid s m round broken = (
+pub rounds_broken : (a : Around) (u : Unpacking) (options : ConfigureOptions) (earlier words : List (List ℕ)) (rounds : List (List (List ℕ))) (came : Installed) (before mid : Held) (s m : State)
+    → HasInstalledRound a u options earlier words came before mid s m → is_some (last_of_round came) ≡ true → HasInstalledRounds a u options earlier (words ∷ rounds) (came ∷ []) before mid s m
+rounds_broken a u options earlier words rounds came before mid s m round broken = (
   mid,
   m,
   round,
@@ -84,29 +84,29 @@ last_alone (Some u) = refl
 pub last_behind : (o second : Option AUnit) → o ≡ None → last_of o second ≡ second
 last_behind o second none = ap (λ (x : Option AUnit). last_of x second) none
 
-pub rounds_none : {V : Type 0} (items : V → List (List ℕ)) (a : Around) (u : Unpacking) (policy : ConfPolicy) (earlier : List (List ℕ)) (rounds : List V) (before : Held) (s : State) → rounds ≡ []
-    → HasInstalledRounds a u policy earlier (map items rounds) [] before before s s
-rounds_none items a u policy earlier rounds before s none = subst (λ r. HasInstalledRounds a u policy earlier (map items r) [] before before s s) (sym none) (refl, refl)
+pub rounds_none : {V : Type 0} (items : V → List (List ℕ)) (a : Around) (u : Unpacking) (options : ConfigureOptions) (earlier : List (List ℕ)) (rounds : List V) (before : Held) (s : State) → rounds ≡ []
+    → HasInstalledRounds a u options earlier (map items rounds) [] before before s s
+rounds_none items a u options earlier rounds before s none = subst (λ r. HasInstalledRounds a u options earlier (map items r) [] before before s s) (sym none) (refl, refl)
 
-pub round_from : (a : Around) (u : Unpacking) (policy : ConfPolicy) (e earlier words : List (List ℕ)) (came : Installed) (before mid : Held) (s m : State) → e ≡ earlier
-    → HasInstalledRound a u policy e words came before mid s m → HasInstalledRound a u policy earlier words came before mid s m
-round_from a u policy e earlier words came before mid s m same round = subst (λ x. HasInstalledRound a u policy x words came before mid s m) same round
+pub round_from : (a : Around) (u : Unpacking) (options : ConfigureOptions) (e earlier words : List (List ℕ)) (came : Installed) (before mid : Held) (s m : State) → e ≡ earlier
+    → HasInstalledRound a u options e words came before mid s m → HasInstalledRound a u options earlier words came before mid s m
+round_from a u options e earlier words came before mid s m same round = subst (λ x. HasInstalledRound a u options x words came before mid s m) same round
 
 -- the next of rounds
 module _ {V : Type 0} (items : V → List (List ℕ)) (old : List V) (round : V) (rest : List V) (next : old ≡ round ∷ rest) where
-  pub one_broken : (a : Around) (u : Unpacking) (policy : ConfPolicy) (earlier : List (List ℕ)) (came : Installed) (before mid : Held) (s m : State)
-      → HasInstalledRound a u policy earlier (items round) came before mid s m → is_some (last_of_round came) ≡ true → HasInstalledRounds a u policy earlier (map items old) (came ∷ []) before mid s m
-  one_broken a u policy earlier came before mid s m has broken =
-      subst (λ (r : List V). HasInstalledRounds a u policy earlier (map items r) (came ∷ []) before mid s m) (sym next)
-      (rounds_broken a u policy earlier (items round) (map items rest) came before mid s m has broken)
+  pub one_broken : (a : Around) (u : Unpacking) (options : ConfigureOptions) (earlier : List (List ℕ)) (came : Installed) (before mid : Held) (s m : State)
+      → HasInstalledRound a u options earlier (items round) came before mid s m → is_some (last_of_round came) ≡ true → HasInstalledRounds a u options earlier (map items old) (came ∷ []) before mid s m
+  one_broken a u options earlier came before mid s m has broken =
+      subst (λ (r : List V). HasInstalledRounds a u options earlier (map items r) (came ∷ []) before mid s m) (sym next)
+      (rounds_broken a u options earlier (items round) (map items rest) came before mid s m has broken)
 
-  pub one_then : (outer first behind : Around) → Within outer first → Within outer behind → (u : Unpacking) (policy : ConfPolicy) (earlier later : List (List ℕ)) (came : Installed) (more : List Installed) (before mid after : Held) (s m end : State)
-      → later ≡ earlier ++ items round → HasInstalledRound first u policy earlier (items round) came before mid s m → last_of_round came ≡ None → HasInstalledRounds behind u policy later (map items rest) more mid after m end
-      → HasInstalledRounds outer u policy earlier (map items old) (came ∷ more) before after s end
-  one_then outer first behind in_first in_behind u policy earlier later came more before mid after s m end is has none others =
-      subst (λ (r : List V). HasInstalledRounds outer u policy earlier (map items r) (came ∷ more) before after s end) (sym next)
-      (rounds_then outer first behind in_first in_behind u policy earlier (items round) (map items rest) came more before mid after s m end has none
-      (subst (λ e. HasInstalledRounds behind u policy e (map items rest) more mid after m end) is others))
+  pub one_then : (outer first behind : Around) → Within outer first → Within outer behind → (u : Unpacking) (options : ConfigureOptions) (earlier later : List (List ℕ)) (came : Installed) (more : List Installed) (before mid after : Held) (s m end : State)
+      → later ≡ earlier ++ items round → HasInstalledRound first u options earlier (items round) came before mid s m → last_of_round came ≡ None → HasInstalledRounds behind u options later (map items rest) more mid after m end
+      → HasInstalledRounds outer u options earlier (map items old) (came ∷ more) before after s end
+  one_then outer first behind in_first in_behind u options earlier later came more before mid after s m end is has none others =
+      subst (λ (r : List V). HasInstalledRounds outer u options earlier (map items r) (came ∷ more) before after s end) (sym next)
+      (rounds_then outer first behind in_first in_behind u options earlier (items round) (map items rest) came more before mid after s m end has none
+      (subst (λ e. HasInstalledRounds behind u options e (map items rest) more mid after m end) is others))
 
   -- where the words of earlier rounds end
   module _ (all : List (List ℕ)) (left later : ℕ) (behind : all ≡ words_before all left ++ flat_map items old) (is_left : left ≡ length (flat_map items old)) (is_later : later ≡ left - length (items round)) where

@@ -9,7 +9,7 @@ use Rattle.unit_reports.specs.declared.report.Unit.{Unit as AUnit}
 use Rattle.dpkg_session.specs.Trees.{AreRead}
 use Rattle.dpkg_session.specs.declared.report.Candidate.{Candidate}
 use Rattle.dpkg_session.specs.declared.installing.Installed.{Installed}
-use Rattle.command_line.specs.Printing.{AreRoundsTold, AreTold, IsDoneTold, units_of_round}
+use Rattle.command_line.specs.Printing.{AreRoundsTold, AreTold, AreToldInTurns, IsDoneTold, units_of_round}
 use Rattle.command_line.specs.Triggering.{AreAllTold, AreTriggersTold}
 use Rattle.command_line.specs.Unpacks.{IsAllTold}
 use Rattle.command_line.specs.declared.ending.Ended.{Ended}
@@ -31,10 +31,15 @@ told_keep : {W X : Type 0} (tells : W → AUnit → State → W → Type 0) (nam
     → (us : List AUnit) (old new : W) → AreTold tells old us new → name new ≡ name old
 told_keep tells name one us old new (s, told) = tells_keep tells name one s [] us old new told
 
+turns_keep : {W X : Type 0} (tells : W → AUnit → State → W → Type 0) (name : W → X) → ((a b : W) (u : AUnit) (at : State) → tells a u at b → name b ≡ name a)
+    → (old : W) (us : List AUnit) (new : W) → AreToldInTurns tells old us new → name new ≡ name old
+turns_keep tells name one old us new AreToldInTurns.nothing = refl
+turns_keep tells name one old us new (AreToldInTurns.then vs others mid end told last) = told_keep tells name one others mid end last ∙ turns_keep tells name one old vs mid told
+
 triggers_keep : {W X : Type 0} (tells : W → AUnit → State → W → Type 0) (name : W → X) → ((a b : W) (u : AUnit) (at : State) → tells a u at b → name b ≡ name a)
     → (came : Triggered) (old new : W) → AreTriggersTold tells old came new → name new ≡ name old
 triggers_keep tells name one came old new (mid, noted, processed) =
-    told_keep tells name one came.processed.units.items mid new processed ∙ told_keep tells name one came.noted.units.items old mid noted
+    turns_keep tells name one mid came.processed.units.items new processed ∙ told_keep tells name one came.noted.units.items old mid noted
 
 all_keep : {W X : Type 0} (tells : W → AUnit → State → W → Type 0) (name : W → X) → ((a b : W) (u : AUnit) (at : State) → tells a u at b → name b ≡ name a)
     → (us : List AUnit) (came : Triggered) (old new : W) → AreAllTold tells old us came new → name new ≡ name old

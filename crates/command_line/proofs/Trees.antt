@@ -6,7 +6,7 @@ use Rattle.std.proofs.Math.Seq.{take-append_seam}
 use Rattle.host_core.specs.Host.{State}
 use Rattle.diversions.specs.Diverted.{Diverted}
 use Rattle.file_lists.specs.Filed.{Filed}
-use Rattle.conffiles.specs.declared.decisions.ConfPolicy.{ConfPolicy}
+use Rattle.configure_run.specs.declared.options.ConfigureOptions.{ConfigureOptions}
 use Rattle.status_db.specs.Recorded.{Recorded}
 use Rattle.package_tree.specs.declared.control_file.ControlFile.{ControlFile}
 use Rattle.package_tree.specs.declared.fault.TreeFault.{TreeFault}
@@ -95,9 +95,9 @@ order_within outer inner within u records rounds =
     case_within (is_one_round u) (rounds ≡ u.trees ∷ []) (λ (o : IsOrderOf inner u.trees records rounds). (o.0, looks_within outer inner within u.trees o.0 o.1, o.2))
 
 -- rounds
-pub round_within : (outer inner : Around) → Within outer inner → (u : Unpacking) (policy : ConfPolicy) (earlier words : List (List ℕ)) (came : Installed) (before after : Held) (s end : State)
-    → HasInstalledRound inner u policy earlier words came before after s end → HasInstalledRound outer u policy earlier words came before after s end
-round_within outer inner within u policy earlier words came before after s end r = record {
+pub round_within : (outer inner : Around) → Within outer inner → (u : Unpacking) (options : ConfigureOptions) (earlier words : List (List ℕ)) (came : Installed) (before after : Held) (s end : State)
+    → HasInstalledRound inner u options earlier words came before after s end → HasInstalledRound outer u options earlier words came before after s end
+round_within outer inner within u options earlier words came before after s end r = record {
   candidates = r.candidates;
   left = r.left;
   read = record { labels = r.read.labels; read = all_within outer inner within u.owners earlier r.candidates r.read.read };
@@ -108,20 +108,20 @@ case_option : {A : Type 0} (o : Option A) {P Q : Type 0} (R : A → Type 0) → 
 case_option None R so h = so h
 case_option (Some x) R so h = h
 
-pub rounds_within : (outer inner : Around) → Within outer inner → (u : Unpacking) (policy : ConfPolicy) (earlier : List (List ℕ)) (rounds : List (List (List ℕ))) (came : List Installed) (before after : Held) (s end : State)
-    → HasInstalledRounds inner u policy earlier rounds came before after s end → HasInstalledRounds outer u policy earlier rounds came before after s end
-rounds_within outer inner within u policy earlier [] [] before after s end h = h
-rounds_within outer inner within u policy earlier [] (c ∷ cs) before after s end h = absurd h
-rounds_within outer inner within u policy earlier (words ∷ rounds) [] before after s end h = absurd h
-rounds_within outer inner within u policy earlier (words ∷ rounds) (c ∷ cs) before after s end h = (
+pub rounds_within : (outer inner : Around) → Within outer inner → (u : Unpacking) (options : ConfigureOptions) (earlier : List (List ℕ)) (rounds : List (List (List ℕ))) (came : List Installed) (before after : Held) (s end : State)
+    → HasInstalledRounds inner u options earlier rounds came before after s end → HasInstalledRounds outer u options earlier rounds came before after s end
+rounds_within outer inner within u options earlier [] [] before after s end h = h
+rounds_within outer inner within u options earlier [] (c ∷ cs) before after s end h = absurd h
+rounds_within outer inner within u options earlier (words ∷ rounds) [] before after s end h = absurd h
+rounds_within outer inner within u options earlier (words ∷ rounds) (c ∷ cs) before after s end h = (
   h.0,
   h.1,
-  round_within outer inner within u policy earlier words c before h.0 s h.1 h.2,
-  case_option (last_of_round c) (λ broken. (cs ≡ []) × (end ≡ h.1) × (after ≡ h.0)) (rounds_within outer inner within u policy (earlier ++ words) rounds cs h.0 after h.1 end) h.3,
+  round_within outer inner within u options earlier words c before h.0 s h.1 h.2,
+  case_option (last_of_round c) (λ broken. (cs ≡ []) × (end ≡ h.1) × (after ≡ h.0)) (rounds_within outer inner within u options (earlier ++ words) rounds cs h.0 after h.1 end) h.3,
 )
 
-run_within : (outer inner : Around) → Within outer inner → (policy : Option ConfPolicy) (u : Unpacking) (came : Done) (before after : Held) (s end : State)
-    → HasRunTrees inner policy u came before after s end → HasRunTrees outer policy u came before after s end
+run_within : (outer inner : Around) → Within outer inner → (options : Option ConfigureOptions) (u : Unpacking) (came : Done) (before after : Held) (s end : State)
+    → HasRunTrees inner options u came before after s end → HasRunTrees outer options u came before after s end
 run_within outer inner within None u (done.Unpacked report) before after s end ran = record {
   candidates = ran.candidates;
   left = ran.left;
@@ -129,21 +129,21 @@ run_within outer inner within None u (done.Unpacked report) before after s end r
   all = ran.all;
 }
 run_within outer inner within None u (done.Installed rounds) before after s end ran = absurd ran
-run_within outer inner within (Some policy) u (done.Unpacked report) before after s end ran = absurd ran
-run_within outer inner within (Some policy) u (done.Installed rounds) before after s end ran = record {
+run_within outer inner within (Some options) u (done.Unpacked report) before after s end ran = absurd ran
+run_within outer inner within (Some options) u (done.Installed rounds) before after s end ran = record {
   rounds = ran.rounds;
   order = order_within outer inner within u before.records.records ran.rounds ran.order;
-  runs = rounds_within outer inner within u policy [] ran.rounds rounds.items before after s end ran.runs;
+  runs = rounds_within outer inner within u options [] ran.rounds rounds.items before after s end ran.runs;
 }
 
 -- and so to the end of the command
-pub ended_within : (outer inner : Around) → Within outer inner → (policy : Option ConfPolicy) (u : Unpacking) (ended : Ended Done) (before : Held) (s end : State)
-    → HasRunToEnd inner policy u ended before s end → HasRunToEnd outer policy u ended before s end
-ended_within outer inner within policy u ended before s end has = record {
+pub ended_within : (outer inner : Around) → Within outer inner → (options : Option ConfigureOptions) (u : Unpacking) (ended : Ended Done) (before : Held) (s end : State)
+    → HasRunToEnd inner options u ended before s end → HasRunToEnd outer options u ended before s end
+ended_within outer inner within options u ended before s end has = record {
   after = has.after;
   mid = has.mid;
-  ran = around_as (triggering_for u) (units_of ended.done) (last_in ended.done) (HasRunTrees inner policy u ended.done before) (HasRunTrees outer policy u ended.done before) ended.triggered before has.after s has.mid
-      (λ mid begun done ran. run_within outer inner within policy u ended.done before mid begun done ran) has.ran;
+  ran = around_as (triggering_for u) (units_of ended.done) (last_in ended.done) (HasRunTrees inner options u ended.done before) (HasRunTrees outer options u ended.done before) ended.triggered before has.after s has.mid
+      (λ mid begun done ran. run_within outer inner within options u ended.done before mid begun done ran) has.ran;
   ending = has.ending;
 }
 
@@ -220,8 +220,8 @@ module _ {T Hosts Opened : Type 0} (reads : T → Candidate → T → Type 0) (o
         record { labels = found.0; read = found.1 }
 
 pub unpacked_within : (outer inner : Around) → Within outer inner → ((s : State) → inner.left s → outer.left s)
-    → (begun : State) (policy : Option ConfPolicy) (asked : Unpacking) (ended : Ended Done) → IsUnpackedOn inner begun policy asked ended → IsUnpackedOn outer begun policy asked ended
-unpacked_within outer inner within left begun policy asked ended u = record {
+    → (begun : State) (options : Option ConfigureOptions) (asked : Unpacking) (ended : Ended Done) → IsUnpackedOn inner begun options asked ended → IsUnpackedOn outer begun options asked ended
+unpacked_within outer inner within left begun options asked ended u = record {
   table = u.table;
   lists = u.lists;
   ways = u.ways;
@@ -229,7 +229,7 @@ unpacked_within outer inner within left begun policy asked ended u = record {
   opened = u.opened;
   end = u.end;
   given = left u.end u.given;
-  ran = ended_within outer inner within policy asked ended (held_anew u.table u.lists u.ways) u.state u.end u.ran;
+  ran = ended_within outer inner within options asked ended (held_anew u.table u.lists u.ways) u.state u.end u.ran;
 }
 
 -- what is held after an opening that merged the notes
@@ -238,6 +238,6 @@ opened_anew database lists diversions number noting =
     ap (λ (n : ℕ). record { records = record { records = database.records; notes = n; closed = database.closed }; lists = lists.lists; ways = diversions.ways }) number
     ∙ ap (λ (b : Bool). record { records = record { records = database.records; notes = 0; closed = b }; lists = lists.lists; ways = diversions.ways }) noting
 
--- the same policy by another word
-pub with_policy : (a : Around) (p q : ConfPolicy) (u : Unpacking) (ended : Result (Ended Done) NotOpened) → p ≡ q → HasEndedAs a (Some p) u ended → HasEndedAs a (Some q) u ended
-with_policy a p q u ended e h = subst (λ (x : ConfPolicy). HasEndedAs a (Some x) u ended) e h
+-- the same options by another word
+pub with_options : (a : Around) (p q : ConfigureOptions) (u : Unpacking) (ended : Result (Ended Done) NotOpened) → p ≡ q → HasEndedAs a (Some p) u ended → HasEndedAs a (Some q) u ended
+with_options a p q u ended e h = subst (λ (x : ConfigureOptions). HasEndedAs a (Some x) u ended) e h

@@ -1,5 +1,4 @@
 pub mod Roots
-pub mod Differing
 pub mod Dry
 pub mod Telling
 pub mod Endings
@@ -14,4 +13,5 @@ pub mod Rehearsed
 pub mod Reading
 pub mod Order
 pub mod Printing
+pub mod TriggerTurns
 pub mod Triggering

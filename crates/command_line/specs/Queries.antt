@@ -10,7 +10,8 @@ use Rattle.administration.specs.declared.fault.AdministrationFault.TheVariants a
 use Rattle.opening.specs.Parts.{IsDamage}
 use Rattle.inquiries.specs.Glances.{IsGlance}
 use Rattle.inquiries.specs.declared.glance.Glance.{Glance}
-use Rattle.inquiries.specs.Read.{AreDiversions, AreFiles, AreSelections, IsAllDamage, IsAudit, IsFilesDamage, IsList, IsSearch, IsStatus, IsTruename, diversions_parts, records_parts}
+use Rattle.inquiries.specs.Read.{AreDiversions, AreFiles, AreSelections, IsAllDamage, IsAudit, IsFilesDamage, IsList, IsMatching, IsSearch, IsStatus, IsTruename, diversions_parts, records_parts}
+use Rattle.queries.specs.declared.asked.Told.{Told}
 use Rattle.dpkg_session.specs.Standing.{CountsRefusal}
 use Rattle.shown_lines.specs.Lines.{line}
 use Rattle.command_words.specs.declared.query.Query.{Query}
@@ -33,10 +34,11 @@ on_path asked text = if is_path_text text then Ok (asked (path_of text)) else Er
 abbrev pub inquiry_of : Question → Result Inquiry (List ℕ)
 inquiry_of question.Audit = Ok inquiry.Audit
 inquiry_of question.Diversions = Ok inquiry.Diversions
-inquiry_of question.List = Ok inquiry.List
+inquiry_of (question.List layout patterns) = Ok (inquiry.List layout patterns)
 inquiry_of (question.ListFiles name) = Ok (inquiry.ListFiles name)
 inquiry_of (question.Search path) = on_path inquiry.Search path
-inquiry_of question.Selections = Ok inquiry.Selections
+inquiry_of (question.SearchMatching pattern) = Ok (inquiry.SearchMatching pattern)
+inquiry_of (question.Selections patterns) = Ok (inquiry.Selections patterns)
 inquiry_of (question.Status name) = Ok (inquiry.Status name)
 inquiry_of (question.Truename user path) = on_path (inquiry.Truename user) path
 
@@ -47,6 +49,10 @@ bad_path_answer text = record { output = []; error = line (codes "bad path " ++ 
 -- a text is printed
 abbrev pub text_answer : List ℕ → Answer
 text_answer text = record { output = text; error = []; status = 0 }
+
+-- what is told of packages; where a pattern matches none, the status is 1
+abbrev pub asked_answer : Told → Answer
+asked_answer told = record { output = told.text; error = []; status = if told.complete then 0 else 1 }
 
 -- what is told of a package; one without a record is unknown
 abbrev pub package_answer : List ℕ → Option (List ℕ) → Answer
@@ -62,10 +68,11 @@ search_answer (b ∷ rest) = text_answer (b ∷ rest)
 abbrev pub IsAnsweredFrom : State → Inquiry → Answer → Type 0
 IsAnsweredFrom s inquiry.Audit answer = (text : List ℕ) × IsAudit s text × (answer ≡ text_answer text)
 IsAnsweredFrom s inquiry.Diversions answer = (text : List ℕ) × AreDiversions s text × (answer ≡ text_answer text)
-IsAnsweredFrom s inquiry.List answer = (text : List ℕ) × IsList s text × (answer ≡ text_answer text)
+IsAnsweredFrom s (inquiry.List layout patterns) answer = (told : Told) × IsList layout patterns s told × (answer ≡ asked_answer told)
 IsAnsweredFrom s (inquiry.ListFiles name) answer = (text : Option (List ℕ)) × AreFiles name s text × (answer ≡ package_answer name text)
 IsAnsweredFrom s (inquiry.Search path) answer = (text : List ℕ) × IsSearch path s text × (answer ≡ search_answer text)
-IsAnsweredFrom s inquiry.Selections answer = (text : List ℕ) × AreSelections s text × (answer ≡ text_answer text)
+IsAnsweredFrom s (inquiry.SearchMatching pattern) answer = (text : List ℕ) × IsMatching pattern s text × (answer ≡ search_answer text)
+IsAnsweredFrom s (inquiry.Selections patterns) answer = (told : Told) × AreSelections patterns s told × (answer ≡ asked_answer told)
 IsAnsweredFrom s (inquiry.Status name) answer = (text : Option (List ℕ)) × IsStatus name s text × (answer ≡ package_answer name text)
 IsAnsweredFrom s (inquiry.Truename user path) answer = (text : List ℕ) × IsTruename user path s text × (answer ≡ text_answer text)
 
@@ -73,10 +80,11 @@ IsAnsweredFrom s (inquiry.Truename user path) answer = (text : List ℕ) × IsTr
 abbrev pub IsUnread : Inquiry → World → AdministrationFault → Type 0
 IsUnread inquiry.Audit w fault = IsAllDamage w fault
 IsUnread inquiry.Diversions w fault = IsDamage diversions_parts w fault
-IsUnread inquiry.List w fault = IsDamage records_parts w fault
+IsUnread (inquiry.List layout patterns) w fault = IsDamage records_parts w fault
 IsUnread (inquiry.ListFiles name) w fault = IsFilesDamage name w fault
 IsUnread (inquiry.Search path) w fault = IsAllDamage w fault
-IsUnread inquiry.Selections w fault = IsDamage records_parts w fault
+IsUnread (inquiry.SearchMatching pattern) w fault = IsAllDamage w fault
+IsUnread (inquiry.Selections patterns) w fault = IsDamage records_parts w fault
 IsUnread (inquiry.Status name) w fault = IsDamage records_parts w fault
 IsUnread (inquiry.Truename user path) w fault = IsDamage diversions_parts w fault
 
@@ -84,10 +92,11 @@ IsUnread (inquiry.Truename user path) w fault = IsDamage diversions_parts w faul
 abbrev pub reads_info : Inquiry → Bool
 reads_info inquiry.Audit = true
 reads_info inquiry.Diversions = false
-reads_info inquiry.List = false
+reads_info (inquiry.List layout patterns) = false
 reads_info (inquiry.ListFiles name) = true
 reads_info (inquiry.Search path) = true
-reads_info inquiry.Selections = false
+reads_info (inquiry.SearchMatching pattern) = true
+reads_info (inquiry.Selections patterns) = false
 reads_info (inquiry.Status name) = false
 reads_info (inquiry.Truename user path) = false
 

@@ -10,10 +10,10 @@ use Rattle.report_lines.specs.Reports.{report_lines, report_status}
 use Rattle.command_words.specs.Comparisons.{bad_version, bad_version_line, holds_of}
 use Rattle.command_line.specs.declared.answer.Answer.{Answer}
 use Rattle.command_line.specs.Changes.{HasEndedChange, IsDivertOf, IsUndivertOf, bad_of_divert, bad_of_undivert, is_good}
-use Rattle.command_line.specs.Packages.{HasEndedWork, policy_of, work_of}
+use Rattle.command_line.specs.Packages.{HasEndedWork, options_of, work_of}
 use Rattle.command_line.specs.declared.packages.Work.{Work}
 use Rattle.command_line.specs.declared.packages.Work.TheVariants as work
-use Rattle.conffiles.specs.declared.decisions.ConfPolicy.{ConfPolicy}
+use Rattle.configure_run.specs.declared.options.ConfigureOptions.{ConfigureOptions}
 use Rattle.command_line.specs.Queries.{IsQueryAnswer, bad_path_answer, inquiry_of, text_answer}
 use Rattle.command_line.specs.declared.changing.Change.{Change}
 use Rattle.command_line.specs.Printing.{AppendsPart}
@@ -76,11 +76,11 @@ abbrev pub done_answer : Done → Answer
 done_answer (done.Unpacked report) = report_answer report
 done_answer (done.Installed rounds) = install_answer rounds.items
 
--- what came of trees, whose packages are configured too where a policy for conffiles is given: reports, or why their units weren't
+-- what came of trees, whose packages are configured too where it is told how: reports, or why their units weren't
 -- begun
-abbrev pub HasEndedAs : Around → Option ConfPolicy → Unpacking → Result (Ended Done) NotOpened → Type 0
-HasEndedAs a policy u (Ok ended) = HasUnpacked a policy u ended
-HasEndedAs a policy u (Err fault) = IsUnitsFault (Some (triggering_for u)) a u.root fault
+abbrev pub HasEndedAs : Around → Option ConfigureOptions → Unpacking → Result (Ended Done) NotOpened → Type 0
+HasEndedAs a options u (Ok ended) = HasUnpacked a options u ended
+HasEndedAs a options u (Err fault) = IsUnitsFault (Some (triggering_for u)) a u.root fault
 
 abbrev pub trees_answer : Result (Ended Done) NotOpened → Answer
 trees_answer (Ok ended) = with_notes ended.left (with_triggers ended.triggered (done_answer ended.done))
@@ -106,8 +106,8 @@ IsReadChange a word None P answer = (asked : Change) × P asked × IsChangeAnswe
 IsReadChange a word (Some text) P answer = answer ≡ bad_path_answer text
 
 -- packages are unpacked, or installed, and this has ended as its answer tells
-abbrev pub IsTreesAnswer : Around → Option ConfPolicy → Unpacking → Answer → Type 0
-IsTreesAnswer a policy u answer = (ended : Result (Ended Done) NotOpened) × HasEndedAs a policy u ended × (answer ≡ trees_answer ended)
+abbrev pub IsTreesAnswer : Around → Option ConfigureOptions → Unpacking → Answer → Type 0
+IsTreesAnswer a options u answer = (ended : Result (Ended Done) NotOpened) × HasEndedAs a options u ended × (answer ≡ trees_answer ended)
 
 -- work on packages by their names has ended as its answer tells
 abbrev pub IsWorkAnswer : Around → List ℕ → Work → Bool → Answer → Type 0
@@ -128,13 +128,13 @@ IsAnswerTo a (Verify v) answer = IsVerifyAnswer a v answer
 IsAnswerTo a (Divert d) answer = IsReadChange a d.root (bad_of_divert d) (IsDivertOf d) answer
 IsAnswerTo a (Undivert u) answer = IsReadChange a u.root (bad_of_undivert u) (IsUndivertOf u) answer
 IsAnswerTo a (Unpack u) answer = IsTreesAnswer a None u answer
-IsAnswerTo a (Install u) answer = IsTreesAnswer a (Some (policy_of u.forced)) u answer
+IsAnswerTo a (Install u) answer = IsTreesAnswer a (Some (options_of u.forced)) u answer
 IsAnswerTo a (Configure c) answer = IsWorkAnswer a c.root (work_of c) c.triggers answer
 IsAnswerTo a (ProcessTriggers p) answer = IsWorkAnswer a p.root work.ProcessTriggers true answer
-IsAnswerTo a (Remove r) answer = IsWorkAnswer a r.root (work.Remove r.names) r.triggers answer
-IsAnswerTo a (Purge r) answer = IsWorkAnswer a r.root (work.Purge r.names) r.triggers answer
+IsAnswerTo a (Remove r) answer = IsWorkAnswer a r.root (work.Remove r.names r.ignore_depends) r.triggers answer
+IsAnswerTo a (Purge r) answer = IsWorkAnswer a r.root (work.Purge r.names r.ignore_depends) r.triggers answer
 IsAnswerTo a (Select x) answer = IsWorkAnswer a x.root (work.Select x.selections) false answer
-IsAnswerTo a (RemoveSelected x) answer = IsWorkAnswer a x.root work.RemoveSelected x.triggers answer
+IsAnswerTo a (RemoveSelected x) answer = IsWorkAnswer a x.root (work.RemoveSelected x.ignore_depends) x.triggers answer
 
 -- for want of memory
 abbrev pub memory_answer : Answer

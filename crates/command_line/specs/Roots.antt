@@ -1,6 +1,6 @@
 -- How the root of a command is opened, and what is known of its hosts.
 use Rattle.std.specs.Prelude.{◌≡◌, ◌<◌, ◌⊎◌, ℕ, false, List, [], ◌++◌, Option, Some, None, codes}
-use Rattle.host_core.specs.Host.{AtEachMoment, Needs, Reads, Silent, State}
+use Rattle.host_core.specs.Host.{AtEachMoment, Needs, Silent, State}
 use Rattle.administration.specs.declared.fault.AdministrationFault.{AdministrationFault}
 use Rattle.command_line.specs.declared.hosts.Hosts.{Ghosts}
 use Rattle.command_line.specs.declared.fault.Lock.{Lock}
@@ -13,6 +13,7 @@ use Rattle.file_lists.specs.declared.paths.PackageList.{PackageList}
 use Rattle.opening.specs.Opened.{IsOpened}
 use Rattle.opening.specs.TakenUp.{IsOpeningOrAdopting}
 use Rattle.status_records.specs.declared.record.Record.{Record}
+use Rattle.trigger_journal.specs.Writing.{IsWriting}
 use Rattle.unit_reports.specs.Held.{Held}
 use Rattle.dpkg_session.specs.Standing.{CountsRefusal, OpensAll, TakesUpAll}
 use Rattle.shown_lines.specs.Lines.{line}
@@ -84,10 +85,16 @@ pub record IsStoppedOn (left : Given) (begun : State) : Type 0 where
 abbrev pub IsGivenUpOn : Given → State → AdministrationFault → Type 0
 IsGivenUpOn left begun fault = IsRefusedOn left begun fault ⊎ ((fault ≡ opening_faults.NoMemory) × IsStoppedOn left begun)
 
--- nothing was begun for this fault: memory was wanting, or, where triggers are to be watched, it was looked at and nothing else done
+-- nothing was written but the journal of activations, and no script was called
+pub record WritesJournalAlone (s end : State) : Type 0 where
+  pub text : List ℕ
+  pub any_moment : AtEachMoment (IsWriting text) s end
+  pub silent : Silent s end
+
+-- nothing was begun for this fault: memory was wanting, or, where triggers are to be watched, nothing else was done than that
 abbrev pub IsUnbegun : Option Triggering → AdministrationFault → State → State → Type 0
 IsUnbegun None fault s end = (fault ≡ opening_faults.NoMemory) × (end ≡ s)
-IsUnbegun (Some t) fault s end = Reads s end × Silent s end × CountsRefusal fault s end
+IsUnbegun (Some t) fault s end = WritesJournalAlone s end × CountsRefusal fault s end
 
 -- the administration of a host was opened, and the host given back with this fault, and nothing begun
 pub record IsUnbegunOn (t : Option Triggering) (left : Given) (begun : State) (fault : AdministrationFault) : Type 0 where

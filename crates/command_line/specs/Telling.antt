@@ -3,8 +3,7 @@ use Rattle.std.specs.Prelude.{◌≡◌, ◌⊎◌, IsTrue, ℕ, zero, suc, Opti
 use Rattle.host_core.specs.Events.{follow_all}
 use Rattle.host_core.specs.Host.{State, Reads, Silent}
 use Rattle.host_core.specs.World.{World}
-use Rattle.administration.specs.Fault.{fault_of}
-use Rattle.command_line.specs.Differing.{AreChanges}
+use Rattle.foretold_changes.specs.Told.{AreTold}
 use Rattle.command_line.specs.Dry.{dry}
 use Rattle.command_line.specs.Queries.{text_answer}
 use Rattle.command_line.specs.Reports.{IsGiven, memory_answer}
@@ -14,10 +13,10 @@ use Rattle.command_line.specs.declared.fault.NotOpened.TheVariants.{Opening}
 use Rattle.command_line.specs.declared.telling_hosts.Told.{Told}
 use Rattle.command_line.specs.declared.telling_hosts.Told.TheVariants.{Nothing, Lines, Failed}
 
--- the lines of the paths, unless a look at one failed
+-- the lines of the paths, unless one of the two administrations can't be read
 abbrev pub Tells : Told → State → World → World → Type 0
 Tells Nothing below old new = ⊥
-Tells (Lines text) below old new = IsTrue below.honest → AreChanges old new text
+Tells (Lines text) below old new = IsTrue below.honest → AreTold old new text
 Tells (Failed fault) below old new = Unit {0}
 
 -- What was given back of a host with this state, and what is told of it: as of a rehearsal without lines of paths; for these it was
@@ -43,7 +42,7 @@ telling told a = record (dry a) { left = told_left told a.left; unopened = a.uno
 abbrev pub told_answer : Told → Answer
 told_answer Nothing = record { output = []; error = []; status = 0 }
 told_answer (Lines text) = text_answer text
-told_answer (Failed fault) = opening_answer (Opening (fault_of fault))
+told_answer (Failed fault) = opening_answer (Opening fault)
 
 -- the status of both
 abbrev pub ended_behind : ℕ → ℕ → ℕ

@@ -26,7 +26,7 @@ use crate::changing::{Change, change_under, diverting_in, undiverting_in};
 use crate::ending::Ended;
 use crate::fault::{Lock, NotOpened};
 use crate::hosts::Hosts;
-use crate::packages::{Work, policy_of, work_under};
+use crate::packages::{Work, options_of, work_under};
 use crate::printing::{Flow, Printer};
 use crate::questions::{Inquiry, bad_path, inquire_under, inquiry_of};
 use crate::steady::Unanswered;
@@ -38,8 +38,7 @@ use command_words::{
     RemovingSelected, ScriptStreams, Selecting, Topic, Undiverting, Unpacking, Verdict, Verifying,
     WordsFault, bad_version_line, command_of, help_text, subcommand_names, version_text,
 };
-use conffiles::ConfPolicy;
-use dpkg_session::{Installed, Report, Unit};
+use dpkg_session::{ConfigureOptions, Installed, Report, Unit};
 use host_core::HostFault;
 use report_lines::{notes_line, opening_line, report_status, report_text, unit_text};
 use shown_lines::line;
@@ -264,11 +263,11 @@ fn unpack_telling<S: Hosts, O: Write>(
     alloc: Global,
     hosts: &mut S,
     unpacking: &Unpacking,
-    policy: Option<ConfPolicy>,
+    options: Option<ConfigureOptions>,
     printer: &mut Printer<'_, O>,
 ) -> Result<Ended<Done>, NotOpened>
     ensures same_output { printer.new.out.ghost_name ≡ printer.old.out.ghost_name }
-    ensures done { IfOk result (HasUnpacked (around S.Hosts hosts.old hosts.new) policy
+    ensures done { IfOk result (HasUnpacked (around S.Hosts hosts.old hosts.new) options
         unpacking.now) }
     ensures refused { IfErr result (IsUnitsFault (Some (triggering_for unpacking.now))
         (around S.Hosts hosts.old hosts.new) unpacking.now.root) }
@@ -279,18 +278,18 @@ fn unpack_telling<S: Hosts, O: Write>(
     ensures untold { OnErr result (printer.new ≡ printer.old) }
     ensures below { S.below hosts.new ≡ S.below hosts.old }
 {
-    unpack(alloc, hosts, unpacking, policy, printer)
+    unpack(alloc, hosts, unpacking, options, printer)
 }
 
 fn unpacked<S: Hosts, O: Write>(
     alloc: Global,
     hosts: &mut S,
     unpacking: &Unpacking,
-    policy: Option<ConfPolicy>,
+    options: Option<ConfigureOptions>,
     out: &mut O,
 ) -> Result<Left, AllocError>
     ensures ended { (ended : Result (AnEnded ADone) ANotOpened)
-        × HasEndedAs (around S.Hosts hosts.old hosts.new) policy unpacking.now ended
+        × HasEndedAs (around S.Hosts hosts.old hosts.new) options unpacking.now ended
         × IsLeft (trees_answer ended) (O.contents out.old) (O.contents out.new)
         result }
     ensures bound { IfOk result (λ left. status_left left ≤ 2) }
@@ -301,7 +300,7 @@ fn unpacked<S: Hosts, O: Write>(
         out,
         flow: Flow::Whole,
     };
-    let ended = unpack_telling(alloc, hosts, unpacking, policy, &mut printer);
+    let ended = unpack_telling(alloc, hosts, unpacking, options, &mut printer);
     let flow = printer.flow;
     match ended {
         Ok(came) => {
@@ -423,7 +422,7 @@ fn configured<S: Hosts, O: Write>(
         forced,
         wait,
     } = asked;
-    let work = Work::Configure(names, policy_of(forced));
+    let work = Work::Configure(names, options_of(forced));
     worked(alloc, hosts, &root, streams, wait, &work, triggers, out)
 }
 
@@ -434,7 +433,7 @@ fn removed<S: Hosts, O: Write>(
     out: &mut O,
 ) -> Result<Left, AllocError>
     ensures ended { (ended : Result (AnEnded AReport) ANotOpened)
-        × HasEndedWork (around S.Hosts hosts.old hosts.new) asked.root (Work.Remove asked.names)
+        × HasEndedWork (around S.Hosts hosts.old hosts.new) asked.root (Work.Remove asked.names asked.ignore_depends)
         asked.triggers ended × IsLeft (work_answer ended) (O.contents out.old) (O.contents out.new)
         result }
     ensures bound { IfOk result (λ left. status_left left ≤ 2) }
@@ -445,9 +444,10 @@ fn removed<S: Hosts, O: Write>(
         names,
         streams,
         triggers,
+        ignore_depends,
         wait,
     } = asked;
-    let work = Work::Remove(names);
+    let work = Work::Remove(names, ignore_depends);
     worked(alloc, hosts, &root, streams, wait, &work, triggers, out)
 }
 
@@ -458,7 +458,7 @@ fn purged<S: Hosts, O: Write>(
     out: &mut O,
 ) -> Result<Left, AllocError>
     ensures ended { (ended : Result (AnEnded AReport) ANotOpened)
-        × HasEndedWork (around S.Hosts hosts.old hosts.new) asked.root (Work.Purge asked.names)
+        × HasEndedWork (around S.Hosts hosts.old hosts.new) asked.root (Work.Purge asked.names asked.ignore_depends)
         asked.triggers ended × IsLeft (work_answer ended) (O.contents out.old) (O.contents out.new)
         result }
     ensures bound { IfOk result (λ left. status_left left ≤ 2) }
@@ -469,9 +469,10 @@ fn purged<S: Hosts, O: Write>(
         names,
         streams,
         triggers,
+        ignore_depends,
         wait,
     } = asked;
-    let work = Work::Purge(names);
+    let work = Work::Purge(names, ignore_depends);
     worked(alloc, hosts, &root, streams, wait, &work, triggers, out)
 }
 
@@ -513,13 +514,13 @@ fn removed_selected<S: Hosts, O: Write>(
     out: &mut O,
 ) -> Result<Left, AllocError>
     ensures ended { (ended : Result (AnEnded AReport) ANotOpened)
-        × HasEndedWork (around S.Hosts hosts.old hosts.new) asked.now.root Work.RemoveSelected
-        asked.now.triggers ended × IsLeft (work_answer ended) (O.contents out.old) (O.contents out.new)
+        × HasEndedWork (around S.Hosts hosts.old hosts.new) asked.now.root
+        (Work.RemoveSelected asked.now.ignore_depends) asked.now.triggers ended × IsLeft (work_answer ended) (O.contents out.old) (O.contents out.new)
         result }
     ensures bound { IfOk result (λ left. status_left left ≤ 2) }
     ensures below { S.below hosts.new ≡ S.below hosts.old }
 {
-    let work = Work::RemoveSelected;
+    let work = Work::RemoveSelected(asked.ignore_depends);
     worked(
         alloc,
         hosts,
@@ -701,8 +702,8 @@ pub(crate) fn answer_to<S: Hosts, O: Write>(
         Ok(Asked::Verify(asked)) => whole(verified(alloc, hosts, asked)),
         Ok(Asked::Unpack(unpacking)) => unpacked(alloc, hosts, &unpacking, None, out),
         Ok(Asked::Install(unpacking)) => {
-            let policy = policy_of(unpacking.forced);
-            unpacked(alloc, hosts, &unpacking, Some(policy), out)
+            let options = options_of(unpacking.forced);
+            unpacked(alloc, hosts, &unpacking, Some(options), out)
         }
         Ok(Asked::Configure(asked)) => configured(alloc, hosts, asked, out),
         Ok(Asked::ProcessTriggers(asked)) => processed(alloc, hosts, &asked, out),

@@ -12,9 +12,9 @@ ghost use Rattle.command_line.specs.Unpacks.{HasInstalledRound, HasInstalledRoun
 use crate::hosts::Hosts;
 use crate::ordering::rounds_for;
 use crate::reading::{TreeWords, words_before};
+use crate::unpacking::allowed_of;
 use command_words::Unpacking;
-use conffiles::ConfPolicy;
-use dpkg_session::{Installed, Session, Watcher};
+use dpkg_session::{ConfigureOptions, Installed, Session, Watcher};
 use std::alloc::{AllocError, Global};
 use std::vec::IntoIter;
 use texts::Text;
@@ -29,7 +29,7 @@ fn is_broken(came: &Installed) -> bool
 fn install_session<S: Hosts, W: Watcher>(
     session: &mut Session<S::Opened>,
     trees: &mut TreeWords<'_, S>,
-    policy: ConfPolicy,
+    options: ConfigureOptions,
     watcher: &mut W,
 ) -> Installed
     requires open { session.old.closed ≡ false }
@@ -38,7 +38,7 @@ fn install_session<S: Hosts, W: Watcher>(
         ++ into_iter_items trees.old.left.now }
     ensures same_hosts { trees.new.hosts.ghost_name ≡ trees.old.hosts.ghost_name }
     ensures done { HasInstalledRound (around S.Hosts trees.old.hosts.now trees.new.hosts.now)
-        trees.old.asked.now policy
+        trees.old.asked.now options
         (words_before trees.old.words.now (length (into_iter_items trees.old.left.now)))
         (into_iter_items trees.old.left.now) result
         (held_by session.old.administration session.old.diversions)
@@ -48,8 +48,8 @@ fn install_session<S: Hosts, W: Watcher>(
     ensures on { HaveGoneOn S.Hosts trees.old.hosts.now trees.new.hosts.now }
     ensures watched { AreTold W.tells watcher.old (units_of_round result) watcher.new }
 {
-    let auto_deconfigure = trees.asked.auto_deconfigure;
-    session.install(trees, auto_deconfigure, policy, watcher)
+    let allowed = allowed_of(trees.asked);
+    session.install(trees, allowed, options, watcher)
 }
 
 // The trees of a round, whose words are the last of these.
@@ -58,14 +58,14 @@ fn install_round<S: Hosts, W: Watcher>(
     hosts: &mut S,
     session: &mut Session<S::Opened>,
     asked: &Unpacking,
-    policy: ConfPolicy,
+    options: ConfigureOptions,
     words: &[Text],
     round: Vec<Text>,
     watcher: &mut W,
 ) -> Installed
     requires open { session.old.closed ≡ false }
     requires behind { words.now ≡ words_before words.now (length round.items) ++ round.items }
-    ensures done { HasInstalledRound (around S.Hosts hosts.old hosts.new) asked.now policy
+    ensures done { HasInstalledRound (around S.Hosts hosts.old hosts.new) asked.now options
         (words_before words.now (length round.items)) round.items result
         (held_by session.old.administration session.old.diversions)
         (held_by session.new.administration session.new.diversions)
@@ -82,7 +82,7 @@ fn install_round<S: Hosts, W: Watcher>(
         words,
         left: &mut left,
     };
-    install_session(session, &mut trees, policy, watcher)
+    install_session(session, &mut trees, options, watcher)
 }
 
 // The next of the rounds that are left, whose words are the last of all. Answers whether no other is to be begun.
@@ -91,7 +91,7 @@ fn run_next<S: Hosts, W: Watcher>(
     hosts: &mut S,
     session: &mut Session<S::Opened>,
     asked: &Unpacking,
-    policy: ConfPolicy,
+    options: ConfigureOptions,
     all: &[Text],
     left: &mut usize,
     rounds: &mut IntoIter<Vec<Text>>,
@@ -106,7 +106,7 @@ fn run_next<S: Hosts, W: Watcher>(
         ≤ vec_capacity reports.old }
     ensures over { result ≡ true → (more : List AnInstalled)
         × (reports.new.items ≡ reports.old.items ++ more)
-        × HasInstalledRounds (around S.Hosts hosts.old hosts.new) asked.now policy
+        × HasInstalledRounds (around S.Hosts hosts.old hosts.new) asked.now options
         (words_before all.now left.old) (map (λ v. v.items) (into_iter_items rounds.old)) more
         (held_by session.old.administration session.old.diversions)
         (held_by session.new.administration session.new.diversions)
@@ -117,7 +117,7 @@ fn run_next<S: Hosts, W: Watcher>(
         × (reports.new.items ≡ reports.old.items ++ came ∷ [])
         × IsRoundBefore (λ v. v.items) (into_iter_items rounds.old) (into_iter_items rounds.new)
         (words_before all.now left.old) (words_before all.now left.new) (λ words.
-        HasInstalledRound (around S.Hosts hosts.old hosts.new) asked.now policy
+        HasInstalledRound (around S.Hosts hosts.old hosts.new) asked.now options
         (words_before all.now left.old) words came
         (held_by session.old.administration session.old.diversions)
         (held_by session.new.administration session.new.diversions)
@@ -141,7 +141,7 @@ fn run_next<S: Hosts, W: Watcher>(
     let later = left.saturating_sub(round.len());
     *left = later;
     let words = words_before(all, later);
-    let came = install_round(alloc, hosts, session, asked, policy, words, round, watcher);
+    let came = install_round(alloc, hosts, session, asked, options, words, round, watcher);
     let broken = is_broken(&came);
     reports.push_reserved(came);
     if broken {
@@ -156,7 +156,7 @@ fn run_rounds<S: Hosts, W: Watcher>(
     hosts: &mut S,
     session: &mut Session<S::Opened>,
     asked: &Unpacking,
-    policy: ConfPolicy,
+    options: ConfigureOptions,
     all: &[Text],
     left: &mut usize,
     rounds: &mut IntoIter<Vec<Text>>,
@@ -170,7 +170,7 @@ fn run_rounds<S: Hosts, W: Watcher>(
     requires room { vec_len reports.old + length (into_iter_items rounds.old)
         ≤ vec_capacity reports.old }
     ensures done { (more : List AnInstalled) × (reports.new.items ≡ reports.old.items ++ more)
-        × HasInstalledRounds (around S.Hosts hosts.old hosts.new) asked.now policy
+        × HasInstalledRounds (around S.Hosts hosts.old hosts.new) asked.now options
         (words_before all.now left.old) (map (λ v. v.items) (into_iter_items rounds.old)) more
         (held_by session.old.administration session.old.diversions)
         (held_by session.new.administration session.new.diversions)
@@ -180,13 +180,13 @@ fn run_rounds<S: Hosts, W: Watcher>(
     ensures on { HaveGoneOn S.Hosts hosts.old hosts.new }
 {
     let over = run_next(
-        alloc, hosts, session, asked, policy, all, left, rounds, reports, watcher,
+        alloc, hosts, session, asked, options, all, left, rounds, reports, watcher,
     );
     if over {
         return;
     }
     run_rounds(
-        alloc, hosts, session, asked, policy, all, left, rounds, reports, watcher,
+        alloc, hosts, session, asked, options, all, left, rounds, reports, watcher,
     )
 }
 
@@ -216,13 +216,13 @@ fn install_rounds<S: Hosts, W: Watcher>(
     hosts: &mut S,
     session: &mut Session<S::Opened>,
     asked: &Unpacking,
-    policy: ConfPolicy,
+    options: ConfigureOptions,
     rounds: Vec<Vec<Text>>,
     watcher: &mut W,
 ) -> Result<Vec<Installed>, AllocError>
     requires { session.old.closed ≡ false }
     ensures done { IfOk result (λ reports. HasInstalledRounds (around S.Hosts hosts.old hosts.new)
-        asked.now policy [] (map (λ v. v.items) rounds.items) reports.items
+        asked.now options [] (map (λ v. v.items) rounds.items) reports.items
         (held_by session.old.administration session.old.diversions)
         (held_by session.new.administration session.new.diversions)
         (S.Opened.state session.old.host) (S.Opened.state session.new.host)) }
@@ -245,7 +245,7 @@ fn install_rounds<S: Hosts, W: Watcher>(
         hosts,
         session,
         asked,
-        policy,
+        options,
         all.as_slice(),
         &mut left,
         &mut rounds,
@@ -261,12 +261,12 @@ pub(crate) fn install_trees<S: Hosts, W: Watcher>(
     hosts: &mut S,
     session: &mut Session<S::Opened>,
     asked: &Unpacking,
-    policy: ConfPolicy,
+    options: ConfigureOptions,
     watcher: &mut W,
 ) -> Result<Vec<Installed>, AllocError>
     requires { session.old.closed ≡ false }
     ensures done { IfOk result (λ reports. HasInstalledTrees (around S.Hosts hosts.old hosts.new)
-        asked.now policy reports.items (held_by session.old.administration session.old.diversions)
+        asked.now options reports.items (held_by session.old.administration session.old.diversions)
         (held_by session.new.administration session.new.diversions)
         (S.Opened.state session.old.host) (S.Opened.state session.new.host)) }
     ensures closes { IfOk result (λ reports. session.new.closed
@@ -279,7 +279,7 @@ pub(crate) fn install_trees<S: Hosts, W: Watcher>(
     ensures unwatched { OnErr result (watcher.new ≡ watcher.old) }
 {
     match rounds_for(alloc, hosts, session, asked) {
-        Ok(rounds) => install_rounds(alloc, hosts, session, asked, policy, rounds, watcher),
+        Ok(rounds) => install_rounds(alloc, hosts, session, asked, options, rounds, watcher),
         Err(fault) => Err(fault),
     }
 }

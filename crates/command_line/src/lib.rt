@@ -26,12 +26,15 @@
 //! packages that go because it is recorded that this is wanted.
 //!
 //! Around the units of these commands triggers are watched, but for those of `select`
-//! (`IsAround`): before anything is done it is looked at what packages hit, and a fault of that
-//! look ends the command (`IsUnbegun`). Behind units of which none was broken off the triggers that
-//! the touched packages have activated since become pending, and, unless the words have a flag
-//! against it, what is pending then is processed (`HasTriggered`). The lines of both stand behind
-//! those of the units, and the worst status is told (`with_triggers`). With `--triggers-only` what
-//! is pending is processed and nothing else done.
+//! (`IsAround`): before anything else is done it is looked at what packages hit and what the journal
+//! of activations asks for, and that is written ahead (`HasBegun`); a fault of that ends the command
+//! (`IsUnbegun`). Behind units of which none was broken off the triggers that the touched packages
+//! have activated since become pending, and those that are asked for; then the journal is emptied,
+//! and, unless the words have a flag against it, what is pending is processed (`HasTriggered`), turn
+//! after turn with what scripts ask for meanwhile, of which the journal is emptied each time; a
+//! package whose triggers lead to themselves is given up (`HasTurned`). The lines of both stand behind
+//! those of the units, and the worst status is told (`with_triggers`). With `--triggers-only` that
+//! is all that is done.
 //!
 //! For `divert` and `undivert` it tells likewise how the one unit ended, of a change as the words
 //! ask for it, on the administration that was opened; a path or target that no package may ship is
@@ -73,7 +76,6 @@
 mod answer;
 mod changing;
 mod command;
-mod differing;
 mod dry_hosts;
 mod ending;
 mod fault;
@@ -88,6 +90,7 @@ mod shown;
 mod steady;
 mod telling;
 mod telling_hosts;
+mod trigger_turns;
 mod triggering;
 mod unpacking;
 mod verifying;

@@ -3,18 +3,20 @@
 ghost use Rattle.std.specs.Prelude.{◌≡◌, ◌≤◌, None, Some, false, IfErr, IfOk, OnErr, is_some, option_map};
 ghost use Rattle.unit_reports.specs.Held.{held_by};
 ghost use Rattle.unit_reports.specs.Watching.{IsTold};
-ghost use Rattle.command_line.specs.Packages.{HasWorked, HasWorkedSince, HasWorkedToEnd, HasWorkedUnder, HasWorkedWith, IsWorkedOn, changed_of, policy_of, selections_of, triggering_of, want_of};
+ghost use Rattle.command_line.specs.Packages.{HasWorked, HasWorkedSince, HasWorkedToEnd, HasWorkedUnder, HasWorkedWith, IsWorkedOn, changed_of, options_of, policy_of, selections_of, triggering_of, want_of};
 ghost use Rattle.command_line.specs.Roots.{IsNotBegunOn, IsUnbegun, IsUnitsFault, around};
 ghost use Rattle.command_line.specs.Triggering.{AreAllTold, touched_of};
 
 use crate::ending::{Ended, end};
 use crate::fault::{NotOpened, RootFault};
 use crate::hosts::Hosts;
-use crate::triggering::{Triggering, add_touched_of, last_behind, trigger_behind, untriggered};
+use crate::triggering::{
+    Known, Triggering, add_touched_of, begin, idle, last_behind, trigger_behind, untriggered,
+};
 use administration::AdministrationFault;
 use command_words::{Forced, ScriptStreams, Selected, Selections, Wanted};
 use conffiles::{Changed, ConfPolicy};
-use dpkg_session::{Change, RecordChange, Report, Session, TriggerWatch, Unit, Watcher};
+use dpkg_session::{Change, ConfigureOptions, RecordChange, Report, Session, Touch, Unit, Watcher};
 use host_core::Host;
 use status_records::Want;
 use std::alloc::{AllocError, Global};
@@ -23,14 +25,15 @@ use texts::{Text, Texts};
 /// What is to be done with packages; all that wait are configured where none is named.
 #[derive(Drop)]
 pub(crate) enum Work {
-    Configure(Option<Texts>, ConfPolicy),
-    Remove(Texts),
-    Purge(Texts),
+    Configure(Option<Texts>, ConfigureOptions),
+    /// And whether they go too where others depend on them.
+    Remove(Texts, bool),
+    Purge(Texts, bool),
     /// What is wanted of packages is recorded.
     Select(Selections),
     /// Packages go as it is recorded.
-    RemoveSelected,
-    /// The triggers that are pending are processed.
+    RemoveSelected(bool),
+    /// Nothing but what is done of triggers around it: those that are pending are processed.
     ProcessTriggers,
 }
 
@@ -44,13 +47,23 @@ fn changed_of(confnew: bool) -> Changed
     }
 }
 
-/// How conffiles are settled.
-pub(crate) fn policy_of(forced: Forced) -> ConfPolicy
+// How conffiles are settled.
+fn policy_of(forced: Forced) -> ConfPolicy
     ensures { result ≡ policy_of forced }
 {
     ConfPolicy {
         changed: changed_of(forced.confnew),
         missing: forced.confmiss,
+    }
+}
+
+/// How packages are configured.
+pub(crate) fn options_of(forced: Forced) -> ConfigureOptions
+    ensures { result ≡ options_of forced }
+{
+    ConfigureOptions {
+        policy: policy_of(forced),
+        ignore_depends: forced.depends,
     }
 }
 
@@ -117,24 +130,26 @@ fn carry_out<H: Host, W: Watcher>(
     ensures unwatched { OnErr result (watcher.new ≡ watcher.old) }
 {
     match asked {
-        Work::Configure(names, policy) => {
+        Work::Configure(names, options) => {
             let names = listed_if_named(alloc, names)?;
-            Ok(session.configure(names, *policy, watcher))
+            Ok(session.configure(names, *options, watcher))
         }
-        Work::Remove(names) => {
+        Work::Remove(names, ignore_depends) => {
             let names = listed(alloc, names.as_slice())?;
-            Ok(session.remove(names, watcher))
+            Ok(session.remove(names, *ignore_depends, watcher))
         }
-        Work::Purge(names) => {
+        Work::Purge(names, ignore_depends) => {
             let names = listed(alloc, names.as_slice())?;
-            Ok(session.purge(names, watcher))
+            Ok(session.purge(names, *ignore_depends, watcher))
         }
         Work::Select(told) => {
             let selections = selections_of(alloc, told.as_slice())?;
             Ok(session.change(selections, watcher))
         }
-        Work::RemoveSelected => Ok(session.remove_selected(watcher)),
-        Work::ProcessTriggers => Ok(session.process_triggers(watcher)),
+        Work::RemoveSelected(ignore_depends) => {
+            Ok(session.remove_selected(*ignore_depends, watcher))
+        }
+        Work::ProcessTriggers => Ok(idle(alloc)),
     }
 }
 
@@ -143,12 +158,12 @@ fn triggering_of(asked: &Work, process: bool) -> Option<Triggering>
     ensures { result ≡ triggering_of asked.now process }
 {
     match asked {
-        Work::Configure(_, _) => Some(Triggering {
+        Work::Configure(_, _) | Work::ProcessTriggers => Some(Triggering {
             by_files: false,
             process,
         }),
-        Work::Select(_) | Work::ProcessTriggers => None,
-        Work::Remove(_) | Work::Purge(_) | Work::RemoveSelected => Some(Triggering {
+        Work::Select(_) => None,
+        Work::Remove(_, _) | Work::Purge(_, _) | Work::RemoveSelected(_) => Some(Triggering {
             by_files: true,
             process,
         }),
@@ -181,26 +196,26 @@ fn work_alone<H: Host, W: Watcher>(
     })
 }
 
-// The names of the packages that units touched.
-fn touched_in(alloc: Global, units: &[Unit]) -> Result<Vec<Text>, AllocError>
-    ensures { IfOk result (λ names. names.items ≡ touched_of units.now) }
+// The packages that units touched.
+fn touched_in(alloc: Global, units: &[Unit]) -> Result<Vec<Touch>, AllocError>
+    ensures { IfOk result (λ touches. touches.items ≡ touched_of units.now) }
 {
-    let mut names = Vec::new(alloc);
-    add_touched_of(units, &mut names)?;
-    Ok(names)
+    let mut touches = Vec::new(alloc);
+    add_touched_of(units, &mut touches)?;
+    Ok(touches)
 }
 
-// The work of an open session since triggers are watched, with what is done of them behind it, and the end of the command.
+// The work of an open session behind what is done of triggers before it, with what is done of them behind it, and the end of the command.
 fn work_watched<H: Host, W: Watcher>(
     alloc: Global,
     session: &mut Session<H>,
     asked: &Work,
     triggering: Triggering,
-    watch: &TriggerWatch,
+    known: &Known,
     watcher: &mut W,
 ) -> Result<Ended<Report>, AllocError>
     requires { session.old.closed ≡ false }
-    ensures done { IfOk result (λ ended. HasWorkedSince triggering watch.now asked.now ended
+    ensures done { IfOk result (λ ended. HasWorkedSince triggering known.now asked.now ended
         (held_by session.old.administration session.old.diversions) (H.state session.old.host)
         (H.state session.new.host)) }
     ensures unmoved { OnErr result (H.state session.new.host ≡ H.state session.old.host) }
@@ -211,7 +226,7 @@ fn work_watched<H: Host, W: Watcher>(
     let done = carry_out(alloc, session, asked, watcher)?;
     let touched = touched_in(alloc, done.units.as_slice());
     let triggered = trigger_behind(
-        alloc, session, triggering, watch, &done.last, touched, watcher,
+        alloc, session, triggering, known, &done.last, touched, watcher,
     );
     let left = end(session, last_behind(&done.last, &triggered));
     Ok(Ended {
@@ -221,7 +236,7 @@ fn work_watched<H: Host, W: Watcher>(
     })
 }
 
-// The same from the watch on.
+// The same with what is done of triggers before it.
 fn watch_and_work<H: Host, W: Watcher>(
     alloc: Global,
     session: &mut Session<H>,
@@ -239,8 +254,8 @@ fn watch_and_work<H: Host, W: Watcher>(
         ended.triggered watcher.new) }
     ensures unwatched { OnErr result (watcher.new ≡ watcher.old) }
 {
-    match session.watch_triggers(triggering.by_files) {
-        Ok(watch) => match work_watched(alloc, session, asked, triggering, &watch, watcher) {
+    match begin(session, triggering.by_files) {
+        Ok(known) => match work_watched(alloc, session, asked, triggering, &known, watcher) {
             Ok(ended) => Ok(ended),
             Err(_) => Err(AdministrationFault::NoMemory),
         },

@@ -3,7 +3,7 @@ ghost use Rattle.std.specs.Prelude.{◌≡◌, ◌≤◌, IfErr, IfOk, IsTrue, R
 ghost use Rattle.host_core.specs.Host.{Reads, Silent};
 ghost use Rattle.host_core.specs.Paths.{Path as APath};
 ghost use Rattle.administration.specs.Fault.{CountsAdministration};
-ghost use Rattle.command_line.specs.Queries.{HasInquired, IsAnsweredFrom, IsInquiredOn, IsLeftOpenOn, IsUnanswered, IsUnread, bad_path_answer, inquiry_of, on_path, package_answer, reads_info, search_answer, text_answer};
+ghost use Rattle.command_line.specs.Queries.{HasInquired, IsAnsweredFrom, IsInquiredOn, IsLeftOpenOn, IsUnanswered, IsUnread, asked_answer, bad_path_answer, inquiry_of, on_path, package_answer, reads_info, search_answer, text_answer};
 ghost use Rattle.command_line.specs.Roots.{around};
 ghost use Rattle.command_line.specs.declared.questions.Inquiry.TheVariants.{Search, Truename};
 
@@ -15,21 +15,25 @@ use administration::AdministrationFault;
 use command_words::Question;
 use host_core::{Host, HostFault, RootPath};
 use inquiries::{
-    Glance, audit, list, list_diversions, list_files, search, selections, status, truename,
+    Glance, audit, list, list_diversions, list_files, search, search_matching, selections, status,
+    truename,
 };
+use queries::Told;
+use record_formats::Layout;
 use shown_lines::line;
 use std::alloc::{AllocError, Global};
-use texts::{Bytes, Text};
+use texts::{Bytes, Text, Texts};
 
 /// A question with the path that it is about.
 #[derive(Drop)]
 pub(crate) enum Inquiry {
     Audit,
     Diversions,
-    List,
+    List(Layout, Texts),
     ListFiles(Text),
     Search(RootPath),
-    Selections,
+    SearchMatching(Text),
+    Selections(Texts),
     Status(Text),
     Truename {
         package: Option<Text>,
@@ -69,10 +73,11 @@ pub(crate) fn inquiry_of(
     match question {
         Question::Audit => Ok(Ok(Inquiry::Audit)),
         Question::Diversions => Ok(Ok(Inquiry::Diversions)),
-        Question::List => Ok(Ok(Inquiry::List)),
+        Question::List(layout, patterns) => Ok(Ok(Inquiry::List(layout, patterns))),
         Question::ListFiles(name) => Ok(Ok(Inquiry::ListFiles(name))),
         Question::Search(path) => search_of(alloc, path),
-        Question::Selections => Ok(Ok(Inquiry::Selections)),
+        Question::SearchMatching(pattern) => Ok(Ok(Inquiry::SearchMatching(pattern))),
+        Question::Selections(patterns) => Ok(Ok(Inquiry::Selections(patterns))),
         Question::Status(name) => Ok(Ok(Inquiry::Status(name))),
         Question::Truename { package, path } => truename_of(alloc, package, path),
     }
@@ -91,6 +96,14 @@ fn text_answer(alloc: Global, text: Bytes) -> Answer
     ensures { result ≡ text_answer text }
 {
     told(alloc, text, 0)
+}
+
+fn asked_answer(alloc: Global, of_packages: Told) -> Answer
+    ensures answer { result ≡ asked_answer of_packages }
+    ensures bound { result.status ≤ 2 }
+{
+    let status = if of_packages.complete { 0 } else { 1 };
+    told(alloc, of_packages.text, status)
 }
 
 fn package_answer(alloc: Global, name: &Text, text: Option<Bytes>) -> Result<Answer, AllocError>
@@ -132,13 +145,23 @@ fn inquire<H: Host>(
     match asked {
         Inquiry::Audit => Ok(text_answer(alloc, audit(alloc, host)?)),
         Inquiry::Diversions => Ok(text_answer(alloc, list_diversions(alloc, host)?)),
-        Inquiry::List => Ok(text_answer(alloc, list(alloc, host)?)),
+        Inquiry::List(layout, patterns) => {
+            let packages = list(alloc, host, layout, patterns.as_slice())?;
+            Ok(asked_answer(alloc, packages))
+        }
         Inquiry::ListFiles(name) => {
             let listing = list_files(alloc, host, name)?;
             Ok(package_answer(alloc, name, listing)?)
         }
         Inquiry::Search(path) => Ok(search_answer(alloc, search(alloc, host, path)?)),
-        Inquiry::Selections => Ok(text_answer(alloc, selections(alloc, host)?)),
+        Inquiry::SearchMatching(pattern) => {
+            let paths = search_matching(alloc, host, pattern)?;
+            Ok(search_answer(alloc, paths))
+        }
+        Inquiry::Selections(patterns) => {
+            let wanted = selections(alloc, host, patterns.as_slice())?;
+            Ok(asked_answer(alloc, wanted))
+        }
         Inquiry::Status(name) => {
             let entry = status(alloc, host, name)?;
             Ok(package_answer(alloc, name, entry)?)
@@ -157,10 +180,11 @@ fn reads_info(asked: &Inquiry) -> bool
     match asked {
         Inquiry::Audit => true,
         Inquiry::Diversions => false,
-        Inquiry::List => false,
+        Inquiry::List(_, _) => false,
         Inquiry::ListFiles(_) => true,
         Inquiry::Search(_) => true,
-        Inquiry::Selections => false,
+        Inquiry::SearchMatching(_) => true,
+        Inquiry::Selections(_) => false,
         Inquiry::Status(_) => false,
         Inquiry::Truename { .. } => false,
     }

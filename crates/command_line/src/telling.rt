@@ -7,7 +7,6 @@ use crate::answer::{Answer, not_opened, quiet, told};
 use crate::fault::NotOpened;
 use crate::telling_hosts::Told;
 use crate::writing::{give, give_want_of_memory};
-use administration::AdministrationFault;
 use std::alloc::{AllocError, Global};
 use std::io::Write;
 
@@ -17,10 +16,7 @@ fn told_answer(alloc: Global, changes: Told) -> Result<Answer, AllocError>
     match changes {
         Told::Nothing => Ok(quiet(alloc, 0)),
         Told::Lines(text) => Ok(told(alloc, text, 0)),
-        Told::Failed(fault) => not_opened(
-            alloc,
-            &NotOpened::Opening(AdministrationFault::from(fault)),
-        ),
+        Told::Failed(fault) => not_opened(alloc, &NotOpened::Opening(fault)),
     }
 }
 

@@ -1,15 +1,17 @@
 // Hosts of which nothing is changed, with what is told of the paths that would be.
-ghost use Rattle.std.specs.Prelude.{◌≡◌};
-ghost use Rattle.host_core.specs.Host.{Reads};
-ghost use Rattle.host_overlay.specs.Overlays.{LooksThrough, below_state, begun_state, overlay_state};
+ghost use Rattle.std.specs.Prelude.{◌≡◌, IfOk, IsTrue};
+ghost use Rattle.host_core.specs.Host.{Reads, Silent};
+ghost use Rattle.host_core.specs.World.{World};
+ghost use Rattle.foretold_changes.specs.Told.{IsLookedOver};
 ghost use Rattle.command_line.specs.Telling.{Tells, told_left};
 ghost use Rattle.command_line.specs.Dry.{dry_left, dry_root};
 
-use crate::differing::changes_text;
 use crate::dry_hosts::DryHosts;
 use crate::fault::RootFault;
 use crate::hosts::Hosts;
+use administration::AdministrationFault;
 use command_words::{ScriptStreams, TreeOwners};
+use foretold_changes::{LookedOver, changes_text, look_over};
 use host_core::{Host, HostFault};
 use host_overlay::Overlay;
 use std::alloc::Global;
@@ -21,19 +23,27 @@ use texts::Bytes;
 pub(crate) enum Told {
     Nothing,
     Lines(Bytes),
-    Failed(HostFault),
+    Failed(AdministrationFault),
 }
 
-// What is told of an overlay that is given back.
-fn tell_changes<H: Host>(alloc: Global, host: &mut Overlay<H>) -> Told
-    ensures told { Tells result (below_state host.new) (begun_state host.old).world
-        (overlay_state host.old).world }
-    ensures reads { Reads (overlay_state host.old) (overlay_state host.new) }
-    ensures through { LooksThrough host.old host.new }
+// What is told of an overlay that was looked over, on the host that was below.
+fn tell_changes<H: Host>(
+    alloc: Global,
+    looked: Result<LookedOver, AdministrationFault>,
+    host: &mut H,
+) -> Told
+    ensures told { (new : World) → IfOk looked (λ over. IsTrue (H.state host.new).honest
+        → IsLookedOver (H.state host.old).world new over)
+        → Tells result (H.state host.new) (H.state host.old).world new }
+    ensures reads { Reads (H.state host.old) (H.state host.new) }
+    ensures silent { Silent (H.state host.old) (H.state host.new) }
 {
-    match changes_text(alloc, host) {
-        Ok(lines) => Told::Lines(Bytes::new(lines.into_bytes())),
+    match looked {
         Err(fault) => Told::Failed(fault),
+        Ok(over) => match changes_text(alloc, host, &over) {
+            Ok(lines) => Told::Lines(lines),
+            Err(fault) => Told::Failed(fault),
+        },
     }
 }
 
@@ -86,8 +96,10 @@ impl<'a, S: Hosts> Hosts for TellingHosts<'a, S> {
 
     fn close_root(&mut self, host: Overlay<S::Opened>) {
         let mut host = host;
-        self.told = tell_changes(self.dry.alloc, &mut host);
-        self.dry.hosts.close_root(host.into_below());
+        let looked = look_over(self.dry.alloc, &mut host);
+        let mut below = host.into_below();
+        self.told = tell_changes(self.dry.alloc, looked, &mut below);
+        self.dry.hosts.close_root(below);
     }
 
     fn close_tree(&mut self, host: Overlay<S::Opened>) {

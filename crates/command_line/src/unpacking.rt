@@ -7,7 +7,7 @@ ghost use Rattle.command_line.specs.Printing.{AreTold, IsDoneTold, last_in, last
 ghost use Rattle.command_line.specs.Reading.{HaveGoneOn};
 ghost use Rattle.command_line.specs.Roots.{around, IsNotBegunOn, IsUnbegun, IsUnitsFault};
 ghost use Rattle.command_line.specs.Triggering.{touched_of};
-ghost use Rattle.command_line.specs.Unpacks.{HasRunSince, HasRunToEnd, HasRunTrees, HasUnpacked, HasUnpackedTrees, IsAllTold, IsUnpackedOn, triggering_for};
+ghost use Rattle.command_line.specs.Unpacks.{HasRunSince, HasRunToEnd, HasRunTrees, HasUnpacked, HasUnpackedTrees, IsAllTold, IsUnpackedOn, allowed_of, triggering_for};
 
 use crate::ending::{Ended, end};
 use crate::fault::{NotOpened, RootFault};
@@ -15,13 +15,13 @@ use crate::hosts::Hosts;
 use crate::installing::install_trees;
 use crate::packages::listed;
 use crate::reading::TreeWords;
-use crate::triggering::{Triggering, add_touched_of, last_behind, trigger_behind};
+use crate::triggering::{Known, Triggering, add_touched_of, begin, last_behind, trigger_behind};
 use administration::AdministrationFault;
 use command_words::Unpacking;
-use conffiles::ConfPolicy;
-use dpkg_session::{Installed, Report, Session, TriggerWatch, Unit, Watcher};
+use dpkg_session::{
+    ConfigureOptions, Installed, Report, Session, Touch, Unit, UnpackOptions, Watcher,
+};
 use std::alloc::{AllocError, Global};
-use texts::Text;
 
 /// What came of trees: a report of their unpacks; or of each round that was begun of an install one of the unpacks, and one of what
 /// was configured then.
@@ -63,6 +63,16 @@ impl Done {
     }
 }
 
+/// What unpacks are allowed to do to other packages, and whether relations are ignored.
+pub(crate) fn allowed_of(asked: &Unpacking) -> UnpackOptions
+    ensures { result ≡ allowed_of asked.now }
+{
+    UnpackOptions {
+        auto_deconfigure: asked.auto_deconfigure,
+        ignore_depends: asked.forced.depends,
+    }
+}
+
 // What a session makes of trees as they are given. Its caller learns here that the hosts are still the same.
 fn run_session<S: Hosts, W: Watcher>(
     session: &mut Session<S::Opened>,
@@ -81,8 +91,8 @@ fn run_session<S: Hosts, W: Watcher>(
     ensures on { HaveGoneOn S.Hosts trees.old.hosts.now trees.new.hosts.now }
     ensures watched { AreTold W.tells watcher.old result.units.items watcher.new }
 {
-    let auto_deconfigure = trees.asked.auto_deconfigure;
-    session.run(trees, auto_deconfigure, watcher)
+    let allowed = allowed_of(trees.asked);
+    session.run(trees, allowed, watcher)
 }
 
 // What a session makes of the trees behind words, whose copies are taken from a list in turn.
@@ -118,17 +128,17 @@ fn unpack_trees<S: Hosts, W: Watcher>(
     Ok(run_session(session, &mut trees, watcher))
 }
 
-// What a session makes of trees, which are installed where a policy for conffiles is given.
+// What a session makes of trees, which are installed where it is told how.
 fn run_trees<S: Hosts, W: Watcher>(
     alloc: Global,
     hosts: &mut S,
     session: &mut Session<S::Opened>,
     unpacking: &Unpacking,
-    policy: Option<ConfPolicy>,
+    options: Option<ConfigureOptions>,
     watcher: &mut W,
 ) -> Result<Done, AllocError>
     requires { session.old.closed ≡ false }
-    ensures done { IfOk result (λ done. HasRunTrees (around S.Hosts hosts.old hosts.new) policy
+    ensures done { IfOk result (λ done. HasRunTrees (around S.Hosts hosts.old hosts.new) options
         unpacking.now done (held_by session.old.administration session.old.diversions)
         (held_by session.new.administration session.new.diversions)
         (S.Opened.state session.old.host) (S.Opened.state session.new.host)) }
@@ -139,8 +149,8 @@ fn run_trees<S: Hosts, W: Watcher>(
     ensures watched { IfOk result (λ done. IsDoneTold W.tells watcher.old done watcher.new) }
     ensures unwatched { OnErr result (watcher.new ≡ watcher.old) }
 {
-    match policy {
-        Some(policy) => match install_trees(alloc, hosts, session, unpacking, policy, watcher) {
+    match options {
+        Some(options) => match install_trees(alloc, hosts, session, unpacking, options, watcher) {
             Ok(rounds) => Ok(Done::Installed(rounds)),
             Err(fault) => Err(fault),
         },
@@ -151,35 +161,35 @@ fn run_trees<S: Hosts, W: Watcher>(
     }
 }
 
-// Adds the names of the packages that the units of a round touched.
-fn add_touched_in(came: &Installed, names: &mut Vec<Text>) -> Result<(), AllocError>
-    ensures { OnOk result (names.new.items ≡ names.old.items ++ touched_of
+// Adds the packages that the units of a round touched.
+fn add_touched_in(came: &Installed, touches: &mut Vec<Touch>) -> Result<(), AllocError>
+    ensures { OnOk result (touches.new.items ≡ touches.old.items ++ touched_of
         (units_of_round came.now)) }
 {
-    add_touched_of(came.unpacked.units.as_slice(), names)?;
-    add_touched_of(came.configured.units.as_slice(), names)
+    add_touched_of(came.unpacked.units.as_slice(), touches)?;
+    add_touched_of(came.configured.units.as_slice(), touches)
 }
 
-fn add_touched_of_rounds(rounds: &[Installed], names: &mut Vec<Text>) -> Result<(), AllocError>
-    ensures { OnOk result (names.new.items ≡ names.old.items ++ touched_of
+fn add_touched_of_rounds(rounds: &[Installed], touches: &mut Vec<Touch>) -> Result<(), AllocError>
+    ensures { OnOk result (touches.new.items ≡ touches.old.items ++ touched_of
         (flat_map units_of_round rounds.now)) }
 {
     for came in rounds {
-        add_touched_in(came, names)?;
+        add_touched_in(came, touches)?;
     }
     Ok(())
 }
 
-// The names of the packages that the units touched.
-fn touched_in(alloc: Global, done: &Done) -> Result<Vec<Text>, AllocError>
-    ensures { IfOk result (λ names. names.items ≡ touched_of (units_of done.now)) }
+// The packages that the units touched.
+fn touched_in(alloc: Global, done: &Done) -> Result<Vec<Touch>, AllocError>
+    ensures { IfOk result (λ touches. touches.items ≡ touched_of (units_of done.now)) }
 {
-    let mut names = Vec::new(alloc);
+    let mut touches = Vec::new(alloc);
     match done {
-        Done::Unpacked(report) => add_touched_of(report.units.as_slice(), &mut names)?,
-        Done::Installed(rounds) => add_touched_of_rounds(rounds.as_slice(), &mut names)?,
+        Done::Unpacked(report) => add_touched_of(report.units.as_slice(), &mut touches)?,
+        Done::Installed(rounds) => add_touched_of_rounds(rounds.as_slice(), &mut touches)?,
     }
-    Ok(names)
+    Ok(touches)
 }
 
 // What is done of triggers around trees.
@@ -192,19 +202,19 @@ fn triggering_for(unpacking: &Unpacking) -> Triggering
     }
 }
 
-// What a session makes of trees since triggers are watched, with what is done of these behind them, and the end of the command.
+// What a session makes of trees behind what is done of triggers before them, with what is done of these behind them, and the end of the command.
 fn run_watched<S: Hosts, W: Watcher>(
     alloc: Global,
     hosts: &mut S,
     session: &mut Session<S::Opened>,
     unpacking: &Unpacking,
-    policy: Option<ConfPolicy>,
-    watch: &TriggerWatch,
+    options: Option<ConfigureOptions>,
+    known: &Known,
     watcher: &mut W,
 ) -> Result<Ended<Done>, AllocError>
     requires { session.old.closed ≡ false }
     ensures done { IfOk result (λ ended. HasRunSince (around S.Hosts hosts.old hosts.new)
-        watch.now policy unpacking.now ended
+        known.now options unpacking.now ended
         (held_by session.old.administration session.old.diversions)
         (S.Opened.state session.old.host) (S.Opened.state session.new.host)) }
     ensures unread { OnErr result (S.Opened.state session.new.host ≡ S.Opened.state
@@ -213,12 +223,12 @@ fn run_watched<S: Hosts, W: Watcher>(
     ensures watched { IfOk result (λ ended. IsAllTold W.tells watcher.old ended watcher.new) }
     ensures unwatched { OnErr result (watcher.new ≡ watcher.old) }
 {
-    let done = run_trees(alloc, hosts, session, unpacking, policy, watcher)?;
+    let done = run_trees(alloc, hosts, session, unpacking, options, watcher)?;
     let none = None;
     let last = done.last(&none);
     let touched = touched_in(alloc, &done);
     let triggering = triggering_for(unpacking);
-    let triggered = trigger_behind(alloc, session, triggering, watch, last, touched, watcher);
+    let triggered = trigger_behind(alloc, session, triggering, known, last, touched, watcher);
     let left = end(session, last_behind(last, &triggered));
     Ok(Ended {
         done,
@@ -233,11 +243,11 @@ fn run_to_end<S: Hosts, W: Watcher>(
     hosts: &mut S,
     session: &mut Session<S::Opened>,
     unpacking: &Unpacking,
-    policy: Option<ConfPolicy>,
+    options: Option<ConfigureOptions>,
     watcher: &mut W,
 ) -> Result<Ended<Done>, AdministrationFault>
     requires { session.old.closed ≡ false }
-    ensures done { IfOk result (λ ended. HasRunToEnd (around S.Hosts hosts.old hosts.new) policy
+    ensures done { IfOk result (λ ended. HasRunToEnd (around S.Hosts hosts.old hosts.new) options
         unpacking.now ended (held_by session.old.administration session.old.diversions)
         (S.Opened.state session.old.host) (S.Opened.state session.new.host)) }
     ensures unbegun { IfErr result (λ fault. IsUnbegun (Some (triggering_for unpacking.now)) fault
@@ -246,9 +256,9 @@ fn run_to_end<S: Hosts, W: Watcher>(
     ensures watched { IfOk result (λ ended. IsAllTold W.tells watcher.old ended watcher.new) }
     ensures unwatched { OnErr result (watcher.new ≡ watcher.old) }
 {
-    match session.watch_triggers(triggering_for(unpacking).by_files) {
-        Ok(watch) => {
-            match run_watched(alloc, hosts, session, unpacking, policy, &watch, watcher) {
+    match begin(session, triggering_for(unpacking).by_files) {
+        Ok(known) => {
+            match run_watched(alloc, hosts, session, unpacking, options, &known, watcher) {
                 Ok(ended) => Ok(ended),
                 Err(_) => Err(AdministrationFault::NoMemory),
             }
@@ -263,11 +273,11 @@ fn unpack_on<S: Hosts, W: Watcher>(
     hosts: &mut S,
     host: S::Opened,
     unpacking: &Unpacking,
-    policy: Option<ConfPolicy>,
+    options: Option<ConfigureOptions>,
     watcher: &mut W,
 ) -> Result<Ended<Done>, AdministrationFault>
     ensures done { IfOk result (IsUnpackedOn (around S.Hosts hosts.old hosts.new)
-        (S.Opened.state host) policy unpacking.now) }
+        (S.Opened.state host) options unpacking.now) }
     ensures refused { IfErr result (IsNotBegunOn (Some (triggering_for unpacking.now))
         (S.left hosts.new) (S.Opened.state host)) }
     ensures faults { S.faults hosts.old ≤ S.faults hosts.new }
@@ -277,7 +287,7 @@ fn unpack_on<S: Hosts, W: Watcher>(
 {
     match Session::open(alloc, host) {
         Ok(mut session) => {
-            let ended = run_to_end(alloc, hosts, &mut session, unpacking, policy, watcher);
+            let ended = run_to_end(alloc, hosts, &mut session, unpacking, options, watcher);
             hosts.close_root(session.into_host());
             ended
         }
@@ -288,16 +298,16 @@ fn unpack_on<S: Hosts, W: Watcher>(
     }
 }
 
-/// Unpacks the trees under the root, and configures their packages where a policy for conffiles is given; or tells why the root
+/// Unpacks the trees under the root, and configures their packages where it is told how; or tells why the root
 /// can't be opened. Want of memory outside of the units, and a fault of the look at triggers before them, are told likewise.
 pub(crate) fn unpack<S: Hosts, W: Watcher>(
     alloc: Global,
     hosts: &mut S,
     unpacking: &Unpacking,
-    policy: Option<ConfPolicy>,
+    options: Option<ConfigureOptions>,
     watcher: &mut W,
 ) -> Result<Ended<Done>, NotOpened>
-    ensures done { IfOk result (HasUnpacked (around S.Hosts hosts.old hosts.new) policy
+    ensures done { IfOk result (HasUnpacked (around S.Hosts hosts.old hosts.new) options
         unpacking.now) }
     ensures refused { IfErr result (IsUnitsFault (Some (triggering_for unpacking.now))
         (around S.Hosts hosts.old hosts.new) unpacking.now.root) }
@@ -307,7 +317,7 @@ pub(crate) fn unpack<S: Hosts, W: Watcher>(
     ensures below { S.below hosts.new ≡ S.below hosts.old }
 {
     match hosts.open_root(unpacking.root.as_str(), unpacking.streams, unpacking.wait) {
-        Ok(host) => match unpack_on(alloc, hosts, host, unpacking, policy, watcher) {
+        Ok(host) => match unpack_on(alloc, hosts, host, unpacking, options, watcher) {
             Ok(ended) => Ok(ended),
             Err(fault) => Err(NotOpened::Opening(fault)),
         },

@@ -3,3 +3,4 @@ mod Adding
 mod Waiting
 mod Rehearsing
 mod CutAtEquals
+mod Behind

@@ -42,23 +42,35 @@ compare_versions_app = with_rule (with_rule (with_rule (new_app (codes "compare-
 abbrev pub help_app : App
 help_app = with_rule (new_app (codes "help")) (maybe_word_rule (codes "COMMAND"))
 
--- a subcommand that has a root
+-- a subcommand that has a root, and prints lines: `--json`
 abbrev pub rooted_app : Text → App
-rooted_app name = with_rule (new_app name) root_rule
+rooted_app name = with_rule (with_rule (new_app name) root_rule) (flag_rule (codes "json"))
 
 -- `--dry-run`, `--changes` and `--assume-failure PKG:SCRIPT:WORD`
 abbrev pub with_rehearsal : App → App
 with_rehearsal a = with_rule (with_rule (with_rule a (flag_rule (codes "dry-run"))) (flag_rule (codes "changes"))) (options_rule (codes "assume-failure"))
 
+-- `--status-fd N` and `--log FILE`
+abbrev pub with_frontends : App → App
+with_frontends a = with_rule (with_rule a (options_rule (codes "status-fd"))) (option_rule (codes "log"))
+
 -- a subcommand that changes what is under a root: `--wait SECONDS`
 abbrev pub changing_app : Text → App
-changing_app name = with_rehearsal (with_rule (rooted_app name) (option_rule (codes "wait")))
+changing_app name = with_rehearsal (with_frontends (with_rule (rooted_app name) (option_rule (codes "wait"))))
 
 -- a subcommand that asks for one word under a root
 abbrev pub asking_app : Text → Text → App
 asking_app name id = with_rule (rooted_app name) (word_rule id)
 
--- `truename [--root DIR] [--package P] PATH`
+-- a subcommand that asks of all packages, or of those whose names match patterns
+abbrev pub matching_app : Text → App
+matching_app name = with_rule (rooted_app name) (words_rule (codes "PATTERN") false)
+
+-- `list [--root DIR] [--json | --table | --format FORMAT] [PATTERN..]`
+abbrev pub list_app : App
+list_app = with_rule (with_rule (with_rule (rooted_app (codes "list")) (flag_rule (codes "table"))) (option_rule (codes "format"))) (words_rule (codes "PATTERN") false)
+
+-- `truename [--root DIR] [--json] [--package P] PATH`
 abbrev pub truename_app : App
 truename_app = with_rule (with_rule (rooted_app (codes "truename")) (option_rule (codes "package"))) (word_rule (codes "PATH"))
 
@@ -70,24 +82,28 @@ with_owner a = with_rule (with_rule a (option_rule (codes "package"))) (flag_rul
 abbrev pub with_diverted : App → App
 with_diverted a = with_rule (with_rule a (flag_rule (codes "rename"))) (word_rule (codes "PATH"))
 
--- `divert [--root DIR] [--wait SECONDS] [--dry-run [--changes] [--assume-failure PKG:SCRIPT:WORD]..] (--package P | --local) [--divert TARGET] [--rename] PATH`
+-- `divert [--root DIR] [--json] [--wait SECONDS] [--status-fd N].. [--log FILE] [--dry-run [--changes] [--assume-failure PKG:SCRIPT:WORD]..] (--package P | --local) [--divert TARGET] [--rename] PATH`
 abbrev pub divert_app : App
 divert_app = with_diverted (with_rule (with_owner (changing_app (codes "divert"))) (option_rule (codes "divert")))
 
--- `undivert [--root DIR] [--wait SECONDS] [--dry-run [--changes] [--assume-failure PKG:SCRIPT:WORD]..] (--package P | --local) [--rename] PATH`
+-- `undivert [--root DIR] [--json] [--wait SECONDS] [--status-fd N].. [--log FILE] [--dry-run [--changes] [--assume-failure PKG:SCRIPT:WORD]..] (--package P | --local) [--rename] PATH`
 abbrev pub undivert_app : App
 undivert_app = with_diverted (with_owner (changing_app (codes "undivert")))
 
 -- `--force-confold`, `--force-confnew` and `--force-confmiss`
+abbrev pub with_conffiles_forced : App → App
+with_conffiles_forced a = with_rule (with_rule (with_rule a (flag_rule (codes "force-confold"))) (flag_rule (codes "force-confnew"))) (flag_rule (codes "force-confmiss"))
+
+-- these and `--force-depends`
 abbrev pub with_forced : App → App
-with_forced a = with_rule (with_rule (with_rule a (flag_rule (codes "force-confold"))) (flag_rule (codes "force-confnew"))) (flag_rule (codes "force-confmiss"))
+with_forced a = with_rule (with_conffiles_forced a) (flag_rule (codes "force-depends"))
 
 -- one that calls scripts: `--scripts-stderr` and `--no-triggers`
 abbrev pub calling_app : Text → App
 calling_app name = with_rule (with_rule (changing_app name) (flag_rule (codes "scripts-stderr"))) (flag_rule (codes "no-triggers"))
 
--- `install [--root DIR] [--wait SECONDS] [--dry-run [--changes] [--assume-failure PKG:SCRIPT:WORD]..] [--scripts-stderr] [--no-triggers] [--owner-root] [--auto-deconfigure]
--- [--force-confold | --force-confnew] [--force-confmiss] [--as-given] TREE..`; `unpack` likewise, without `--as-given`
+-- `install [--root DIR] [--json] [--wait SECONDS] [--status-fd N].. [--log FILE] [--dry-run [--changes] [--assume-failure PKG:SCRIPT:WORD]..] [--scripts-stderr] [--no-triggers] [--owner-root] [--auto-deconfigure]
+-- [--force-confold | --force-confnew] [--force-confmiss] [--force-depends] [--as-given] TREE..`; `unpack` likewise, without `--as-given`
 abbrev pub unpacking_app : Text → App
 unpacking_app name = with_forced (with_rule (with_rule (calling_app name) (flag_rule (codes "owner-root"))) (flag_rule (codes "auto-deconfigure")))
 
@@ -97,24 +113,24 @@ install_app = with_rule (with_rule (unpacking_app (codes "install")) (flag_rule 
 abbrev pub unpack_app : App
 unpack_app = with_rule (unpacking_app (codes "unpack")) (words_rule (codes "TREE") true)
 
--- `configure [--root DIR] [--wait SECONDS] [--dry-run [--changes] [--assume-failure PKG:SCRIPT:WORD]..] [--scripts-stderr] [--force-confold | --force-confnew] [--force-confmiss]
--- ([--no-triggers] [PKG..] | --triggers-only)`
+-- `configure [--root DIR] [--json] [--wait SECONDS] [--status-fd N].. [--log FILE] [--dry-run [--changes] [--assume-failure PKG:SCRIPT:WORD]..] [--scripts-stderr] [--force-confold | --force-confnew] [--force-confmiss]
+-- [--force-depends] ([--no-triggers] [PKG..] | --triggers-only)`
 abbrev pub configure_app : App
 configure_app = with_rule (with_rule (with_forced (calling_app (codes "configure"))) (flag_rule (codes "triggers-only"))) (words_rule (codes "PKG") false)
 
--- `remove [--root DIR] [--wait SECONDS] [--dry-run [--changes] [--assume-failure PKG:SCRIPT:WORD]..] [--scripts-stderr] [--no-triggers] PKG..`; `purge` likewise
+-- `remove [--root DIR] [--json] [--wait SECONDS] [--status-fd N].. [--log FILE] [--dry-run [--changes] [--assume-failure PKG:SCRIPT:WORD]..] [--scripts-stderr] [--no-triggers] [--force-depends] PKG..`; `purge` likewise
 abbrev pub removing_app : Text → App
-removing_app name = with_rule (calling_app name) (words_rule (codes "PKG") true)
+removing_app name = with_rule (with_rule (calling_app name) (flag_rule (codes "force-depends"))) (words_rule (codes "PKG") true)
 
--- `remove-selected [--root DIR] [--wait SECONDS] [--dry-run [--changes] [--assume-failure PKG:SCRIPT:WORD]..] [--scripts-stderr] [--no-triggers]`
+-- `remove-selected [--root DIR] [--json] [--wait SECONDS] [--status-fd N].. [--log FILE] [--dry-run [--changes] [--assume-failure PKG:SCRIPT:WORD]..] [--scripts-stderr] [--no-triggers] [--force-depends]`
 abbrev pub remove_selected_app : App
-remove_selected_app = calling_app (codes "remove-selected")
+remove_selected_app = with_rule (calling_app (codes "remove-selected")) (flag_rule (codes "force-depends"))
 
--- `select [--root DIR] [--wait SECONDS] [--dry-run [--changes] [--assume-failure PKG:SCRIPT:WORD]..] PKG=WANT..`
+-- `select [--root DIR] [--json] [--wait SECONDS] [--status-fd N].. [--log FILE] [--dry-run [--changes] [--assume-failure PKG:SCRIPT:WORD]..] PKG=WANT..`
 abbrev pub select_app : App
 select_app = with_rule (changing_app (codes "select")) (words_rule (codes "PKG=WANT") true)
 
--- `verify [--root DIR] [--tree TREE] [--owner-root] [PKG..]`
+-- `verify [--root DIR] [--json] [--tree TREE] [--owner-root] [PKG..]`
 abbrev pub verify_app : App
 verify_app = with_rule (with_rule (with_rule (rooted_app (codes "verify")) (option_rule (codes "tree"))) (flag_rule (codes "owner-root"))) (words_rule (codes "PKG") false)
 
@@ -134,13 +150,13 @@ abbrev pub second_apps : List App
 second_apps = rooted_app (codes "diversions") ∷ divert_app ∷ help_app ∷ install_app ∷ []
 
 abbrev pub third_apps : List App
-third_apps = rooted_app (codes "list") ∷ asking_app (codes "listfiles") (codes "PKG") ∷ removing_app (codes "purge") ∷ []
+third_apps = list_app ∷ asking_app (codes "listfiles") (codes "PKG") ∷ removing_app (codes "purge") ∷ []
 
 abbrev pub fourth_apps : List App
 fourth_apps = removing_app (codes "remove") ∷ remove_selected_app ∷ asking_app (codes "search") (codes "PATH") ∷ []
 
 abbrev pub fifth_apps : List App
-fifth_apps = select_app ∷ rooted_app (codes "selections") ∷ asking_app (codes "status") (codes "PKG") ∷ []
+fifth_apps = select_app ∷ matching_app (codes "selections") ∷ asking_app (codes "status") (codes "PKG") ∷ []
 
 abbrev pub last_apps : List App
 last_apps = truename_app ∷ undivert_app ∷ unpack_app ∷ verify_app ∷ []

@@ -8,6 +8,8 @@ pub mod Waits
 pub mod Topics
 pub mod Queries
 pub mod Forced
+pub mod Frontends
+pub mod Objects
 pub mod Triggers
 pub mod Unpacks
 pub mod Packages

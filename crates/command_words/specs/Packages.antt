@@ -1,7 +1,7 @@
 -- What words ask of packages by their names, which may be any texts.
 use Rattle.std.specs.Prelude.{Bool, ℕ, List, Option, Some, None, codes, if◌then◌else◌}
 use Rattle.clap.specs.Words.{Row, Text, all_of, first_of}
-use Rattle.command_words.specs.Forced.{forced_of}
+use Rattle.command_words.specs.Forced.{depends_forced, forced_of}
 use Rattle.command_words.specs.Given.{is_absolute}
 use Rattle.command_words.specs.Streams.{streams_of}
 use Rattle.command_words.specs.Triggers.{processes_triggers}
@@ -23,11 +23,11 @@ configuring_from _ _ _ _ _ _ = None
 abbrev pub configuring_of : List Row → Option Configuring
 configuring_of rows = configuring_from (first_of (codes "root") rows) (names_of rows) (streams_of rows) (processes_triggers rows) (forced_of rows) (wait_of rows)
 
--- packages to be removed or purged under an absolute root; triggers likewise
-abbrev pub removing_from : Option Text → Option (List Text) → ScriptStreams → Bool → Option ℕ → Option Removing
-removing_from (Some root) (Some names) streams triggers (Some wait) =
-    if is_absolute root then Some (record { root = root; names = names; streams = streams; triggers = triggers; wait = wait }) else None
-removing_from _ _ _ _ _ = None
+-- packages to be removed or purged under an absolute root; triggers likewise; whether it is ignored that others depend on them
+abbrev pub removing_from : Option Text → Option (List Text) → ScriptStreams → Bool → Bool → Option ℕ → Option Removing
+removing_from (Some root) (Some names) streams triggers ignore_depends (Some wait) =
+    if is_absolute root then Some (record { root = root; names = names; streams = streams; triggers = triggers; ignore_depends = ignore_depends; wait = wait }) else None
+removing_from _ _ _ _ _ _ = None
 
 abbrev pub removing_of : List Row → Option Removing
-removing_of rows = removing_from (first_of (codes "root") rows) (names_of rows) (streams_of rows) (processes_triggers rows) (wait_of rows)
+removing_of rows = removing_from (first_of (codes "root") rows) (names_of rows) (streams_of rows) (processes_triggers rows) (depends_forced rows) (wait_of rows)

@@ -1,16 +1,11 @@
 -- What words ask of packages that are verified.
-use Rattle.std.specs.Prelude.{◌&&◌, ◌==◌, Bool, true, false, List, [], length, Option, Some, None, codes, if◌then◌else◌}
+use Rattle.std.specs.Prelude.{◌&&◌, ◌==◌, Bool, true, false, List, length, Option, Some, None, codes, if◌then◌else◌}
 use Rattle.clap.specs.Words.{Row, Text, all_of, first_of}
-use Rattle.command_words.specs.Given.{is_absolute}
+use Rattle.command_words.specs.Given.{all_given, is_absolute}
 use Rattle.command_words.specs.Owners.{owners_of}
 use Rattle.command_words.specs.declared.owners.TreeOwners.{TreeOwners}
 use Rattle.command_words.specs.declared.owners.TreeOwners.TheVariants.{Kept, Root}
 use Rattle.command_words.specs.declared.verifying.Verifying.{Verifying}
-
--- the texts that are given at a place, which may be none
-abbrev pub all_given : Option (List Text) → List Text
-all_given None = []
-all_given (Some texts) = texts
 
 -- beside a tree no package is named, and to its paths alone owners are given
 abbrev pub is_fitting : List Text → Option Text → TreeOwners → Bool

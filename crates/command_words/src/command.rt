@@ -2,7 +2,7 @@
 ghost use Rattle.std.specs.Prelude.{◌≡◌, IfOk, codes, false, string_bytes, true};
 ghost use Rattle.clap.specs.Words.{app_of, new_app, rule_of, with_rule, with_subcommand};
 ghost use Rattle.clap.specs.declared.builder.command.Command.TheViews.{out-Command as fields_of};
-ghost use Rattle.command_words.specs.CommandLine.{are_ascending, asking_app, calling_app, changing_app, compare_versions_app, configure_app, divert_app, fifth_apps, first_apps, flag_rule, fourth_apps, help_app, install_app, last_apps, lines, maybe_word_rule, option_rule, options_rule, removing_app, root_rule, rooted_app, second_apps, select_app, subcommand_names, third_apps, truename_app, undivert_app, unpack_app, unpacking_app, verify_app, whole_app, with_all, with_diverted, with_forced, with_owner, with_rehearsal, without_help, word_rule, words_rule};
+ghost use Rattle.command_words.specs.CommandLine.{are_ascending, asking_app, calling_app, changing_app, compare_versions_app, configure_app, divert_app, fifth_apps, first_apps, flag_rule, fourth_apps, help_app, install_app, last_apps, lines, list_app, matching_app, maybe_word_rule, option_rule, options_rule, remove_selected_app, removing_app, root_rule, rooted_app, second_apps, select_app, subcommand_names, third_apps, truename_app, undivert_app, unpack_app, unpacking_app, verify_app, whole_app, with_all, with_conffiles_forced, with_diverted, with_forced, with_frontends, with_owner, with_rehearsal, without_help, word_rule, words_rule};
 
 use clap::{Arg, ArgAction, Command};
 use std::alloc::{AllocError, Global};
@@ -99,12 +99,13 @@ fn help_command<'a>(alloc: Global) -> Result<Command<'a>, AllocError>
     with_arg(Command::new(alloc, "help"), maybe_word(alloc, "COMMAND"))
 }
 
-// A subcommand under a root.
+// A subcommand under a root, which prints lines.
 fn rooted<'a>(alloc: Global, name: &'a str) -> Result<Command<'a>, AllocError>
     ensures app { IfOk result (λ c. app_of c ≡ rooted_app name.entry.now) }
     ensures local { IfOk result (λ c. (fields_of c).has_globals ≡ false) }
 {
-    with_arg(Command::new(alloc, name), root(alloc))
+    let command = with_arg(Command::new(alloc, name), root(alloc))?;
+    with_arg(command, flag(alloc, "json"))
 }
 
 // Whether a subcommand is only rehearsed, whether changed paths are told, and the calls that are assumed to fail then.
@@ -118,13 +119,23 @@ fn with_rehearsal<'a>(alloc: Global, command: Command<'a>) -> Result<Command<'a>
     with_arg(command, options(alloc, "assume-failure"))
 }
 
+// The descriptors and the log on which it is told what is done.
+fn with_frontends<'a>(alloc: Global, command: Command<'a>) -> Result<Command<'a>, AllocError>
+    ensures app { IfOk result (λ c. app_of c ≡ with_frontends (app_of command.entry)) }
+    ensures local { IfOk result (λ c. (fields_of c).has_globals
+        ≡ (fields_of command.entry).has_globals) }
+{
+    let command = with_arg(command, options(alloc, "status-fd"))?;
+    with_arg(command, option(alloc, "log"))
+}
+
 // A subcommand that changes what is under a root.
 fn changing<'a>(alloc: Global, name: &'a str) -> Result<Command<'a>, AllocError>
     ensures app { IfOk result (λ c. app_of c ≡ changing_app name.entry.now) }
     ensures local { IfOk result (λ c. (fields_of c).has_globals ≡ false) }
 {
     let command = with_arg(rooted(alloc, name)?, option(alloc, "wait"))?;
-    with_rehearsal(alloc, command)
+    with_rehearsal(alloc, with_frontends(alloc, command)?)
 }
 
 // A subcommand under a root that asks for one word.
@@ -133,6 +144,23 @@ fn asking<'a>(alloc: Global, name: &'a str, id: &'a str) -> Result<Command<'a>, 
     ensures local { IfOk result (λ c. (fields_of c).has_globals ≡ false) }
 {
     with_arg(rooted(alloc, name)?, word(alloc, id))
+}
+
+// A subcommand under a root that asks of all packages, or of those whose names match patterns.
+fn matching<'a>(alloc: Global, name: &'a str) -> Result<Command<'a>, AllocError>
+    ensures app { IfOk result (λ c. app_of c ≡ matching_app name.entry.now) }
+    ensures local { IfOk result (λ c. (fields_of c).has_globals ≡ false) }
+{
+    with_arg(rooted(alloc, name)?, words(alloc, "PATTERN", false))
+}
+
+fn list_command<'a>(alloc: Global) -> Result<Command<'a>, AllocError>
+    ensures app { IfOk result (λ c. app_of c ≡ list_app) }
+    ensures local { IfOk result (λ c. (fields_of c).has_globals ≡ false) }
+{
+    let command = with_arg(rooted(alloc, "list")?, flag(alloc, "table"))?;
+    let with_format = with_arg(command, option(alloc, "format"))?;
+    with_arg(with_format, words(alloc, "PATTERN", false))
 }
 
 fn truename_command<'a>(alloc: Global) -> Result<Command<'a>, AllocError>
@@ -185,14 +213,26 @@ fn undivert_command<'a>(alloc: Global) -> Result<Command<'a>, AllocError>
 }
 
 // What is forced of conffiles.
-fn with_forced<'a>(alloc: Global, command: Command<'a>) -> Result<Command<'a>, AllocError>
-    ensures app { IfOk result (λ c. app_of c ≡ with_forced (app_of command.entry)) }
+fn with_conffiles_forced<'a>(alloc: Global, command: Command<'a>) -> Result<Command<'a>, AllocError>
+    ensures app { IfOk result (λ c. app_of c ≡ with_conffiles_forced (app_of command.entry)) }
     ensures local { IfOk result (λ c. (fields_of c).has_globals
         ≡ (fields_of command.entry).has_globals) }
 {
     let command = with_arg(command, flag(alloc, "force-confold"))?;
     let command = with_arg(command, flag(alloc, "force-confnew"))?;
     with_arg(command, flag(alloc, "force-confmiss"))
+}
+
+// And of relations.
+fn with_forced<'a>(alloc: Global, command: Command<'a>) -> Result<Command<'a>, AllocError>
+    ensures app { IfOk result (λ c. app_of c ≡ with_forced (app_of command.entry)) }
+    ensures local { IfOk result (λ c. (fields_of c).has_globals
+        ≡ (fields_of command.entry).has_globals) }
+{
+    with_arg(
+        with_conffiles_forced(alloc, command)?,
+        flag(alloc, "force-depends"),
+    )
 }
 
 // One that calls scripts.
@@ -243,7 +283,19 @@ fn removing<'a>(alloc: Global, name: &'a str) -> Result<Command<'a>, AllocError>
     ensures app { IfOk result (λ c. app_of c ≡ removing_app name.entry.now) }
     ensures local { IfOk result (λ c. (fields_of c).has_globals ≡ false) }
 {
-    with_arg(calling(alloc, name)?, words(alloc, "PKG", true))
+    let command = with_arg(calling(alloc, name)?, flag(alloc, "force-depends"))?;
+    with_arg(command, words(alloc, "PKG", true))
+}
+
+// The same of those of which that is wanted.
+fn remove_selected_command<'a>(alloc: Global) -> Result<Command<'a>, AllocError>
+    ensures app { IfOk result (λ c. app_of c ≡ remove_selected_app) }
+    ensures local { IfOk result (λ c. (fields_of c).has_globals ≡ false) }
+{
+    with_arg(
+        calling(alloc, "remove-selected")?,
+        flag(alloc, "force-depends"),
+    )
 }
 
 // What is to be wanted of packages.
@@ -300,7 +352,7 @@ fn with_second<'a>(alloc: Global, whole: Command<'a>) -> Result<Command<'a>, All
 fn with_third<'a>(alloc: Global, whole: Command<'a>) -> Result<Command<'a>, AllocError>
     ensures { IfOk result (λ c. app_of c ≡ with_all (app_of whole.entry) third_apps) }
 {
-    let whole = with(whole, rooted(alloc, "list")?)?;
+    let whole = with(whole, list_command(alloc)?)?;
     let whole = with(whole, asking(alloc, "listfiles", "PKG")?)?;
     with(whole, removing(alloc, "purge")?)
 }
@@ -309,7 +361,7 @@ fn with_fourth<'a>(alloc: Global, whole: Command<'a>) -> Result<Command<'a>, All
     ensures { IfOk result (λ c. app_of c ≡ with_all (app_of whole.entry) fourth_apps) }
 {
     let whole = with(whole, removing(alloc, "remove")?)?;
-    let whole = with(whole, calling(alloc, "remove-selected")?)?;
+    let whole = with(whole, remove_selected_command(alloc)?)?;
     with(whole, asking(alloc, "search", "PATH")?)
 }
 
@@ -317,7 +369,7 @@ fn with_fifth<'a>(alloc: Global, whole: Command<'a>) -> Result<Command<'a>, Allo
     ensures { IfOk result (λ c. app_of c ≡ with_all (app_of whole.entry) fifth_apps) }
 {
     let whole = with(whole, select_command(alloc)?)?;
-    let whole = with(whole, rooted(alloc, "selections")?)?;
+    let whole = with(whole, matching(alloc, "selections")?)?;
     with(whole, asking(alloc, "status", "PKG")?)
 }
 

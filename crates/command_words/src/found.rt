@@ -1,7 +1,7 @@
 // The texts that clap found for arguments.
 ghost use Rattle.std.specs.Prelude.{◌≡◌, IfOk, map, option_map};
 ghost use Rattle.clap.specs.Words.{all_of, first_of, found_of, rows_of};
-ghost use Rattle.command_words.specs.Given.{is_absolute, is_package, is_set};
+ghost use Rattle.command_words.specs.Given.{all_given, is_absolute, is_package, is_set};
 
 use clap::ArgMatches;
 use std::alloc::{AllocError, Global};
@@ -76,4 +76,19 @@ pub(crate) fn copies(alloc: Global, texts: &[&str]) -> Result<Texts, AllocError>
         all.push(Text::from_str(alloc, text)?)?;
     }
     Ok(all)
+}
+
+/// The texts that are given at a place, which may be none.
+pub(crate) fn all_given(
+    alloc: Global,
+    found: &ArgMatches<'_>,
+    id: &str,
+) -> Result<Texts, AllocError>
+    ensures { IfOk result (λ given. given ≡ all_given (all_of id.now
+        (rows_of (found_of found.now)))) }
+{
+    match all_texts_of(found, id) {
+        Some(texts) => copies(alloc, texts),
+        None => Ok(Texts::new(alloc)),
+    }
 }

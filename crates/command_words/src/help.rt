@@ -59,6 +59,7 @@ const AUDIT: &str =
     "Lists the packages with which something has to be done: PKG STATE FLAG, a line each.
 
   --root DIR  the root, an absolute directory; / if it isn't given
+  --json      each line is an object of JSON
 
 Example: coizkerra audit --root /srv/root
 ";
@@ -76,7 +77,10 @@ const CONFIGURE: &str =
 of all that wait for it where none is named.
 
   --root DIR        the root, an absolute directory; / if it isn't given
+  --json            each line is an object of JSON
   --wait SECONDS    how long the lock of another program is waited for; 0 if it isn't given
+  --status-fd N     a program that reads descriptor N is told what is done; once or more
+  --log FILE        lines as in dpkg's log are added to FILE
   --dry-run         the lines are told as if it were done, and nothing is changed
   --changes         behind the lines of a dry run one for each path that would be changed
   --assume-failure PKG:SCRIPT:WORD
@@ -87,6 +91,7 @@ of all that wait for it where none is named.
   --force-confold   an edited conffile stays, as without a flag
   --force-confnew   the package's takes the place of an edited conffile
   --force-confmiss  a deleted conffile is made again
+  --force-depends   those go too of which Depends or Pre-Depends aren't met
 
 Example: coizkerra configure --root /srv/root hello
 ";
@@ -95,6 +100,7 @@ const DIVERSIONS: &str =
     "Lists the diversions: local or the package, the path, the target, a line each.
 
   --root DIR  the root, an absolute directory; / if it isn't given
+  --json      each line is an object of JSON
 
 Example: coizkerra diversions --root /srv/root
 ";
@@ -102,7 +108,10 @@ Example: coizkerra diversions --root /srv/root
 const DIVERT: &str = "Files at PATH of all packages but P go to TARGET from now on.
 
   --root DIR       the root, an absolute directory; / if it isn't given
+  --json           each line is an object of JSON
   --wait SECONDS   how long the lock of another program is waited for; 0 if it isn't given
+  --status-fd N    a program that reads descriptor N is told what is done; once or more
+  --log FILE       lines as in dpkg's log are added to FILE
   --dry-run        the lines are told as if it were done, and nothing is changed
   --changes        behind the lines of a dry run one for each path that would be changed
   --assume-failure PKG:SCRIPT:WORD
@@ -125,7 +134,10 @@ const INSTALL: &str =
 rounds, so that what a package needs before its unpack is configured before.
 
   --root DIR          the root, an absolute directory; / if it isn't given
+  --json              each line is an object of JSON
   --wait SECONDS      how long the lock of another program is waited for; 0 if it isn't given
+  --status-fd N       a program that reads descriptor N is told what is done; once or more
+  --log FILE          lines as in dpkg's log are added to FILE
   --dry-run           the lines are told as if it were done, and nothing is changed
   --changes           behind the lines of a dry run one for each path that would be changed
   --assume-failure PKG:SCRIPT:WORD
@@ -137,21 +149,29 @@ rounds, so that what a package needs before its unpack is configured before.
   --force-confold     an edited conffile stays, as without a flag
   --force-confnew     the package's takes the place of an edited conffile
   --force-confmiss    a deleted conffile is made again
+  --force-depends     Depends and Pre-Depends are ignored where they can't be kept
   --as-given          the trees are taken in the order given, all in one round
 
 Example: dpkg-deb -R hello.deb hello && coizkerra install --root /srv/root hello
 ";
 
-const LIST: &str = "Lists the packages: PKG VERSION STATE, a line each.
+const LIST: &str =
+    "Lists the packages: PKG VERSION STATE, a line each; those whose names match a PATTERN, where one
+is given. In it * stands for any letters and ? for one. Status 1 where one matches no package.
 
-  --root DIR  the root, an absolute directory; / if it isn't given
+  --root DIR       the root, an absolute directory; / if it isn't given
+  --json           each line is an object of JSON
+  --table          dpkg's table, as dpkg -l prints it
+  --format FORMAT  as dpkg-query --showformat: ${Field} and ${Field;WIDTH} stand for values, \\n for a
+                   newline, \\t for a tab
 
-Example: coizkerra list --root /srv/root
+Example: coizkerra list --root /srv/root 'libhello*'
 ";
 
 const LISTFILES: &str = "Lists the paths of a package.
 
   --root DIR  the root, an absolute directory; / if it isn't given
+  --json      each line is an object of JSON
 
 Example: coizkerra listfiles --root /srv/root hello
 ";
@@ -159,13 +179,17 @@ Example: coizkerra listfiles --root /srv/root hello
 const PURGE: &str = "Removes packages with their conffiles, in the order that relations ask for.
 
   --root DIR        the root, an absolute directory; / if it isn't given
+  --json            each line is an object of JSON
   --wait SECONDS    how long the lock of another program is waited for; 0 if it isn't given
+  --status-fd N     a program that reads descriptor N is told what is done; once or more
+  --log FILE        lines as in dpkg's log are added to FILE
   --dry-run         the lines are told as if it were done, and nothing is changed
   --changes         behind the lines of a dry run one for each path that would be changed
   --assume-failure PKG:SCRIPT:WORD
                     in a dry run this call fails, which WORD is the first argument of
   --scripts-stderr  what scripts write goes to standard error
   --no-triggers     triggers stay pending and aren't processed then
+  --force-depends   those go too on which others depend
 
 Example: coizkerra purge --root /srv/root hello
 ";
@@ -173,13 +197,17 @@ Example: coizkerra purge --root /srv/root hello
 const REMOVE: &str = "Removes packages but their conffiles, in the order that relations ask for.
 
   --root DIR        the root, an absolute directory; / if it isn't given
+  --json            each line is an object of JSON
   --wait SECONDS    how long the lock of another program is waited for; 0 if it isn't given
+  --status-fd N     a program that reads descriptor N is told what is done; once or more
+  --log FILE        lines as in dpkg's log are added to FILE
   --dry-run         the lines are told as if it were done, and nothing is changed
   --changes         behind the lines of a dry run one for each path that would be changed
   --assume-failure PKG:SCRIPT:WORD
                     in a dry run this call fails, which WORD is the first argument of
   --scripts-stderr  what scripts write goes to standard error
   --no-triggers     triggers stay pending and aren't processed then
+  --force-depends   those go too on which others depend
 
 Example: coizkerra remove --root /srv/root hello
 ";
@@ -189,23 +217,29 @@ const REMOVE_SELECTED: &str =
 the order that relations ask for.
 
   --root DIR        the root, an absolute directory; / if it isn't given
+  --json            each line is an object of JSON
   --wait SECONDS    how long the lock of another program is waited for; 0 if it isn't given
+  --status-fd N     a program that reads descriptor N is told what is done; once or more
+  --log FILE        lines as in dpkg's log are added to FILE
   --dry-run         the lines are told as if it were done, and nothing is changed
   --changes         behind the lines of a dry run one for each path that would be changed
   --assume-failure PKG:SCRIPT:WORD
                     in a dry run this call fails, which WORD is the first argument of
   --scripts-stderr  what scripts write goes to standard error
   --no-triggers     triggers stay pending and aren't processed then
+  --force-depends   those go too on which others depend
 
 Example: coizkerra remove-selected --root /srv/root
 ";
 
 const SEARCH: &str =
-    "Tells which packages have the file at PATH, a line each; status 1 where none has.
+    "Tells which packages have the file at PATH, a line each; or each listed path that matches a PATTERN,
+in which * stands for any signs and ? for one. Status 1 where there is none.
 
   --root DIR  the root, an absolute directory; / if it isn't given
+  --json      each line is an object of JSON
 
-Example: coizkerra search --root /srv/root /usr/bin/hello
+Example: coizkerra search --root /srv/root '*/bin/hello'
 ";
 
 const SELECT: &str =
@@ -213,7 +247,10 @@ const SELECT: &str =
 away goes by remove-selected.
 
   --root DIR      the root, an absolute directory; / if it isn't given
+  --json          each line is an object of JSON
   --wait SECONDS  how long the lock of another program is waited for; 0 if it isn't given
+  --status-fd N   a program that reads descriptor N is told what is done; once or more
+  --log FILE      lines as in dpkg's log are added to FILE
   --dry-run       the lines are told as if it were done, and nothing is changed
   --changes       behind the lines of a dry run one for each path that would be changed
   --assume-failure PKG:SCRIPT:WORD
@@ -222,16 +259,20 @@ away goes by remove-selected.
 Example: coizkerra select --root /srv/root hello=hold
 ";
 
-const SELECTIONS: &str = "Lists what is wanted of each package: PKG WANT, a line each.
+const SELECTIONS: &str =
+    "Lists what is wanted of each package: PKG WANT, a line each; of those whose names match a PATTERN,
+where one is given. In it * stands for any letters and ? for one. Status 1 where one matches none.
 
   --root DIR  the root, an absolute directory; / if it isn't given
+  --json      each line is an object of JSON
 
-Example: coizkerra selections --root /srv/root
+Example: coizkerra selections --root /srv/root 'libhello*'
 ";
 
 const STATUS: &str = "Prints the record of a package.
 
   --root DIR  the root, an absolute directory; / if it isn't given
+  --json      each line is an object of JSON
 
 Example: coizkerra status --root /srv/root hello
 ";
@@ -239,6 +280,7 @@ Example: coizkerra status --root /srv/root hello
 const TRUENAME: &str = "Tells where a file for PATH stands: at PATH, or where a diversion leads.
 
   --root DIR   the root, an absolute directory; / if it isn't given
+  --json       each line is an object of JSON
   --package P  for this package
 
 Example: coizkerra truename --root /srv/root /usr/bin/vi
@@ -247,7 +289,10 @@ Example: coizkerra truename --root /srv/root /usr/bin/vi
 const UNDIVERT: &str = "Takes the diversion of PATH away.
 
   --root DIR      the root, an absolute directory; / if it isn't given
+  --json          each line is an object of JSON
   --wait SECONDS  how long the lock of another program is waited for; 0 if it isn't given
+  --status-fd N   a program that reads descriptor N is told what is done; once or more
+  --log FILE      lines as in dpkg's log are added to FILE
   --dry-run       the lines are told as if it were done, and nothing is changed
   --changes       behind the lines of a dry run one for each path that would be changed
   --assume-failure PKG:SCRIPT:WORD
@@ -263,7 +308,10 @@ const UNPACK: &str =
     "Puts the files of trees, which dpkg-deb -R makes, in place; configure makes the packages ready.
 
   --root DIR          the root, an absolute directory; / if it isn't given
+  --json              each line is an object of JSON
   --wait SECONDS      how long the lock of another program is waited for; 0 if it isn't given
+  --status-fd N       a program that reads descriptor N is told what is done; once or more
+  --log FILE          lines as in dpkg's log are added to FILE
   --dry-run           the lines are told as if it were done, and nothing is changed
   --changes           behind the lines of a dry run one for each path that would be changed
   --assume-failure PKG:SCRIPT:WORD
@@ -272,6 +320,7 @@ const UNPACK: &str =
   --no-triggers       triggers stay pending and aren't processed then
   --owner-root        files get user and group 0, whoever made the tree
   --auto-deconfigure  installed packages may be deconfigured in their favour
+  --force-depends     Pre-Depends are ignored, and that others depend on what has to go
 
 The flags for conffiles are taken, and not needed.
 
@@ -284,6 +333,7 @@ work was cut off; of all packages where none is named. With --tree all that a pa
 is compared with what stands there, access and link targets too. Status 1 where something is told.
 
   --root DIR    the root, an absolute directory; / if it isn't given
+  --json        each line is an object of JSON
   --tree TREE   the package of this tree (or archive) is verified, against the tree
   --owner-root  files of the tree have user and group 0, whoever made it
 
@@ -326,35 +376,35 @@ impl Topic {
     {
         match self {
             Topic::Program => "COMMAND ..",
-            Topic::Audit => "audit [--root DIR]",
+            Topic::Audit => "audit [--root DIR] [--json]",
             Topic::CompareVersions => "compare-versions A OP B",
             Topic::Configure =>
-                "configure [--root DIR] [--wait SECONDS] [--dry-run [--changes] [--assume-failure PKG:SCRIPT:WORD]..] [--scripts-stderr] [--force-confold | --force-confnew] [--force-confmiss] ([--no-triggers] [PKG..] | --triggers-only)",
-            Topic::Diversions => "diversions [--root DIR]",
+                "configure [--root DIR] [--json] [--wait SECONDS] [--status-fd N].. [--log FILE] [--dry-run [--changes] [--assume-failure PKG:SCRIPT:WORD]..] [--scripts-stderr] [--force-confold | --force-confnew] [--force-confmiss] [--force-depends] ([--no-triggers] [PKG..] | --triggers-only)",
+            Topic::Diversions => "diversions [--root DIR] [--json]",
             Topic::Divert =>
-                "divert [--root DIR] [--wait SECONDS] [--dry-run [--changes] [--assume-failure PKG:SCRIPT:WORD]..] (--package P | --local) [--divert TARGET] [--rename] PATH",
+                "divert [--root DIR] [--json] [--wait SECONDS] [--status-fd N].. [--log FILE] [--dry-run [--changes] [--assume-failure PKG:SCRIPT:WORD]..] (--package P | --local) [--divert TARGET] [--rename] PATH",
             Topic::Help => "help [COMMAND]",
             Topic::Install =>
-                "install [--root DIR] [--wait SECONDS] [--dry-run [--changes] [--assume-failure PKG:SCRIPT:WORD]..] [--scripts-stderr] [--no-triggers] [--owner-root] [--auto-deconfigure] [--force-confold | --force-confnew] [--force-confmiss] [--as-given] TREE..",
-            Topic::List => "list [--root DIR]",
-            Topic::ListFiles => "listfiles [--root DIR] PKG",
+                "install [--root DIR] [--json] [--wait SECONDS] [--status-fd N].. [--log FILE] [--dry-run [--changes] [--assume-failure PKG:SCRIPT:WORD]..] [--scripts-stderr] [--no-triggers] [--owner-root] [--auto-deconfigure] [--force-confold | --force-confnew] [--force-confmiss] [--force-depends] [--as-given] TREE..",
+            Topic::List => "list [--root DIR] [--json | --table | --format FORMAT] [PATTERN..]",
+            Topic::ListFiles => "listfiles [--root DIR] [--json] PKG",
             Topic::Purge =>
-                "purge [--root DIR] [--wait SECONDS] [--dry-run [--changes] [--assume-failure PKG:SCRIPT:WORD]..] [--scripts-stderr] [--no-triggers] PKG..",
+                "purge [--root DIR] [--json] [--wait SECONDS] [--status-fd N].. [--log FILE] [--dry-run [--changes] [--assume-failure PKG:SCRIPT:WORD]..] [--scripts-stderr] [--no-triggers] [--force-depends] PKG..",
             Topic::Remove =>
-                "remove [--root DIR] [--wait SECONDS] [--dry-run [--changes] [--assume-failure PKG:SCRIPT:WORD]..] [--scripts-stderr] [--no-triggers] PKG..",
+                "remove [--root DIR] [--json] [--wait SECONDS] [--status-fd N].. [--log FILE] [--dry-run [--changes] [--assume-failure PKG:SCRIPT:WORD]..] [--scripts-stderr] [--no-triggers] [--force-depends] PKG..",
             Topic::RemoveSelected =>
-                "remove-selected [--root DIR] [--wait SECONDS] [--dry-run [--changes] [--assume-failure PKG:SCRIPT:WORD]..] [--scripts-stderr] [--no-triggers]",
-            Topic::Search => "search [--root DIR] PATH",
+                "remove-selected [--root DIR] [--json] [--wait SECONDS] [--status-fd N].. [--log FILE] [--dry-run [--changes] [--assume-failure PKG:SCRIPT:WORD]..] [--scripts-stderr] [--no-triggers] [--force-depends]",
+            Topic::Search => "search [--root DIR] [--json] PATH | PATTERN",
             Topic::Select =>
-                "select [--root DIR] [--wait SECONDS] [--dry-run [--changes] [--assume-failure PKG:SCRIPT:WORD]..] PKG=WANT..",
-            Topic::Selections => "selections [--root DIR]",
-            Topic::Status => "status [--root DIR] PKG",
-            Topic::Truename => "truename [--root DIR] [--package P] PATH",
+                "select [--root DIR] [--json] [--wait SECONDS] [--status-fd N].. [--log FILE] [--dry-run [--changes] [--assume-failure PKG:SCRIPT:WORD]..] PKG=WANT..",
+            Topic::Selections => "selections [--root DIR] [--json] [PATTERN..]",
+            Topic::Status => "status [--root DIR] [--json] PKG",
+            Topic::Truename => "truename [--root DIR] [--json] [--package P] PATH",
             Topic::Undivert =>
-                "undivert [--root DIR] [--wait SECONDS] [--dry-run [--changes] [--assume-failure PKG:SCRIPT:WORD]..] (--package P | --local) [--rename] PATH",
+                "undivert [--root DIR] [--json] [--wait SECONDS] [--status-fd N].. [--log FILE] [--dry-run [--changes] [--assume-failure PKG:SCRIPT:WORD]..] (--package P | --local) [--rename] PATH",
             Topic::Unpack =>
-                "unpack [--root DIR] [--wait SECONDS] [--dry-run [--changes] [--assume-failure PKG:SCRIPT:WORD]..] [--scripts-stderr] [--no-triggers] [--owner-root] [--auto-deconfigure] [--force-confold | --force-confnew] [--force-confmiss] TREE..",
-            Topic::Verify => "verify [--root DIR] [PKG.. | --tree TREE [--owner-root]]",
+                "unpack [--root DIR] [--json] [--wait SECONDS] [--status-fd N].. [--log FILE] [--dry-run [--changes] [--assume-failure PKG:SCRIPT:WORD]..] [--scripts-stderr] [--no-triggers] [--owner-root] [--auto-deconfigure] [--force-confold | --force-confnew] [--force-confmiss] [--force-depends] TREE..",
+            Topic::Verify => "verify [--root DIR] [--json] [PKG.. | --tree TREE [--owner-root]]",
         }
     }
 

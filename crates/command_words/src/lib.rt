@@ -8,7 +8,7 @@
 //! for help or the version asks for that, whatever else the words are (`flagged`); behind a usage
 //! fault stands the screen of the subcommand that the words name (`screen`); `rehearsal_of` tells
 //! whether the command is only rehearsed, which calls are assumed to fail then, and whether changed
-//! paths are told;
+//! paths are told; `wants_json` tells whether each line is to be an object;
 //! `Comparison::verdict` is that of the versions' order, with an empty text before or behind all versions as the operator
 //! has it (`order_of`), or the first text that is neither empty nor a version.
 #![tactic(auto)]
@@ -18,8 +18,10 @@ mod comparison;
 mod diverting;
 mod forced;
 mod found;
+mod frontends;
 mod help;
 mod mistakes;
+mod objects;
 mod owners;
 mod packages;
 mod query;
@@ -37,7 +39,9 @@ pub use command::subcommand_names;
 pub use comparison::{Comparison, Operator, Verdict, bad_version_line};
 pub use diverting::{Diverting, Undiverting};
 pub use forced::Forced;
+pub use frontends::{logs_of, status_fds_of};
 pub use help::{Topic, help_text, version_text};
+pub use objects::wants_json;
 pub use owners::TreeOwners;
 pub use packages::{Configuring, Removing};
 pub use query::{Query, Question};

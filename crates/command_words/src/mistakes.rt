@@ -1,14 +1,24 @@
 // What is wrong with the words of a subcommand in which clap finds no fault: one thing, with its word.
 use crate::found::{all_texts_of, flag_of, is_absolute, is_package, text_of};
+use crate::frontends::is_descriptor;
 use crate::rehearsal::is_failure;
 use crate::selecting::is_selection;
 use crate::triggers::{is_of_triggers_only, processes_triggers};
 use crate::waits::wait_of;
 use clap::ArgMatches;
+use name_patterns::is_readable;
+use record_formats::read_format;
 use shown_lines::shown;
 use std::alloc::{AllocError, Global};
 
 const NO_WANT: &str = "has none of install hold deinstall purge behind its last =";
+
+const NO_PATTERN: &str = "has a [ without a backslash before it, or a backslash at its end";
+
+const NO_FORMAT: &str =
+    "is empty, or has a field without } or with a WIDTH that isn't [-]N of one to five digits";
+
+const TWO_LAYOUTS: &str = "error: --format, --table and --json exclude each other";
 
 const BOTH_CONFFILES: &str = "error: --force-confold and --force-confnew exclude each other";
 
@@ -47,6 +57,16 @@ fn of_wait(alloc: Global, found: &ArgMatches<'_>) -> Result<Option<String>, Allo
     }
     let why = "is no number of seconds below 4294967296";
     Ok(Some(wrong_word(alloc, "--wait", text_of(found, "wait"), why)?))
+}
+
+fn of_frontends(alloc: Global, found: &ArgMatches<'_>) -> Result<Option<String>, AllocError> {
+    for text in all_texts_of(found, "status-fd").unwrap_or(&[]) {
+        if !is_descriptor(text) {
+            let why = "isn't the number of a descriptor";
+            return Ok(Some(wrong_word(alloc, "--status-fd", Some(text), why)?));
+        }
+    }
+    Ok(None)
 }
 
 fn of_failures(alloc: Global, texts: &[&str]) -> Result<Option<String>, AllocError> {
@@ -94,6 +114,30 @@ fn of_selections(alloc: Global, texts: &[&str]) -> Result<String, AllocError> {
     wrong_word(alloc, "PKG=WANT", None, "")
 }
 
+fn of_patterns(alloc: Global, found: &ArgMatches<'_>) -> Result<String, AllocError> {
+    for pattern in all_texts_of(found, "PATTERN").unwrap_or(&[]) {
+        if !is_readable(pattern.as_bytes()) {
+            return wrong_word(alloc, "PATTERN", Some(pattern), NO_PATTERN);
+        }
+    }
+    wrong_word(alloc, "PATTERN", None, "")
+}
+
+// One layout alone; a format that can't be read is what is left.
+fn of_list(alloc: Global, found: &ArgMatches<'_>) -> Result<String, AllocError> {
+    let format = text_of(found, "format");
+    let (table, json) = (flag_of(found, "table"), flag_of(found, "json"));
+    if (format.is_some() && (table || json)) || (table && json) {
+        return String::from_str(alloc, TWO_LAYOUTS);
+    }
+    match format {
+        Some(word) if read_format(alloc, word.as_bytes())?.is_none() => {
+            wrong_word(alloc, "--format", format, NO_FORMAT)
+        }
+        _ => of_patterns(alloc, found),
+    }
+}
+
 fn of_configure(alloc: Global, found: &ArgMatches<'_>) -> Result<String, AllocError> {
     if !is_of_triggers_only(found) {
         return String::from_str(alloc, BOTH_CONFFILES);
@@ -108,7 +152,7 @@ fn of_configure(alloc: Global, found: &ArgMatches<'_>) -> Result<String, AllocEr
     String::from_str(alloc, BOTH_CONFFILES)
 }
 
-/// What is wrong: first with the root, then with the wait, then with a rehearsal, then with what else the subcommand takes.
+/// What is wrong: first with the root, then with the wait, then with a descriptor, then with a rehearsal, then with what else the subcommand takes.
 pub(crate) fn mistake_text(
     alloc: Global,
     name: &str,
@@ -118,6 +162,9 @@ pub(crate) fn mistake_text(
         return Ok(text);
     }
     if let Some(text) = of_wait(alloc, found)? {
+        return Ok(text);
+    }
+    if let Some(text) = of_frontends(alloc, found)? {
         return Ok(text);
     }
     if let Some(text) = of_rehearsal(alloc, found)? {
@@ -138,6 +185,9 @@ pub(crate) fn mistake_text(
             let texts = all_texts_of(found, "PKG=WANT");
             of_selections(alloc, texts.unwrap_or(&[]))
         }
+        "list" => of_list(alloc, found),
+        "selections" => of_patterns(alloc, found),
+        "search" => wrong_word(alloc, "PATH", text_of(found, "PATH"), NO_PATTERN),
         "truename" => of_package(alloc, found),
         _ => String::from_str(alloc, BOTH_CONFFILES),
     }

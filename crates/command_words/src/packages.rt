@@ -3,7 +3,7 @@ ghost use Rattle.std.specs.Prelude.{◌≡◌, IfOk, option_map};
 ghost use Rattle.clap.specs.Words.{found_of, rows_of};
 ghost use Rattle.command_words.specs.Packages.{configuring_from, configuring_of, names_of, removing_from, removing_of};
 
-use crate::forced::{Forced, forced_of};
+use crate::forced::{Forced, depends_forced, forced_of};
 use crate::found::{all_texts_of, copies, is_absolute, text_of};
 use crate::streams::{ScriptStreams, streams_of};
 use crate::triggers::processes_triggers;
@@ -34,6 +34,8 @@ pub struct Removing {
     pub streams: ScriptStreams,
     /// As above.
     pub triggers: bool,
+    /// They go too where others depend on them.
+    pub ignore_depends: bool,
     /// As above.
     pub wait: u32,
 }
@@ -101,10 +103,11 @@ fn removing_from(
     names: Option<Texts>,
     streams: ScriptStreams,
     triggers: bool,
+    ignore_depends: bool,
     wait: Option<u32>,
 ) -> Result<Option<Removing>, AllocError>
     ensures { IfOk result (λ asked. asked ≡ removing_from (option_map (λ s. s.now) root.entry) names
-        streams triggers wait) }
+        streams triggers ignore_depends wait) }
 {
     let (Some(root), Some(names), Some(wait)) = (root, names, wait) else {
         return Ok(None);
@@ -118,6 +121,7 @@ fn removing_from(
         names,
         streams,
         triggers,
+        ignore_depends,
         wait,
     }))
 }
@@ -132,5 +136,6 @@ pub(crate) fn removing_of(
     let names = names_of(alloc, found)?;
     let (root, wait) = (text_of(found, "root"), wait_of(found));
     let (streams, triggers) = (streams_of(found), processes_triggers(found));
-    removing_from(alloc, root, names, streams, triggers, wait)
+    let ignored = depends_forced(found);
+    removing_from(alloc, root, names, streams, triggers, ignored, wait)
 }

@@ -3,6 +3,7 @@ ghost use Rattle.std.specs.Prelude.{◌≡◌, IfOk, is_some, map, option_map};
 ghost use Rattle.clap.specs.Words.{found_of, rows_of};
 ghost use Rattle.command_words.specs.Selecting.{are_selections, cut_at_last_equals, removing_selected_from, removing_selected_of, selected_from, selected_in, selecting_from, selecting_of, selections_in, told_of, want_of};
 
+use crate::forced::depends_forced;
 use crate::found::{all_texts_of, is_absolute, text_of};
 use crate::selections::{Selected, Selections, Wanted};
 use crate::streams::{ScriptStreams, streams_of};
@@ -28,6 +29,8 @@ pub struct RemovingSelected {
     pub streams: ScriptStreams,
     /// The triggers that are pending then are processed.
     pub triggers: bool,
+    /// They go too where others depend on them.
+    pub ignore_depends: bool,
     /// As above.
     pub wait: u32,
 }
@@ -159,10 +162,11 @@ fn removing_selected_from(
     root: Option<&str>,
     streams: ScriptStreams,
     triggers: bool,
+    ignore_depends: bool,
     wait: Option<u32>,
 ) -> Result<Option<RemovingSelected>, AllocError>
     ensures { IfOk result (λ asked. asked
-        ≡ removing_selected_from (option_map (λ s. s.now) root.entry) streams triggers wait) }
+        ≡ removing_selected_from (option_map (λ s. s.now) root.entry) streams triggers ignore_depends wait) }
 {
     let (Some(root), Some(wait)) = (root, wait) else {
         return Ok(None);
@@ -175,6 +179,7 @@ fn removing_selected_from(
         root,
         streams,
         triggers,
+        ignore_depends,
         wait,
     }))
 }
@@ -188,5 +193,6 @@ pub(crate) fn removing_selected_of(
 {
     let (root, wait) = (text_of(found, "root"), wait_of(found));
     let (streams, triggers) = (streams_of(found), processes_triggers(found));
-    removing_selected_from(alloc, root, streams, triggers, wait)
+    let ignored = depends_forced(found);
+    removing_selected_from(alloc, root, streams, triggers, ignored, wait)
 }

@@ -1,9 +1,9 @@
 // What is asked of packages that are verified.
-ghost use Rattle.std.specs.Prelude.{◌≡◌, IfOk, map, option_map};
-ghost use Rattle.clap.specs.Words.{all_of, found_of, rows_of};
-ghost use Rattle.command_words.specs.Verifications.{all_given, is_fitting, verifying_from, verifying_of};
+ghost use Rattle.std.specs.Prelude.{◌≡◌, IfOk, option_map};
+ghost use Rattle.clap.specs.Words.{found_of, rows_of};
+ghost use Rattle.command_words.specs.Verifications.{is_fitting, verifying_from, verifying_of};
 
-use crate::found::{all_texts_of, copies, given, is_absolute, text_of};
+use crate::found::{all_given, given, is_absolute, text_of};
 use crate::owners::{TreeOwners, owners_of};
 use clap::ArgMatches;
 use std::alloc::{AllocError, Global};
@@ -18,16 +18,6 @@ pub struct Verifying {
     pub tree: Option<Text>,
     /// To whom its paths are given.
     pub owners: TreeOwners,
-}
-
-fn all_given(alloc: Global, names: Option<&[&str]>) -> Result<Texts, AllocError>
-    ensures { IfOk result (λ given. given
-        ≡ all_given (option_map (λ s. map (λ t. t.now) s.now) names.entry)) }
-{
-    match names {
-        Some(names) => copies(alloc, names),
-        None => Ok(Texts::new(alloc)),
-    }
 }
 
 // Whether this goes together.
@@ -73,7 +63,7 @@ pub(crate) fn verifying_of(
 ) -> Result<Option<Verifying>, AllocError>
     ensures { IfOk result (λ asked. asked ≡ verifying_of (rows_of (found_of found.now))) }
 {
-    let names = all_given(alloc, all_texts_of(found, "PKG"))?;
+    let names = all_given(alloc, found, "PKG")?;
     let tree = given(alloc, found, "tree")?;
     verifying_from(alloc, text_of(found, "root"), names, tree, owners_of(found))
 }

@@ -4,7 +4,7 @@ use Rattle.std.specs.List.{Contains}
 use Rattle.std.specs.Prelude.{IsTrue}
 use Rattle.std.proofs.lemmas.Map.Views.{Contains-from_any}
 use Rattle.std.proofs.lemmas.Slice.Eq.{bytes_eq-Decides}
-use Rattle.conffiles.specs.declared.decisions.ConfPolicy.{ConfPolicy}
+use Rattle.configure_run.specs.declared.options.ConfigureOptions.{ConfigureOptions}
 use Rattle.dependency_check.specs.Waiting.{Waiting}
 use Rattle.dependency_sets.specs.Sets.{has}
 use Rattle.host_core.specs.Host.{State}
@@ -17,7 +17,7 @@ use Rattle.unit_runs.specs.Turns.{TurnsTo}
 use Rattle.configure_run.specs.Asked.{can_wait}
 use Rattle.configure_run.specs.Starting.{AreSameButWaiting, IsBegun, NamesOneWaiting, is_named, name_at}
 use Rattle.configure_run.specs.Turns.{ConfiguresTo, IsTurn, after_turn, is_done}
-use Rattle.configure_run.proofs.Members.{member_waits}
+use Rattle.configure_run.proofs.Members.{turn_waits}
 use Rattle.configure_run.proofs.Numbers.{at_number, both_hold, number_named, number_waits, number_within}
 use Rattle.configure_run.proofs.Progress.{packages_after, still_waits}
 use Rattle.configure_run.proofs.Units.{numbered_name, others}
@@ -51,19 +51,19 @@ leave_more start q x done before mid after so_far same = record {
 }
 
 -- a turn changes the record of its own package alone
-turn_leaves : (policy : ConfPolicy) (silent : ℕ → Bool) (q later : Waiting) (before after : Held) (u : AUnit) (s t : State) → IsTurn policy silent q before u later after s t → AreSameButWaiting q before.records.records after.records.records
-turn_leaves policy silent q later before after u s t turn name none =
-    others policy q.packages turn.p before after u s t turn.is name
-    (λ same. none (record { x = turn.x; waiting = member_waits q turn.x turn.can; named = numbered_name q.packages turn.x turn.p turn.next.numbered ∙ sym same }))
+turn_leaves : (options : ConfigureOptions) (silent : ℕ → Bool) (q later : Waiting) (before after : Held) (u : AUnit) (s t : State) → IsTurn options silent q before u later after s t → AreSameButWaiting q before.records.records after.records.records
+turn_leaves options silent q later before after u s t turn name none =
+    others options.policy q.packages turn.p before after u s t turn.is name
+    (λ same. none (record { x = turn.x; waiting = turn_waits options.ignore_depends silent q turn.x turn.next.next; named = numbered_name q.packages turn.x turn.p turn.next.numbered ∙ sym same }))
 
 -- turns change the records of those that waited alone
-pub turns_leave : (policy : ConfPolicy) (silent : ℕ → Bool) (start : Waiting) (before : Held) (s : State) (us : List AUnit) (q : Waiting) (after : Held) (t : State) → ConfiguresTo policy silent start before s us q after t
+pub turns_leave : (options : ConfigureOptions) (silent : ℕ → Bool) (start : Waiting) (before : Held) (s : State) (us : List AUnit) (q : Waiting) (after : Held) (t : State) → ConfiguresTo options silent start before s us q after t
     → Leave start q before.records.records after.records.records
-turns_leave policy silent start before s us q after t TurnsTo.begun = none_left_out start before.records.records
-turns_leave policy silent start before s us q after t (TurnsTo.turned first u mid_q later mid end m last come turn) =
+turns_leave options silent start before s us q after t TurnsTo.begun = none_left_out start before.records.records
+turns_leave options silent start before s us q after t (TurnsTo.turned first u mid_q later mid end m last come turn) =
     subst (λ (w : Waiting). Leave start w before.records.records after.records.records) (sym turn.later_is)
-    (leave_more start mid_q turn.x (is_done u.reply) before.records.records mid.records.records after.records.records (turns_leave policy silent start before s first mid_q mid m come)
-    (turn_leaves policy silent mid_q q mid after u m t turn))
+    (leave_more start mid_q turn.x (is_done u.reply) before.records.records mid.records.records after.records.records (turns_leave options silent start before s first mid_q mid m come)
+    (turn_leaves options silent mid_q q mid after u m t turn))
 
 -- those that wait are named
 

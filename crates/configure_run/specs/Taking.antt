@@ -1,9 +1,9 @@
 -- The turns of a configure, while they are taken.
-use Rattle.std.specs.Prelude.{◌≡◌, ◌⊎◌, ◌+◌, ℕ, Bool, true, false, List, [], ◌∷◌, Option, Some, None, IfSome}
+use Rattle.std.specs.Prelude.{◌≡◌, ◌⊎◌, ◌+◌, ℕ, Bool, true, false, IsTrue, List, [], ◌∷◌, Option, Some, None, IfSome}
 use Rattle.std.specs.List.{sum_by}
 use Rattle.conffiles.specs.declared.decisions.ConfPolicy.{ConfPolicy}
 use Rattle.diversions.specs.Diverted.{Diverted}
-use Rattle.dependency_check.specs.Waiting.{Waiting, IsConfigurableNow, IsNextOfConfigurable}
+use Rattle.dependency_check.specs.Waiting.{Waiting, IsConfigurableNow}
 use Rattle.dependency_sets.specs.Sets.{has}
 use Rattle.held_administration.specs.declared.held.Administration.{Administration}
 use Rattle.host_core.specs.Events.{Event}
@@ -18,6 +18,8 @@ use Rattle.unit_runs.specs.Turns.{IsStill}
 use Rattle.configure_run.specs.LeftOver.{IsNumbered}
 use Rattle.configure_run.specs.Starting.{AreWaiting}
 use Rattle.configure_run.specs.Turns.{HasCalledFor, IsAmidUnit, IsUnit, after_turn}
+use Rattle.configure_run.specs.Whose.{IsNobodysTurn}
+use Rattle.configure_run.specs.declared.options.ConfigureOptions.{ConfigureOptions}
 use Rattle.configure_run.specs.declared.turn.Configuring.{Configuring}
 
 -- the unit of the package of this number
@@ -39,19 +41,19 @@ abbrev pub IsAmidTurnOf : ConfPolicy → Waiting → ℕ → Held → World → 
 IsAmidTurnOf policy q x before old so_far now = IsStill old so_far now ⊎ ((p : Package) × IsNumbered q.packages x p × IsAmidUnit policy p.name before old so_far now)
 
 -- no turn is left, and none was taken
-pub record IsNoneLeft (silent : List Bool) (taken : Option (ℕ × Bool)) (q : Waiting) : Type 0 where
+pub record IsNoneLeft (options : ConfigureOptions) (silent : List Bool) (taken : Option (ℕ × Bool)) (q : Waiting) : Type 0 where
   pub untaken : taken ≡ None
-  pub next : IsNextOfConfigurable q (has silent) None
+  pub next : IsNobodysTurn options.ignore_depends (has silent) q
   pub none_left : (x : ℕ) → IsConfigurableNow q x → ⊥
 
 -- what stays the same over the turns
 pub record Task : Type 0 where
-  pub policy : ConfPolicy
+  pub options : ConfigureOptions
   pub silent : List Bool
   pub diverted : Diverted
 
 abbrev pub task_of : Configuring → Task
-task_of c = record { policy = c.policy; silent = c.silent.items; diverted = c.diversions.now }
+task_of c = record { options = c.options; silent = c.silent.items; diverted = c.diversions.now }
 
 -- what waits behind the turn that was taken last
 abbrev pub left_behind : Waiting → Option (ℕ × Bool) → Waiting
@@ -78,10 +80,10 @@ count q = sum_by weight q.waiting
 pub record IsBetween (c : Configuring) (a : Administration) : Type 0 where
   pub queue : Waiting
   pub here : c.queue ≡ Some queue
-  pub member : IfSome c.taken (λ n. IsConfigurableNow queue n.0)
+  pub waits : IfSome c.taken (λ n. IsTrue (has queue.waiting n.0))
   pub wait : AreWaiting (left_behind queue c.taken) a.database.records
 
 -- this is the queue, of which no turn is left
 pub record IsOver (c : Configuring) (q : Waiting) : Type 0 where
   pub here : c.queue ≡ Some q
-  pub none : IsNoneLeft c.silent.items c.taken q
+  pub none : IsNoneLeft c.options c.silent.items c.taken q

@@ -2,7 +2,7 @@
 use Rattle.std.specs.Prelude.{◌≡◌, ◌⊎◌, ℕ, Bool, true, false, IsTrue, List, [], ◌∷◌, ◌++◌, Option, Some, None, IfSome}
 use Rattle.conffiles.specs.declared.decisions.ConfPolicy.{ConfPolicy}
 use Rattle.dependency_check.specs.Deconfigured.{of_role}
-use Rattle.dependency_check.specs.Waiting.{Waiting, IsConfigurableNow, IsNextOfConfigurable, with_configured, without_failed}
+use Rattle.dependency_check.specs.Waiting.{Waiting, with_configured, without_failed}
 use Rattle.dependency_check.specs.declared.roles.Role.TheVariants.{Breaking}
 use Rattle.dependency_sets.specs.Choices.{IsFirst}
 use Rattle.diversions.specs.Ways.{Ways}
@@ -21,7 +21,7 @@ use Rattle.unit_reports.specs.Held.{Held}
 use Rattle.unit_reports.specs.Units.{HasNoCalls, IsBroken, IsRefused, TellsNoPackage, touched_at}
 use Rattle.unit_reports.specs.declared.refusal.Rule.TheVariants.{BrokenBy, ConffileKind}
 use Rattle.unit_reports.specs.declared.report.Reply.{Reply}
-use Rattle.unit_reports.specs.declared.report.Reply.TheVariants.{Done, Refused, Failed, Broken}
+use Rattle.unit_reports.specs.declared.report.Reply.TheVariants.{Done, Refused, Failed, Looped, Broken}
 use Rattle.unit_reports.specs.declared.report.Unit.{Unit as AUnit}
 use Rattle.undo_rows.specs.declared.rows.Called.{Called}
 use Rattle.configure_engine.specs.Obstacles.{IsObstacle, names_of_all}
@@ -32,6 +32,8 @@ use Rattle.unit_runs.specs.Turns as runs
 use Rattle.unit_runs.specs.Turns.{IsBrokenNext, IsStill, TurnsTo}
 use Rattle.configure_run.specs.LeftOver.{HaveRefusedLeft, HaveRefusedSomeLeft, IsNumbered}
 use Rattle.configure_run.specs.Starting.{name_at}
+use Rattle.configure_run.specs.Whose.{IsNobodysTurn, IsWhoseTurn}
+use Rattle.configure_run.specs.declared.options.ConfigureOptions.{ConfigureOptions}
 
 -- another package that is at least half-installed admits this one in Breaks (Policy 7.3)
 abbrev pub IsBreaking : List Package → Package → ℕ → Type 0
@@ -117,22 +119,23 @@ pub record HasCalledFor (policy : ConfPolicy) (name : List ℕ) (before : Held) 
   pub called : HasCalledToDisk (given_by policy name before) looked t [] u.calls.items
 
 -- whose turn it is
-pub record IsNext (silent : ℕ → Bool) (q : Waiting) (x : ℕ) (p : Package) : Type 0 where
-  pub next : IsNextOfConfigurable q silent (Some x)
+pub record IsNext (options : ConfigureOptions) (silent : ℕ → Bool) (q : Waiting) (x : ℕ) (p : Package) : Type 0 where
+  pub next : IsWhoseTurn options.ignore_depends silent q x
   pub numbered : IsNumbered q.packages x p
 
 -- the next unit is under way
-abbrev pub IsAmidTurn : ConfPolicy → (ℕ → Bool) → Waiting → Held → World → List Event → World → Type 0
-IsAmidTurn policy silent q before old so_far now = (x : ℕ) × (p : Package) × IsNext silent q x p × IsAmidUnit policy p.name before old so_far now
+abbrev pub IsAmidTurn : ConfigureOptions → (ℕ → Bool) → Waiting → Held → World → List Event → World → Type 0
+IsAmidTurn options silent q before old so_far now = (x : ℕ) × (p : Package) × IsNext options silent q x p × IsAmidUnit options.policy p.name before old so_far now
 
 -- at each moment behind some turns: nothing has changed yet, or the next unit is under way
-abbrev pub IsAmidNext : ConfPolicy → (ℕ → Bool) → Waiting → Held → World → List Event → World → Type 0
-IsAmidNext policy silent q before old so_far now = runs.IsAmidNext (λ left later. IsAmidTurn policy silent left) q q before old so_far now
+abbrev pub IsAmidNext : ConfigureOptions → (ℕ → Bool) → Waiting → Held → World → List Event → World → Type 0
+IsAmidNext options silent q before old so_far now = runs.IsAmidNext (λ left later. IsAmidTurn options silent left) q q before old so_far now
 
 abbrev pub is_done : Reply → Bool
 is_done Done = true
 is_done (Refused refusal) = false
 is_done (Failed failure) = false
+is_done (Looped cycle) = false
 is_done (Broken breakage) = false
 
 -- A package that was configured is installed; whatever was answered, it waits no longer.
@@ -141,39 +144,38 @@ after_turn true x q = with_configured x q
 after_turn false x q = without_failed x q
 
 -- One turn: that of the next package. At each moment its unit is under way, and in the end all of it is on the disk.
-pub record IsTurn (policy : ConfPolicy) (silent : ℕ → Bool) (q : Waiting) (before : Held) (u : AUnit) (later : Waiting) (after : Held) (s t : State) : Type 0 where
+pub record IsTurn (options : ConfigureOptions) (silent : ℕ → Bool) (q : Waiting) (before : Held) (u : AUnit) (later : Waiting) (after : Held) (s t : State) : Type 0 where
   pub x : ℕ
   pub p : Package
-  pub next : IsNext silent q x p
-  pub can : IsConfigurableNow q x
-  pub is : IsUnit policy q.packages p before after u s t
+  pub next : IsNext options silent q x p
+  pub is : IsUnit options.policy q.packages p before after u s t
   pub later_is : later ≡ after_turn (is_done u.reply) x q
-  pub moments : AtEachMomentOf (IsAmidUnit policy p.name before) s t
+  pub moments : AtEachMomentOf (IsAmidUnit options.policy p.name before) s t
   pub answered : IsAnswered s t
 
 -- one turn after another
-abbrev pub ConfiguresTo : ConfPolicy → (ℕ → Bool) → Waiting → Held → State → List AUnit → Waiting → Held → State → Type 0
-ConfiguresTo policy silent start before s us q after t = TurnsTo (IsTurn policy silent) start before s us q after t
+abbrev pub ConfiguresTo : ConfigureOptions → (ℕ → Bool) → Waiting → Held → State → List AUnit → Waiting → Held → State → Type 0
+ConfiguresTo options silent start before s us q after t = TurnsTo (IsTurn options silent) start before s us q after t
 
 -- the units of some turns behind others
-abbrev pub HaveTurned : ConfPolicy → (ℕ → Bool) → Waiting → Held → State → List AUnit → List AUnit → Waiting → Held → State → Type 0
-HaveTurned policy silent start before s first now q after t = runs.HaveTurned (IsTurn policy silent) start before s first now q after t
+abbrev pub HaveTurned : ConfigureOptions → (ℕ → Bool) → Waiting → Held → State → List AUnit → List AUnit → Waiting → Held → State → Type 0
+HaveTurned options silent start before s first now q after t = runs.HaveTurned (IsTurn options silent) start before s first now q after t
 
 -- all turns were taken, and those left over are refused
-pub record EndTurns (policy : ConfPolicy) (silent : ℕ → Bool) (start : Waiting) (before : Held) (s : State) (first now : List AUnit) (after : Held) (t : State) : Type 0 where
+pub record EndTurns (options : ConfigureOptions) (silent : ℕ → Bool) (start : Waiting) (before : Held) (s : State) (first now : List AUnit) (after : Held) (t : State) : Type 0 where
   pub q : Waiting
   pub front : List AUnit
-  pub turned : HaveTurned policy silent start before s first front q after t
-  pub ended : IsNextOfConfigurable q silent None
+  pub turned : HaveTurned options silent start before s first front q after t
+  pub ended : IsNobodysTurn options.ignore_depends silent q
   pub left_over : HaveRefusedLeft q front now
 
 -- the calls of the unit that was broken off: none, or the first of those of the package whose turn it was
-abbrev pub HasCalledNext : ConfPolicy → (ℕ → Bool) → Waiting → Held → State → State → AUnit → Type 0
-HasCalledNext policy silent q before s t u = HasNoCalls u s t ⊎ ((x : ℕ) × (p : Package) × IsNext silent q x p × HasCalledFor policy p.name before u s t)
+abbrev pub HasCalledNext : ConfigureOptions → (ℕ → Bool) → Waiting → Held → State → State → AUnit → Type 0
+HasCalledNext options silent q before s t u = HasNoCalls u s t ⊎ ((x : ℕ) × (p : Package) × IsNext options silent q x p × HasCalledFor options.policy p.name before u s t)
 
 -- The unit that was broken off: it tells no package. It made no call, or the first of those of the package whose turn it was.
-abbrev pub IsBrokenOff : ConfPolicy → (ℕ → Bool) → Waiting → Held → State → State → AUnit → Type 0
-IsBrokenOff policy silent q before s t u = IsBrokenNext (λ left later. HasCalledNext policy silent left) q q before s t u
+abbrev pub IsBrokenOff : ConfigureOptions → (ℕ → Bool) → Waiting → Held → State → State → AUnit → Type 0
+IsBrokenOff options silent q before s t u = IsBrokenNext (λ left later. HasCalledNext options silent left) q q before s t u
 
 -- the same of one that was broken off before it began
 pub record IsBrokenStill (s t : State) (u : AUnit) : Type 0 where
@@ -182,13 +184,13 @@ pub record IsBrokenStill (s t : State) (u : AUnit) : Type 0 where
   pub none : HasNoCalls u s t
 
 -- How far turns came that may have been broken off: in a turn, behind others; or when those left over were being refused.
-pub data StopTurns (policy : ConfPolicy) (silent : ℕ → Bool) (start : Waiting) (before : Held) (s : State) (first now : List AUnit) (last : Option AUnit) (t : State) : Type 0 where
-  turning : (q : Waiting) (after : Held) (m : State) → HaveTurned policy silent start before s first now q after m → AtEachMomentOf (IsAmidNext policy silent q after) m t
-      → IfSome last (IsBrokenOff policy silent q after m t) → StopTurns policy silent start before s first now last t
-  leaving : (q : Waiting) (after : Held) (front : List AUnit) → HaveTurned policy silent start before s first front q after t → IsNextOfConfigurable q silent None
-      → HaveRefusedSomeLeft q front now → IfSome last (IsBrokenStill t t) → StopTurns policy silent start before s first now last t
+pub data StopTurns (options : ConfigureOptions) (silent : ℕ → Bool) (start : Waiting) (before : Held) (s : State) (first now : List AUnit) (last : Option AUnit) (t : State) : Type 0 where
+  turning : (q : Waiting) (after : Held) (m : State) → HaveTurned options silent start before s first now q after m → AtEachMomentOf (IsAmidNext options silent q after) m t
+      → IfSome last (IsBrokenOff options silent q after m t) → StopTurns options silent start before s first now last t
+  leaving : (q : Waiting) (after : Held) (front : List AUnit) → HaveTurned options silent start before s first front q after t → IsNobodysTurn options.ignore_depends silent q
+      → HaveRefusedSomeLeft q front now → IfSome last (IsBrokenStill t t) → StopTurns options silent start before s first now last t
 
 -- at each moment of turns: some were taken on a host that was honest so far, and the next is under way
-abbrev pub IsAmidTurns : ConfPolicy → (ℕ → Bool) → Waiting → Held → State → List Event → World → Type 0
-IsAmidTurns policy silent start before s so_far now =
-    runs.IsAmidTurns (IsTurn policy silent) (λ left later. IsAmidTurn policy silent left) (λ later. Unit {0}) start before s so_far now
+abbrev pub IsAmidTurns : ConfigureOptions → (ℕ → Bool) → Waiting → Held → State → List Event → World → Type 0
+IsAmidTurns options silent start before s so_far now =
+    runs.IsAmidTurns (IsTurn options silent) (λ left later. IsAmidTurn options silent left) (λ later. Unit {0}) start before s so_far now

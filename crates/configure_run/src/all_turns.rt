@@ -1,6 +1,6 @@
 // All turns, and the refusals of those that are left over behind them.
 ghost use Rattle.std.specs.Prelude.{◌≡◌, ◌++◌, ℕ, None, Some, IfErr, IfOk, OnOk};
-ghost use Rattle.dependency_check.specs.Waiting.{IsConfigurableNow, IsNextOfConfigurable};
+ghost use Rattle.dependency_check.specs.Waiting.{IsConfigurableNow};
 ghost use Rattle.dependency_sets.specs.Sets.{has};
 ghost use Rattle.held_administration.specs.Open.{IsOpen};
 ghost use Rattle.host_core.specs.Host.{Needs, Since, NoFault};
@@ -13,12 +13,13 @@ ghost use Rattle.unit_reports.specs.Watching.{AddsTold};
 ghost use Rattle.undo_rows.specs.Transcript.{TellsAll};
 ghost use Rattle.configure_run.specs.Starting.{AreSameButWaiting, AreWaiting};
 ghost use Rattle.configure_run.specs.Turns.{EndTurns, HaveTurned, IsAmidTurns, StopTurns};
+ghost use Rattle.configure_run.specs.Whose.{IsNobodysTurn};
 
 use crate::left_over::refuse_left;
+use crate::options::ConfigureOptions;
 use crate::queue::Queue;
 use crate::turn::Configuring;
 use crate::unit::no_memory;
-use conffiles::ConfPolicy;
 use diversions::Diversions;
 use held_administration::Administration;
 use host_core::Host;
@@ -31,7 +32,7 @@ fn take_turns<H: Host, W: Watcher>(
     host: &mut H,
     administration: &mut Administration,
     diversions: &Diversions,
-    policy: ConfPolicy,
+    options: ConfigureOptions,
     queue: Queue,
     silent: Vec<bool>,
     units: &mut Vec<Unit>,
@@ -41,10 +42,11 @@ fn take_turns<H: Host, W: Watcher>(
     requires wait { AreWaiting queue administration.old.database.records }
     requires order { Needs (H.state host.old)
         (IsInOrder administration.old.database administration.old.lists.lists) }
-    ensures ok { IfOk result (λ left. HaveTurned policy (has silent.items) queue
+    ensures ok { IfOk result (λ left. HaveTurned options (has silent.items) queue
         (held_by administration.old diversions.now) (H.state host.old) units.old.items
         units.new.items left (held_by administration.new diversions.now) (H.state host.new)) }
-    ensures ended { IfOk result (λ left. IsNextOfConfigurable left (has silent.items) None) }
+    ensures ended { IfOk result (λ left. IsNobodysTurn options.ignore_depends
+        (has silent.items) left) }
     ensures none_left { IfOk result (λ left. (x : ℕ) → IsConfigurableNow left x → ⊥) }
     ensures packages { IfOk result (λ left. left.packages ≡ queue.packages) }
     ensures others { OnOk result (AreSameButWaiting queue administration.old.database.records
@@ -53,14 +55,14 @@ fn take_turns<H: Host, W: Watcher>(
     ensures order { OnOk result (Needs (H.state host.new)
         (IsInOrder administration.new.database administration.new.lists.lists)) }
     ensures open { OnOk result (IsOpen diversions.now.ways administration.new) }
-    ensures err { IfErr result (λ unit. StopTurns policy (has silent.items) queue
+    ensures err { IfErr result (λ unit. StopTurns options (has silent.items) queue
         (held_by administration.old diversions.now) (H.state host.old) units.old.items
         units.new.items (Some unit) (H.state host.new)) }
     ensures told { OnOk result (TellsAll (H.state host.old) (H.state host.new)
         (calls_of units.old.items) (calls_of units.new.items)) }
     ensures told_broken { IfErr result (λ unit. TellsAll (H.state host.old) (H.state host.new)
         (calls_of units.old.items) (calls_of units.new.items ++ unit.calls.items)) }
-    ensures any_moment { Since (IsAmidTurns policy (has silent.items) queue
+    ensures any_moment { Since (IsAmidTurns options (has silent.items) queue
         (held_by administration.old diversions.now) (H.state host.old)) (H.state host.old)
         (H.state host.new) }
     ensures no_fault { OnOk result (NoFault (H.state host.old) (H.state host.new)) }
@@ -74,7 +76,7 @@ fn take_turns<H: Host, W: Watcher>(
         queue: Some(queue),
         taken: None,
         silent,
-        policy,
+        options,
         diversions,
     };
     match run_units(host, administration, &mut turns, units, watcher) {
@@ -83,7 +85,7 @@ fn take_turns<H: Host, W: Watcher>(
                 queue,
                 taken: _,
                 silent: _,
-                policy: _,
+                options: _,
                 diversions: _,
             } = turns;
             match queue {
@@ -101,7 +103,7 @@ pub(crate) fn run_turns<H: Host, W: Watcher>(
     host: &mut H,
     administration: &mut Administration,
     diversions: &Diversions,
-    policy: ConfPolicy,
+    options: ConfigureOptions,
     queue: Queue,
     silent: Vec<bool>,
     units: &mut Vec<Unit>,
@@ -111,7 +113,7 @@ pub(crate) fn run_turns<H: Host, W: Watcher>(
     requires wait { AreWaiting queue administration.old.database.records }
     requires order { Needs (H.state host.old)
         (IsInOrder administration.old.database administration.old.lists.lists) }
-    ensures ok { OnOk result (EndTurns policy (has silent.items) queue
+    ensures ok { OnOk result (EndTurns options (has silent.items) queue
         (held_by administration.old diversions.now) (H.state host.old) units.old.items
         units.new.items (held_by administration.new diversions.now) (H.state host.new)) }
     ensures packages { IfOk result (λ packages. packages ≡ queue.packages) }
@@ -121,14 +123,14 @@ pub(crate) fn run_turns<H: Host, W: Watcher>(
     ensures order { OnOk result (Needs (H.state host.new)
         (IsInOrder administration.new.database administration.new.lists.lists)) }
     ensures open { OnOk result (IsOpen diversions.now.ways administration.new) }
-    ensures err { IfErr result (λ unit. StopTurns policy (has silent.items) queue
+    ensures err { IfErr result (λ unit. StopTurns options (has silent.items) queue
         (held_by administration.old diversions.now) (H.state host.old) units.old.items
         units.new.items (Some unit) (H.state host.new)) }
     ensures told { OnOk result (TellsAll (H.state host.old) (H.state host.new)
         (calls_of units.old.items) (calls_of units.new.items)) }
     ensures told_broken { IfErr result (λ unit. TellsAll (H.state host.old) (H.state host.new)
         (calls_of units.old.items) (calls_of units.new.items ++ unit.calls.items)) }
-    ensures any_moment { Since (IsAmidTurns policy (has silent.items) queue
+    ensures any_moment { Since (IsAmidTurns options (has silent.items) queue
         (held_by administration.old diversions.now) (H.state host.old)) (H.state host.old)
         (H.state host.new) }
     ensures no_fault { OnOk result (NoFault (H.state host.old) (H.state host.new)) }
@@ -143,7 +145,7 @@ pub(crate) fn run_turns<H: Host, W: Watcher>(
         host,
         administration,
         diversions,
-        policy,
+        options,
         queue,
         silent,
         units,

@@ -22,6 +22,7 @@ mod all_turns;
 mod asked;
 mod early;
 mod left_over;
+mod options;
 mod queue;
 mod run;
 mod starting;
@@ -30,4 +31,5 @@ mod turn;
 mod unit;
 
 pub use asked::waiting_names;
+pub use options::ConfigureOptions;
 pub use run::configure_packages;

@@ -1,16 +1,17 @@
 // The queue of packages that wait for their turn.
-ghost use Rattle.std.specs.Prelude.{◌≡◌, ◌<◌, ℕ, None, IfOk, IfSome, IsTrue, false, length, slice_set};
-ghost use Rattle.dependency_check.specs.Waiting.{IsConfigurableNow, IsNextOfConfigurable};
-ghost use Rattle.dependency_sets.specs.Choices.{IsListing};
+ghost use Rattle.std.specs.Prelude.{◌≡◌, ◌&&◌, ◌<◌, ℕ, None, IfOk, IfSome, IsTrue, MatchOption, true, false, length, slice_set};
+ghost use Rattle.dependency_check.specs.Waiting.{IsConfigurableNow, IsNextOfConfigurable, with_configured};
+ghost use Rattle.dependency_sets.specs.Choices.{IsFirst, IsListing};
 ghost use Rattle.dependency_sets.specs.Sets.{has};
 ghost use Rattle.recorded_packages.specs.Packages.{ArePackagesOf};
 ghost use Rattle.configure_run.specs.Starting.{AreNamedApart, IsBegun, IsEven};
 ghost use Rattle.configure_run.specs.Taking.{left_behind};
 ghost use Rattle.configure_run.specs.Turns.{after_turn};
+ghost use Rattle.configure_run.specs.Whose.{IsNobodysTurn, IsWhoseTurn};
 
 use crate::starting::{installed_of, waiting_of};
 use dependency_check::ConfigureQueue;
-use dependency_sets::{Numbers, listed};
+use dependency_sets::{Numbers, first_of_both, has, listed};
 use relation_index::Packages;
 use status_db::NotedDatabase;
 use std::alloc::{AllocError, Global};
@@ -36,22 +37,45 @@ impl Model for Queue {
     ghost invariant = { λ t. (t.waiting.items ≡ t.queue.waiting) × IsEven t.queue × AreNamedApart t.queue.packages };
 }
 
-// What is left of the queue.
+// The queue behind a package that was configured out of order: others may be configurable now, so it is made anew.
+fn queue_anew(
+    alloc: Global,
+    queue: ConfigureQueue,
+    number: usize,
+    waiting: &[bool],
+) -> Result<ConfigureQueue, AllocError>
+    requires within { number < length queue.installed }
+    requires waiting { waiting.now ≡ slice_set queue.waiting number false }
+    ensures { IfOk result (λ q. q ≡ with_configured number queue) }
+{
+    let mut installed = Vec::from_slice(alloc, queue.supply())?;
+    installed[number] = true;
+    let packages = queue.into_packages();
+    let anew = ConfigureQueue::of(alloc, packages, installed.as_slice(), waiting)?;
+    Ok(anew)
+}
+
+// What is left of the queue; the marks are those of the packages that still wait.
 fn queue_after(
+    alloc: Global,
     queue: ConfigureQueue,
     number: usize,
     done: bool,
+    waiting: &[bool],
 ) -> Result<ConfigureQueue, AllocError>
-    requires room { number < length queue.installed }
-    requires member { IsConfigurableNow queue number }
+    requires within { number < length queue.installed }
+    requires waiting { waiting.now ≡ slice_set queue.waiting number false }
     ensures { IfOk result (λ q. q ≡ after_turn done number queue) }
 {
-    let mut queue = queue;
-    if done {
-        queue.installed(number);
-        return Ok(queue);
+    if !done {
+        return queue.failed(number);
     }
-    queue.failed(number)
+    if !has(queue.members(), number) {
+        return queue_anew(alloc, queue, number, waiting);
+    }
+    let mut queue = queue;
+    queue.installed(number);
+    Ok(queue)
 }
 
 impl Queue {
@@ -99,8 +123,8 @@ impl Queue {
         self.queue.supply()
     }
 
-    /// Whose turn it is; `silent` are the packages without postinst.
-    pub(crate) fn next(&self, alloc: Global, silent: &[bool]) -> Result<Option<usize>, AllocError>
+    // The next in the order that relations ask for.
+    fn next_in_order(&self, alloc: Global, silent: &[bool]) -> Result<Option<usize>, AllocError>
         ensures next { IfOk result (IsNextOfConfigurable self.now (has silent.now)) }
         ensures member { IfOk result (λ next. IfSome next (IsConfigurableNow self.now)) }
         ensures none_left { IfOk result (λ next. next ≡ None → (x : ℕ)
@@ -109,6 +133,39 @@ impl Queue {
         let _ = self.queue.members();
         let next = self.queue.next(alloc, silent)?;
         Ok(next)
+    }
+
+    // The first that waits.
+    fn first_waiting(&self) -> Option<usize>
+        ensures { MatchOption result ((x : ℕ) → IsTrue (has self.now.waiting x)
+            → ⊥) (IsFirst (λ x. IsTrue (has self.now.waiting x))) }
+    {
+        let waiting = self.waiting.as_slice();
+        first_of_both(waiting, waiting)
+    }
+
+    /// Whose turn it is; `silent` are the packages without postinst. Where Depends and Pre-Depends are ignored none is left over.
+    pub(crate) fn next(
+        &self,
+        alloc: Global,
+        silent: &[bool],
+        ignore_depends: bool,
+    ) -> Result<Option<usize>, AllocError>
+        ensures next { IfOk result (λ next. MatchOption next (IsNobodysTurn ignore_depends
+            (has silent.now) self.now) (IsWhoseTurn ignore_depends (has silent.now) self.now)) }
+        ensures waits { IfOk result (λ next. IfSome next (λ x. IsTrue (has self.now.waiting x))) }
+        ensures none_left { IfOk result (λ next. next ≡ None → (x : ℕ)
+            → IsConfigurableNow self.now x → ⊥) }
+    {
+        match self.next_in_order(alloc, silent)? {
+            Some(number) => Ok(Some(number)),
+            None => {
+                if ignore_depends {
+                    return Ok(self.first_waiting());
+                }
+                Ok(None)
+            }
+        }
     }
 
     /// The packages that still wait.
@@ -120,13 +177,13 @@ impl Queue {
     }
 
     /// The queue behind the turn of a package, which was configured or wasn't. Where memory is wanting it is gone.
-    pub(crate) fn after(self, number: usize, done: bool) -> Result<Queue, AllocError>
-        requires member { IsConfigurableNow self number }
+    fn after(self, alloc: Global, number: usize, done: bool) -> Result<Queue, AllocError>
+        requires waits { IsTrue (has self.waiting number) }
         ensures { IfOk result (λ t. t ≡ after_turn done number self) }
     {
         let Queue { queue, mut waiting } = self;
         waiting[number] = false;
-        let left = queue_after(queue, number, done)?;
+        let left = queue_after(alloc, queue, number, done, waiting.as_slice())?;
         Ok(Queue {
             queue: left,
             waiting,
@@ -134,12 +191,16 @@ impl Queue {
     }
 
     /// The same, where a turn was taken.
-    pub(crate) fn behind(self, taken: Option<(usize, bool)>) -> Result<Queue, AllocError>
-        requires member { IfSome taken (λ n. IsConfigurableNow self n.0) }
+    pub(crate) fn behind(
+        self,
+        alloc: Global,
+        taken: Option<(usize, bool)>,
+    ) -> Result<Queue, AllocError>
+        requires waits { IfSome taken (λ n. IsTrue (has self.waiting n.0)) }
         ensures { IfOk result (λ q. q ≡ left_behind self taken) }
     {
         match taken {
-            Some(turn) => self.after(turn.0, turn.1),
+            Some(turn) => self.after(alloc, turn.0, turn.1),
             None => Ok(self),
         }
     }

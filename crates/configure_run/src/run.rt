@@ -21,10 +21,10 @@ ghost use Rattle.configure_run.specs.Turns.{EndTurns, IsAmidTurns, StopTurns};
 use crate::all_turns::run_turns;
 use crate::asked::each_once;
 use crate::early::refuse_early;
+use crate::options::ConfigureOptions;
 use crate::queue::Queue;
 use crate::starting::silent_of;
 use crate::unit::no_memory;
-use conffiles::ConfPolicy;
 use diversions::Diversions;
 use held_administration::Administration;
 use host_core::{Host, HostFault};
@@ -87,7 +87,7 @@ fn run_and_renew<H: Host, W: Watcher>(
     packages: &mut Packages,
     diversions: &Diversions,
     names: &[Text],
-    policy: ConfPolicy,
+    options: ConfigureOptions,
     queue: Queue,
     silent: Vec<bool>,
     units: &mut Vec<Unit>,
@@ -97,7 +97,7 @@ fn run_and_renew<H: Host, W: Watcher>(
     requires begun { IsBegun names.now administration.old.database.records queue }
     requires order { Needs (H.state host.old)
         (IsInOrder administration.old.database administration.old.lists.lists) }
-    ensures ok { OnOk result (EndTurns policy (has silent.items) queue
+    ensures ok { OnOk result (EndTurns options (has silent.items) queue
         (held_by administration.old diversions.now) (H.state host.old) units.old.items
         units.new.items (held_by administration.new diversions.now) (H.state host.new)) }
     ensures indexed { OnOk result (ArePackagesOf administration.new.database.records packages.new) }
@@ -105,14 +105,14 @@ fn run_and_renew<H: Host, W: Watcher>(
     ensures order { OnOk result (Needs (H.state host.new)
         (IsInOrder administration.new.database administration.new.lists.lists)) }
     ensures open { OnOk result (IsOpen diversions.now.ways administration.new) }
-    ensures err { IfErr result (λ unit. StopTurns policy (has silent.items) queue
+    ensures err { IfErr result (λ unit. StopTurns options (has silent.items) queue
         (held_by administration.old diversions.now) (H.state host.old) units.old.items
         units.new.items (Some unit) (H.state host.new)) }
     ensures told { OnOk result (TellsAll (H.state host.old) (H.state host.new)
         (calls_of units.old.items) (calls_of units.new.items)) }
     ensures told_broken { IfErr result (λ unit. TellsAll (H.state host.old) (H.state host.new)
         (calls_of units.old.items) (calls_of units.new.items ++ unit.calls.items)) }
-    ensures any_moment { Since (IsAmidTurns policy (has silent.items) queue
+    ensures any_moment { Since (IsAmidTurns options (has silent.items) queue
         (held_by administration.old diversions.now) (H.state host.old)) (H.state host.old)
         (H.state host.new) }
     ensures no_fault { OnOk result (NoFault (H.state host.old) (H.state host.new)) }
@@ -128,7 +128,7 @@ fn run_and_renew<H: Host, W: Watcher>(
         host,
         administration,
         diversions,
-        policy,
+        options,
         queue,
         silent,
         units,
@@ -152,7 +152,7 @@ fn run_all<H: Host, W: Watcher>(
     packages: &mut Packages,
     diversions: &Diversions,
     names: &[Text],
-    policy: ConfPolicy,
+    options: ConfigureOptions,
     units: &mut Vec<Unit>,
     watcher: &mut W,
 ) -> Result<(), Unit>
@@ -161,11 +161,11 @@ fn run_all<H: Host, W: Watcher>(
     requires open { IsOpen diversions.now.ways administration.old }
     requires order { Needs (H.state host.old)
         (IsInOrder administration.old.database administration.old.lists.lists) }
-    ensures ok { OnOk result (IsConfigureRun names.now policy units.new.items
+    ensures ok { OnOk result (IsConfigureRun names.now options units.new.items
         (held_by administration.old diversions.now) (held_by administration.new diversions.now)
         (H.state host.old) (H.state host.new)) }
     ensures indexed { OnOk result (ArePackagesOf administration.new.database.records packages.new) }
-    ensures err { IfErr result (λ unit. HasRun names.now policy units.new.items (Some unit)
+    ensures err { IfErr result (λ unit. HasRun names.now options units.new.items (Some unit)
         (held_by administration.old diversions.now) (H.state host.old) (H.state host.new)) }
     ensures answered { OnOk result (IsAnswered (H.state host.old) (H.state host.new)) }
     ensures order { OnOk result (Needs (H.state host.new)
@@ -175,7 +175,7 @@ fn run_all<H: Host, W: Watcher>(
         (calls_of units.new.items)) }
     ensures told_broken { IfErr result (λ unit. TellsAll (H.state host.old) (H.state host.new) []
         (calls_of units.new.items ++ unit.calls.items)) }
-    ensures any_moment { Since (IsAmidRun names.now policy
+    ensures any_moment { Since (IsAmidRun names.now options
         (held_by administration.old diversions.now) (H.state host.old)) (H.state host.old)
         (H.state host.new) }
     ensures no_fault { OnOk result (NoFault (H.state host.old) (H.state host.new)) }
@@ -194,7 +194,7 @@ fn run_all<H: Host, W: Watcher>(
                 packages,
                 diversions,
                 names,
-                policy,
+                options,
                 queue,
                 silent,
                 units,
@@ -218,20 +218,20 @@ pub fn configure_packages<H: Host, W: Watcher>(
     packages: &mut Packages,
     diversions: &Diversions,
     names: Vec<Text>,
-    policy: ConfPolicy,
+    options: ConfigureOptions,
     watcher: &mut W,
 ) -> Report
     requires indexed { ArePackagesOf administration.old.database.records packages.old }
     requires open { IsOpen diversions.now.ways administration.old }
     requires order { Needs (H.state host.old)
         (IsInOrder administration.old.database administration.old.lists.lists) }
-    ensures whole { IsNone result.last → IsConfigureRun names.items policy result.units.items
+    ensures whole { IsNone result.last → IsConfigureRun names.items options result.units.items
         (held_by administration.old diversions.now) (held_by administration.new diversions.now)
         (H.state host.old) (H.state host.new) }
-    ensures part { HasRun names.items policy result.units.items result.last
+    ensures part { HasRun names.items options result.units.items result.last
         (held_by administration.old diversions.now) (H.state host.old) (H.state host.new) }
     ensures told { TellsCalls (H.state host.old) (H.state host.new) result }
-    ensures any_moment { Since (IsAmidRun names.items policy
+    ensures any_moment { Since (IsAmidRun names.items options
         (held_by administration.old diversions.now) (H.state host.old)) (H.state host.old)
         (H.state host.new) }
     ensures answered { IsNone result.last → IsAnswered (H.state host.old) (H.state host.new) }
@@ -251,7 +251,7 @@ pub fn configure_packages<H: Host, W: Watcher>(
         packages,
         diversions,
         names.as_slice(),
-        policy,
+        options,
         &mut units,
         watcher,
     ) {

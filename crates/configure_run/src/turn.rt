@@ -1,6 +1,5 @@
 // The turns of the packages that wait.
-ghost use Rattle.std.specs.Prelude.{◌≡◌, ℕ, Bool, [], false, true, None, IfErr, IfOk, IfSome, OnOk};
-ghost use Rattle.dependency_check.specs.Waiting.{IsConfigurableNow};
+ghost use Rattle.std.specs.Prelude.{◌≡◌, ℕ, Bool, [], false, true, None, IfErr, IfOk, IfSome, IsTrue, OnOk};
 ghost use Rattle.dependency_sets.specs.Sets.{has};
 ghost use Rattle.held_administration.specs.Open.{IsOpen};
 ghost use Rattle.host_core.specs.Host.{AtEachMomentOf, Needs, NoFault};
@@ -16,6 +15,7 @@ ghost use Rattle.configure_run.specs.Starting.{AreWaiting};
 ghost use Rattle.configure_run.specs.Turns.{HasCalledNext, IsAmidTurn, IsTurn, after_turn, is_done};
 ghost use Rattle.configure_run.specs.Taking.{IsAmidTurnOf, IsBrokenAt, IsNoneLeft, IsTurnOf, left_behind};
 
+use crate::options::ConfigureOptions;
 use crate::queue::Queue;
 use crate::unit::{is_done, no_memory, unit_of};
 use conffiles::ConfPolicy;
@@ -40,7 +40,7 @@ fn take_turn<H: Host>(
     requires wait { AreWaiting queue.now administration.old.database.records }
     requires order { Needs (H.state host.old)
         (IsInOrder administration.old.database administration.old.lists.lists) }
-    requires member { IsConfigurableNow queue.now number }
+    requires waits { IsTrue (has queue.now.waiting number) }
     ensures ok { IfOk result (IsTurnOf policy queue.now number
         (held_by administration.old diversions.now) (held_by administration.new diversions.now)
         (H.state host.old) (H.state host.new)) }
@@ -81,7 +81,7 @@ fn take_next<H: Host>(
     host: &mut H,
     administration: &mut Administration,
     diversions: &Diversions,
-    policy: ConfPolicy,
+    options: ConfigureOptions,
     queue: &Queue,
     silent: &[bool],
     room: bool,
@@ -91,14 +91,14 @@ fn take_next<H: Host>(
     requires wait { AreWaiting queue.now administration.old.database.records }
     requires order { Needs (H.state host.old)
         (IsInOrder administration.old.database administration.old.lists.lists) }
-    ensures taken { IsTaken (IsTurn policy (has silent.now))
-        (λ left later. HasCalledNext policy (has silent.now) left)
-        (λ left held. IsNoneLeft silent.now taken.new left) queue.now
+    ensures taken { IsTaken (IsTurn options (has silent.now))
+        (λ left later. HasCalledNext options (has silent.now) left)
+        (λ left held. IsNoneLeft options silent.now taken.new left) queue.now
         (left_behind queue.now taken.new) (held_by administration.old diversions.now)
         (held_by administration.new diversions.now) (H.state host.old) (H.state host.new) result }
-    ensures member { OnOk result (IfSome taken.new (λ n. IsConfigurableNow queue.now n.0)) }
+    ensures waits { OnOk result (IfSome taken.new (λ n. IsTrue (has queue.now.waiting n.0))) }
     ensures found { IfOk result (λ found. IfSome found (λ unit. (n : ℕ × Bool) × (taken.new
-        ≡ Some n) × IsConfigurableNow queue.now n.0)) }
+        ≡ Some n) × IsTrue (has queue.now.waiting n.0))) }
     ensures room { room ≡ false → IfOk result (λ found. found ≡ None) }
     ensures wait { OnOk result (AreWaiting (left_behind queue.now taken.new)
         administration.new.database.records) }
@@ -108,19 +108,19 @@ fn take_next<H: Host>(
     ensures answered { OnOk result (IsAnswered (H.state host.old) (H.state host.new)) }
     ensures told { TellsAll (H.state host.old) (H.state host.new) [] (calls_in result) }
     ensures any_moment { AtEachMomentOf (runs.IsAmidNext
-        (λ left later. IsAmidTurn policy (has silent.now) left) queue.now queue.now
+        (λ left later. IsAmidTurn options (has silent.now) left) queue.now queue.now
         (held_by administration.old diversions.now)) (H.state host.old) (H.state host.new) }
     ensures counts { CountsTaken (H.state host.old) (H.state host.new) result }
     ensures not_closed { IfErr result (λ unit. IsBrokenBy Closed unit.reply → ⊥) }
 {
     let alloc = administration.alloc;
     *taken = None;
-    match queue.next(alloc, silent) {
+    match queue.next(alloc, silent, options.ignore_depends) {
         Ok(Some(number)) => match take_turn(
             host,
             administration,
             diversions,
-            policy,
+            options.policy,
             queue,
             number,
             room,
@@ -145,7 +145,7 @@ pub(crate) struct Configuring<'d> {
     pub(crate) queue: Option<Queue>,
     pub(crate) taken: Option<(usize, bool)>,
     pub(crate) silent: Vec<bool>,
-    pub(crate) policy: ConfPolicy,
+    pub(crate) options: ConfigureOptions,
 }
 
 impl<'d, H: Host> Turns<H> for Configuring<'d> {
@@ -164,11 +164,11 @@ impl<'d, H: Host> Turns<H> for Configuring<'d> {
 
     ghost size = { count };
 
-    ghost turn = { λ task. IsTurn task.policy (has task.silent) };
+    ghost turn = { λ task. IsTurn task.options (has task.silent) };
 
-    ghost amid = { λ task left later. IsAmidTurn task.policy (has task.silent) left };
+    ghost amid = { λ task left later. IsAmidTurn task.options (has task.silent) left };
 
-    ghost called = { λ task left later. HasCalledNext task.policy (has task.silent) left };
+    ghost called = { λ task left later. HasCalledNext task.options (has task.silent) left };
 
     ghost goes = { λ task left later. Unit {0} };
 
@@ -186,13 +186,13 @@ impl<'d, H: Host> Turns<H> for Configuring<'d> {
     ) -> Result<Option<Unit>, Unit> {
         let alloc = administration.alloc;
         match mem::replace(&mut self.queue, None) {
-            Some(queue) => match queue.behind(self.taken) {
+            Some(queue) => match queue.behind(alloc, self.taken) {
                 Ok(queue) => {
                     let taken = take_next(
                         host,
                         administration,
                         self.diversions,
-                        self.policy,
+                        self.options,
                         &queue,
                         self.silent.as_slice(),
                         room,

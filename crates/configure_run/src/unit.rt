@@ -37,6 +37,7 @@ pub(crate) fn is_done(unit: &Unit) -> bool
         Reply::Done => true,
         Reply::Refused(_) => false,
         Reply::Failed(_) => false,
+        Reply::Looped(_) => false,
         Reply::Broken(_) => false,
     }
 }

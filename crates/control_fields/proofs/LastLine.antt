@@ -1,9 +1,10 @@
 -- The last field, with a line more or as before.
 use Rattle.std.proofs.Common.{◌≡◌, ℕ, List, [], ◌∷◌, ◌++◌, Result, Ok, Err, OnOk, OnErr, sym, ap, ◌∙◌}
-use Rattle.control_fields.specs.Names.{with_line, fields_of}
+use Rattle.control_fields.specs.Names.{with_line, settled, settled_last, fields_of}
 use Rattle.control_fields.specs.declared.field.Field.{Field}
 use Rattle.control_fields.proofs.Keyed.{IsLastWritten}
 use Rattle.control_fields.proofs.Again.{last_is}
+use Rattle.control_fields.proofs.Settled.{settled_end}
 
 -- with these lines
 abbrev pub with_more : Field → List (List ℕ) → Field
@@ -21,3 +22,9 @@ module _ {K T E : Type 0} (key : K → List ℕ) (es new : List (K × Field)) (f
   no_line_more (Err e) line =
       let kept : with_more f more ≡ f = (λ i. record { name = f.name; first = f.first; more = line i }) in
       written.after ∙ ap (λ (g : Field). written.front ++ g ∷ []) kept ∙ sym written.before ∙ same
+
+-- the last field whose value has ended
+pub ends_last : {K T E : Type 0} (key : K → List ℕ) (es new : List (K × Field)) (f w : Field) (all : List Field) → IsLastWritten key es new f w → fields_of es ≡ all → (result : Result T E) → OnOk result (w ≡ settled f) → OnOk result (fields_of new ≡ settled_last all)
+ends_last key es new f w all written same (Ok x) is =
+    written.after ∙ ap (λ (g : Field). written.front ++ g ∷ []) is ∙ sym (settled_end written.front f) ∙ ap settled_last (sym written.before ∙ same)
+ends_last key es new f w all written same (Err e) is = tt

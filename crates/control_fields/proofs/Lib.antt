@@ -11,3 +11,4 @@ pub mod Trims
 pub mod Written
 pub mod Placed
 pub mod LastLine
+pub mod Settled

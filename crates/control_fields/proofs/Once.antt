@@ -1,13 +1,14 @@
 -- Lines are read in one way.
 use Rattle.std.proofs.Common.{◌≡◌, ◌+◌, ℕ, List, [], ◌∷◌, ◌++◌, length, refl, sym, ap, subst, ◌∙◌, inl, inr, arith}
 use Rattle.std.proofs.lemmas.List.{append_cancel_left}
-use Rattle.control_fields.specs.Names.{trim_end, trim_start, with_line, begin_line}
+use Rattle.control_fields.specs.Names.{trim_end, trim_start, settled_last, with_line, begin_line}
 use Rattle.control_fields.specs.Grammar.{Reading, start, closed, IsSeparator, IsContinuation, IsNewField, field_of, Takes, Run, Reads, paragraphs_of}
 use Rattle.control_fields.specs.Faults.{IsFaultIn, IsFaultOf}
 use Rattle.control_fields.specs.declared.field.Field.{Field}
 use Rattle.control_fields.specs.declared.fault.ControlFault.{ControlFault}
 use Rattle.control_fields.specs.declared.fault.ControlFault.TheVariants.{NoMemory}
 use Rattle.control_fields.proofs.Parts.{one_cut}
+use Rattle.control_fields.proofs.Trims.{cut_ended}
 use Rattle.control_fields.proofs.Cases.{same_at, name_begins}
 use Rattle.control_fields.proofs.Again.{last_is}
 
@@ -18,43 +19,45 @@ not_empty (x ∷ name) value e = cc
 same_rest : (a x y : List ℕ) → a ++ 58 ∷ x ≡ a ++ 58 ∷ y → x ≡ y
 same_rest a x y e = let t : 58 ∷ x ≡ 58 ∷ y = append_cancel_left a (58 ∷ x) (58 ∷ y) e in cc t
 
-blank_or_not : (number : ℕ) (text : List ℕ) (s t u : Reading) → IsSeparator text s t → IsContinuation text s u → ⊥
-blank_or_not number text s t u k m = let e : [] ≡ m.begin ∷ m.rest = sym k.blank ∙ m.is in cc e
+blank_or_not : (bytes : List ℕ) (s t u : Reading) → IsSeparator bytes s t → IsContinuation bytes s u → ⊥
+blank_or_not bytes s t u k m = let e : [] ≡ m.begin ∷ m.rest = sym k.blank ∙ m.is in cc e
 
-blank_or_field : (number : ℕ) (text : List ℕ) (s t u : Reading) → IsSeparator text s t → IsNewField number text s u → ⊥
-blank_or_field number text s t u k m = not_empty m.name m.value (sym k.blank ∙ m.cut.parts)
+blank_or_field : (number : ℕ) (bytes : List ℕ) (s t u : Reading) → IsSeparator bytes s t → IsNewField number bytes s u → ⊥
+blank_or_field number bytes s t u k m = not_empty m.name (trim_end m.value) (sym k.blank ∙ cut_ended bytes m.name m.value m.cut.parts)
 
-goes_or_field : (number : ℕ) (text : List ℕ) (s t u : Reading) → IsContinuation text s t → IsNewField number text s u → ⊥
-goes_or_field number text s t u k m = name_begins m.name m.value k.begin k.rest m.good (sym m.cut.parts ∙ k.is) k.blank
+goes_or_field : (number : ℕ) (bytes : List ℕ) (s t u : Reading) → IsContinuation bytes s t → IsNewField number bytes s u → ⊥
+goes_or_field number bytes s t u k m = name_begins m.name (trim_end m.value) k.begin k.rest m.good (sym (cut_ended bytes m.name m.value m.cut.parts) ∙ k.is) k.blank
 
-goes_once : (text : List ℕ) (s t u : Reading) → IsContinuation text s t → IsContinuation text s u → t ≡ u
-goes_once text s t u k m =
-    k.to ∙ same_at s.done s.done s.begun.line s.begun.line (k.front ++ with_line k.last text ∷ []) (m.front ++ with_line m.last text ∷ []) refl refl (last_is k.front m.front k.last m.last (sym k.now ∙ m.now) text) ∙ sym m.to
+goes_once : (bytes : List ℕ) (s t u : Reading) → IsContinuation bytes s t → IsContinuation bytes s u → t ≡ u
+goes_once bytes s t u k m =
+    k.to ∙ same_at s.done s.done s.begun.line s.begun.line (k.front ++ with_line k.last bytes ∷ []) (m.front ++ with_line m.last bytes ∷ []) refl refl (last_is k.front m.front k.last m.last (sym k.now ∙ m.now) bytes) ∙ sym m.to
 
-field_once : (number : ℕ) (text : List ℕ) (s t u : Reading) → IsNewField number text s t → IsNewField number text s u → t ≡ u
-field_once number text s t u k m =
+field_once : (number : ℕ) (bytes : List ℕ) (s t u : Reading) → IsNewField number bytes s t → IsNewField number bytes s u → t ≡ u
+field_once number bytes s t u k m =
     let names : k.name ≡ m.name = one_cut 58 k.name m.name k.value m.value (sym k.cut.parts ∙ m.cut.parts) k.cut.first m.cut.first in
     let values : k.value ≡ m.value = same_rest m.name k.value m.value (subst (λ (n : List ℕ). n ++ 58 ∷ k.value ≡ m.name ++ 58 ∷ m.value) names (sym k.cut.parts ∙ m.cut.parts)) in
     let fields : field_of k.name k.value ≡ field_of m.name m.value = (λ i. record { name = names i; first = trim_start (values i); more = [] }) in
-    k.to ∙ same_at s.done s.done (begin_line s.begun.paragraph s.begun.line number) (begin_line s.begun.paragraph s.begun.line number) (s.begun.paragraph ++ field_of k.name k.value ∷ []) (s.begun.paragraph ++ field_of m.name m.value ∷ []) refl refl
-    (ap (λ (f : Field). s.begun.paragraph ++ f ∷ []) fields) ∙ sym m.to
+    let line = begin_line s.begun.paragraph s.begun.line number in
+    let before = settled_last s.begun.paragraph in
+    k.to ∙ same_at s.done s.done line line (before ++ field_of k.name k.value ∷ []) (before ++ field_of m.name m.value ∷ []) refl refl
+    (ap (λ (f : Field). before ++ f ∷ []) fields) ∙ sym m.to
 
 pub takes_once : (number : ℕ) (bytes : List ℕ) (s t u : Reading) → Takes number bytes s t → Takes number bytes s u → t ≡ u
 takes_once number bytes s t u a b = elim a.1 [
   | inl k ↦ elim b.1 [
     | inl m ↦ k.to ∙ sym m.to
-    | inr (inl m) ↦ absurd (blank_or_not number (trim_end bytes) s t u k m)
-    | inr (inr m) ↦ absurd (blank_or_field number (trim_end bytes) s t u k m)
+    | inr (inl m) ↦ absurd (blank_or_not bytes s t u k m)
+    | inr (inr m) ↦ absurd (blank_or_field number bytes s t u k m)
   ]
   | inr (inl k) ↦ elim b.1 [
-    | inl m ↦ absurd (blank_or_not number (trim_end bytes) s u t m k)
-    | inr (inl m) ↦ goes_once (trim_end bytes) s t u k m
-    | inr (inr m) ↦ absurd (goes_or_field number (trim_end bytes) s t u k m)
+    | inl m ↦ absurd (blank_or_not bytes s u t m k)
+    | inr (inl m) ↦ goes_once bytes s t u k m
+    | inr (inr m) ↦ absurd (goes_or_field number bytes s t u k m)
   ]
   | inr (inr k) ↦ elim b.1 [
-    | inl m ↦ absurd (blank_or_field number (trim_end bytes) s u t m k)
-    | inr (inl m) ↦ absurd (goes_or_field number (trim_end bytes) s u t m k)
-    | inr (inr m) ↦ field_once number (trim_end bytes) s t u k m
+    | inl m ↦ absurd (blank_or_field number bytes s u t m k)
+    | inr (inl m) ↦ absurd (goes_or_field number bytes s u t m k)
+    | inr (inr m) ↦ field_once number bytes s t u k m
   ]
 ]
 

@@ -1,7 +1,7 @@
 -- Texts that are to have one paragraph.
 use Rattle.std.proofs.Common.{◌≡◌, ◌+◌, ◌<◌, ◌≤◌, ℕ, List, [], ◌∷◌, ◌++◌, length, refl, sym, ap, subst, ◌∙◌, inl, inr, arith}
 use Rattle.std.proofs.lemmas.List.{length-append}
-use Rattle.control_fields.specs.Names.{trim_end, with_line}
+use Rattle.control_fields.specs.Names.{settled, settled_last, with_line}
 use Rattle.control_fields.specs.Grammar.{Reading, start, closed, with_last, with_field, field_of, Takes, Run, Reads, ReadsOne, paragraphs_of}
 use Rattle.control_fields.specs.Faults.{IsSecondIn, IsFaultOfOne}
 use Rattle.control_fields.specs.declared.field.Field.{Field}
@@ -12,20 +12,20 @@ use Rattle.control_fields.proofs.Once.{takes_once, run_once, reads_once, run_fro
 
 count_most : (d : List Located) (j : ℕ) (p : List Field) → length (with_last d (record { line = j; paragraph = p })) ≤ length d + 1
 count_most d j [] = omega arith
-count_most d j (f ∷ p) = let last : Located = record { line = j; paragraph = f ∷ p } in omega (arith, length-append d (last ∷ []))
+count_most d j (f ∷ p) = let last : Located = record { line = j; paragraph = settled_last (f ∷ p) } in omega (arith, length-append d (last ∷ []))
 
 count_some : (d : List Located) (j : ℕ) (front : List Field) (f : Field) → length (with_last d (record { line = j; paragraph = front ++ f ∷ [] })) ≡ length d + 1
-count_some d j [] f = let last : Located = record { line = j; paragraph = f ∷ [] } in omega (arith, length-append d (last ∷ []))
-count_some d j (g ∷ front) f = let last : Located = record { line = j; paragraph = g ∷ (front ++ f ∷ []) } in omega (arith, length-append d (last ∷ []))
+count_some d j [] f = let last : Located = record { line = j; paragraph = settled f ∷ [] } in omega (arith, length-append d (last ∷ []))
+count_some d j (g ∷ front) f = let last : Located = record { line = j; paragraph = settled_last (g ∷ (front ++ f ∷ [])) } in omega (arith, length-append d (last ∷ []))
 
 -- paragraphs don't become fewer
 takes_grows : (n : ℕ) (l : List ℕ) (s t : Reading) → Takes n l s t → length (closed s) ≤ length (closed t)
 takes_grows n l s t takes = elim takes.1 [
   | inl k ↦ subst (λ (r : Reading). length (closed s) ≤ length (closed r)) (sym k.to) (omega arith)
   | inr (inl k) ↦ subst (λ (r : Reading). length (closed s) ≤ length (closed r)) (sym k.to)
-      (let a = count_most s.done s.begun.line s.begun.paragraph in let b = count_some s.done s.begun.line k.front (with_line k.last (trim_end l)) in omega (arith, a, b))
+      (let a = count_most s.done s.begun.line s.begun.paragraph in let b = count_some s.done s.begun.line k.front (with_line k.last l) in omega (arith, a, b))
   | inr (inr k) ↦ subst (λ (r : Reading). length (closed s) ≤ length (closed r)) (sym k.to)
-      (let m = with_field n s.begun (field_of k.name k.value) in let a = count_most s.done s.begun.line s.begun.paragraph in let b = count_some s.done m.line s.begun.paragraph (field_of k.name k.value) in omega (arith, a, b))
+      (let m = with_field n s.begun (field_of k.name k.value) in let a = count_most s.done s.begun.line s.begun.paragraph in let b = count_some s.done m.line (settled_last s.begun.paragraph) (field_of k.name k.value) in omega (arith, a, b))
 ]
 
 run_grows : (n : ℕ) (ls : List (List ℕ)) (s t : Reading) → Run n ls s t → length (closed s) ≤ length (closed t)

@@ -2,12 +2,13 @@
 use Rattle.std.proofs.Common.{◌≡◌, ◌≤◌, ◌+◌, ℕ, zero, suc, List, [], ◌∷◌, ◌++◌, length, slice_get, Option, Some, None, refl, sym, ap, subst, ◌∙◌, append_assoc, inl, inr, arith}
 use Rattle.std.specs.List.{AllByRecursion}
 use Rattle.std.proofs.lemmas.List.{length-append}
-use Rattle.control_fields.specs.Names.{trim_end, with_line, begin_line, line_of_field}
-use Rattle.control_fields.specs.Grammar.{Reading, start, nothing, closed, with_last, IsCut, field_of, Takes, Run, StandsOn, IsPlaced}
+use Rattle.control_fields.specs.Names.{settled_last, with_line, begin_line, line_of_field}
+use Rattle.control_fields.specs.Grammar.{Reading, start, nothing, settled_at, closed, with_last, IsCut, field_of, Takes, Run, StandsOn, IsPlaced}
 use Rattle.control_fields.specs.Faults.{IsReadTo}
 use Rattle.control_fields.specs.declared.field.Field.{Field}
 use Rattle.control_fields.specs.declared.located.Located.{Located}
 use Rattle.control_fields.specs.declared.fault.ControlFault.{ControlFault}
+use Rattle.control_fields.proofs.Settled.{ended_long, begin_settled}
 
 -- fields one after another
 abbrev pub ArePlaced : List (List ℕ) → ℕ → List Field → Type 0
@@ -42,9 +43,20 @@ line_placed : (ls : List (List ℕ)) (line : ℕ) (fs : List Field) (f : Field) 
 line_placed ls line [] f l are = let s = are.0 in (record { before = s.before; bytes = s.bytes; after = s.after; is = s.is; counted = s.counted; value = s.value; cut = s.cut }, tt)
 line_placed ls line (g ∷ fs) f l are = (are.0, line_placed ls (line + 1 + length g.more) fs f l are.1)
 
+-- a paragraph whose last field has ended
+settled_placed : (ls : List (List ℕ)) (line : ℕ) (fs : List Field) → ArePlaced ls line fs → ArePlaced ls line (settled_last fs)
+settled_placed ls line [] are = tt
+settled_placed ls line (f ∷ []) are = let s = are.0 in (record { before = s.before; bytes = s.bytes; after = s.after; is = s.is; counted = s.counted; value = s.value; cut = s.cut }, tt)
+settled_placed ls line (f ∷ g ∷ fs) are = (are.0, settled_placed ls (line + 1 + length f.more) (g ∷ fs) are.1)
+
+settled_after : (line : ℕ) (fs : List Field) → line_after line (settled_last fs) ≡ line_after line fs
+settled_after line [] = refl
+settled_after line (f ∷ []) = let h = ended_long f.more in omega (arith, h)
+settled_after line (f ∷ g ∷ fs) = settled_after (line + 1 + length f.more) (g ∷ fs)
+
 close_placed : (ls : List (List ℕ)) (d : List Located) (line : ℕ) (p : List Field) → AllByRecursion (λ l. ArePlaced ls l.line l.paragraph) d → ArePlaced ls line p → AllByRecursion (λ l. ArePlaced ls l.line l.paragraph) (with_last d (record { line = line; paragraph = p }))
 close_placed ls d line [] all are = all
-close_placed ls [] line (f ∷ p) all are = (are, tt)
+close_placed ls [] line (f ∷ p) all are = (settled_placed ls line (f ∷ p) are, tt)
 close_placed ls (e ∷ d) line (f ∷ p) all are = (all.0, close_placed ls d line (f ∷ p) all.1 are)
 
 -- a paragraph that is being read ends on the line before this one
@@ -60,12 +72,17 @@ next_to : (n line : ℕ) (fs : List Field) (f : Field) → IsNext n line (fs ++ 
 next_to n line [] f e = e
 next_to n line (g ∷ fs) f e = e
 
+next_settled : (n line : ℕ) (fs : List Field) → IsNext n line fs → IsNext n line (settled_last fs)
+next_settled n line [] e = tt
+next_settled n line (f ∷ []) e = settled_after line (f ∷ []) ∙ e
+next_settled n line (f ∷ g ∷ fs) e = settled_after line (f ∷ g ∷ fs) ∙ e
+
 pub record Places (ls : List (List ℕ)) (s : Reading) : Type 0 where
   pub done : AllByRecursion (λ l. ArePlaced ls l.line l.paragraph) s.done
   pub begun : ArePlaced ls s.begun.line s.begun.paragraph
   pub next : IsNext (length ls + 1) s.begun.line s.begun.paragraph
 
-here : (ls : List (List ℕ)) (l : List ℕ) (n : ℕ) (f : Field) (value : List ℕ) → n ≡ length ls + 1 → IsCut (trim_end l) f.name value → StandsOn (ls ++ l ∷ []) n f
+here : (ls : List (List ℕ)) (l : List ℕ) (n : ℕ) (f : Field) (value : List ℕ) → n ≡ length ls + 1 → IsCut l f.name value → StandsOn (ls ++ l ∷ []) n f
 here ls l n f value e cut = record { before = ls; bytes = l; after = []; is = refl; counted = e; value = value; cut = cut }
 
 -- a new field, after the others
@@ -91,18 +108,24 @@ takes_places ls n l s t e takes is = elim takes.1 [
       let are : ArePlaced ls s.begun.line (k.front ++ k.last ∷ []) = subst (ArePlaced ls s.begun.line) k.now is.begun in
       let old = next_to (length ls + 1) s.begun.line k.front k.last (subst (IsNext (length ls + 1) s.begun.line) k.now is.next) in
       let a = after_last s.begun.line k.front k.last in
-      let b = after_last s.begun.line k.front (with_line k.last (trim_end l)) in
-      let more = length-append k.last.more (trim_end l ∷ []) in
+      let b = after_last s.begun.line k.front (with_line k.last l) in
+      let more = length-append k.last.more (l ∷ []) in
       subst (Places (ls ++ l ∷ [])) (sym k.to) (record {
         done = all_more ls (l ∷ []) s.done is.done;
-        begun = placed_more ls (l ∷ []) s.begun.line (k.front ++ with_line k.last (trim_end l) ∷ []) (line_placed ls s.begun.line k.front k.last (trim_end l) are);
-        next = next_from (length (ls ++ l ∷ []) + 1) s.begun.line k.front (with_line k.last (trim_end l)) (omega (arith, old, a, b, more, length-append ls (l ∷ [])));
+        begun = placed_more ls (l ∷ []) s.begun.line (k.front ++ with_line k.last l ∷ []) (line_placed ls s.begun.line k.front k.last l are);
+        next = next_from (length (ls ++ l ∷ []) + 1) s.begun.line k.front (with_line k.last l) (omega (arith, old, a, b, more, length-append ls (l ∷ [])));
       })
       )
   | inr (inr k) ↦ (
       let f = field_of k.name k.value in
-      let g = grown ls l n s.begun.line s.begun.paragraph f e refl is.begun is.next (here ls l n f k.value e k.cut) in
-      subst (Places (ls ++ l ∷ [])) (sym k.to) (record { done = all_more ls (l ∷ []) s.done is.done; begun = g.0; next = g.1 })
+      let before = settled_last s.begun.paragraph in
+      let g = grown ls l n s.begun.line before f e refl (settled_placed ls s.begun.line s.begun.paragraph is.begun) (next_settled (length ls + 1) s.begun.line s.begun.paragraph is.next) (here ls l n f k.value e k.cut) in
+      let line : begin_line before s.begun.line n ≡ begin_line s.begun.paragraph s.begun.line n = begin_settled s.begun.paragraph s.begun.line n in
+      subst (Places (ls ++ l ∷ [])) (sym k.to) (record {
+        done = all_more ls (l ∷ []) s.done is.done;
+        begun = subst (λ (i : ℕ). ArePlaced (ls ++ l ∷ []) i (before ++ f ∷ [])) line g.0;
+        next = subst (λ (i : ℕ). IsNext (length (ls ++ l ∷ []) + 1) i (before ++ f ∷ [])) line g.1;
+      })
       )
 ]
 
@@ -136,14 +159,18 @@ whole_placed ls paragraphs begun s is e none = (
   subst (IsPlaced ls) (sym none) (λ k f h. absurd (cc h)),
 )
 
-front_placed : (ls front rest : List (List ℕ)) (s : Reading) → Places front s → ls ≡ front ++ rest → AllByRecursion (IsPlaced ls) s.done × IsPlaced ls s.begun
+front_placed : (ls front rest : List (List ℕ)) (s : Reading) → Places front s → ls ≡ front ++ rest → AllByRecursion (IsPlaced ls) s.done × IsPlaced ls (settled_at s.begun)
 front_placed ls front rest s is e =
-    subst (λ (x : List (List ℕ)). AllByRecursion (IsPlaced x) s.done × IsPlaced x s.begun) (sym e)
-    (all_placed (front ++ rest) s.done (all_more front rest s.done is.done), λ k f h. placed_at (front ++ rest) s.begun.line s.begun.paragraph k f (placed_more front rest s.begun.line s.begun.paragraph is.begun) h)
+    subst (λ (x : List (List ℕ)). AllByRecursion (IsPlaced x) s.done × IsPlaced x (settled_at s.begun)) (sym e) (
+      all_placed (front ++ rest) s.done (all_more front rest s.done is.done),
+      λ k f h. placed_at (front ++ rest) s.begun.line (settled_last s.begun.paragraph) k f (settled_placed (front ++ rest) s.begun.line s.begun.paragraph (placed_more front rest s.begun.line s.begun.paragraph is.begun)) h,
+    )
 
 pub read_placed : (ls : List (List ℕ)) (paragraphs : List Located) (begun : Located) (fault : Option ControlFault) → IsReadTo ls paragraphs begun fault → AllByRecursion (IsPlaced ls) paragraphs × IsPlaced ls begun
 read_placed ls paragraphs begun None is = whole_placed ls paragraphs begun is.0 (places ls is.0 is.1) is.2 is.3
-read_placed ls paragraphs begun (Some fault) is = front_placed ls is.front (is.bytes ∷ is.rest) (record { done = paragraphs; begun = begun }) (places is.front (record { done = paragraphs; begun = begun }) is.run) is.is
+read_placed ls paragraphs begun (Some fault) is =
+    let m = front_placed ls is.1.front (is.1.bytes ∷ is.1.rest) is.0 (places is.1.front is.0 is.1.run) is.1.is in
+    (subst (AllByRecursion (IsPlaced ls)) (sym is.2) m.0, subst (IsPlaced ls) (sym is.3) m.1)
 
 -- a field's line is no earlier than the paragraph's
 pub no_earlier : (line : ℕ) (fs : List Field) (k : ℕ) → line ≤ line_of_field line fs k

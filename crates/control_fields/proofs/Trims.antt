@@ -106,6 +106,22 @@ pub trimmed_part : (a w : List ℕ) → trim_end (a ++ w) ≡ a ++ w → trim_en
 trimmed_part [] w e = e
 trimmed_part (x ∷ a) w e = trimmed_part a w (kept_all x (trim_end (a ++ w)) (a ++ w) e)
 
+-- a colon and what stands before it stay
+pub cut_ended : (bytes name value : List ℕ) → bytes ≡ name ++ 58 ∷ value → trim_end bytes ≡ name ++ 58 ∷ trim_end value
+cut_ended bytes name value parts = ap trim_end parts ∙ cut name
+  where
+    colon : (t : List ℕ) → keep_before 58 t ≡ 58 ∷ t
+    colon [] = refl
+    colon (c ∷ cs) = refl
+
+    kept : (x : ℕ) (a t : List ℕ) → keep_before x (a ++ 58 ∷ t) ≡ x ∷ (a ++ 58 ∷ t)
+    kept x [] t = refl
+    kept x (y ∷ a) t = refl
+
+    cut : (a : List ℕ) → trim_end (a ++ 58 ∷ value) ≡ a ++ 58 ∷ trim_end value
+    cut [] = colon (trim_end value)
+    cut (x ∷ a) = ap (keep_before x) (cut a) ∙ kept x a (trim_end value)
+
 -- blanks at the start
 
 start_by : (b : ℕ) (bs : List ℕ) (x : Bool) → is_blank b ≡ x → (v : List ℕ) → bs ≡ v ++ trim_start bs → AreBlank v → (v : List ℕ) × (b ∷ bs ≡ v ++ trim_start (b ∷ bs)) × AreBlank v

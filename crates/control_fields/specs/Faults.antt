@@ -2,7 +2,7 @@
 use Rattle.std.specs.Prelude.{◌≡◌, ◌≢◌, ◌⊎◌, ℕ, ◌+◌, ◌<◌, ◌≤◌, Bool, IsTrue, true, List, [], ◌∷◌, ◌++◌, length, Option, Some, None}
 use Rattle.std.specs.Str.{IsUtf8}
 use Rattle.control_fields.specs.Names.{Lacks, is_blank, trim_end, IsName, stands}
-use Rattle.control_fields.specs.Grammar.{Reading, start, nothing, closed, IsCut, Takes, Run}
+use Rattle.control_fields.specs.Grammar.{Reading, start, nothing, settled_at, closed, IsCut, Takes, Run}
 use Rattle.control_fields.specs.Told.{told}
 use Rattle.control_fields.specs.declared.located.Located.{Located}
 use Rattle.control_fields.specs.declared.reading.Kind.{Kind}
@@ -21,9 +21,9 @@ BeginsBlank (b ∷ bs) = is_blank b ≡ true
 abbrev pub HasFault : Kind → List ℕ → Reading → Type 0
 HasFault NotUtf8 bytes s = IsUtf8 bytes → ⊥
 HasFault OrphanContinuation bytes s = BeginsBlank (trim_end bytes) × (s.begun.paragraph ≡ [])
-HasFault NoColon bytes s = (trim_end bytes ≢ []) × (BeginsBlank (trim_end bytes) → ⊥) × Lacks (trim_end bytes) 58
-HasFault BadName bytes s = (name value : List ℕ) × IsCut (trim_end bytes) name value × (BeginsBlank (trim_end bytes) → ⊥) × (IsName name → ⊥)
-HasFault Twice bytes s = (name value : List ℕ) × IsCut (trim_end bytes) name value × (BeginsBlank (trim_end bytes) → ⊥) × (stands name s.begun.paragraph ≡ true)
+HasFault NoColon bytes s = (trim_end bytes ≢ []) × (BeginsBlank (trim_end bytes) → ⊥) × Lacks bytes 58
+HasFault BadName bytes s = (name value : List ℕ) × IsCut bytes name value × (BeginsBlank (trim_end bytes) → ⊥) × (IsName name → ⊥)
+HasFault Twice bytes s = (name value : List ℕ) × IsCut bytes name value × (BeginsBlank (trim_end bytes) → ⊥) × (stands name s.begun.paragraph ≡ true)
 
 -- the faults in the order in which they are looked for
 abbrev pub NoneBefore : Kind → List ℕ → Reading → Type 0
@@ -72,10 +72,10 @@ IsFaultOf ls fault = (fault ≡ NoMemory) ⊎ ((s : Reading) × IsFaultIn ls fau
 abbrev pub IsFaultOfOne : List (List ℕ) → ControlFault → Type 0
 IsFaultOfOne ls fault = (fault ≡ NoMemory) ⊎ (((s : Reading) × IsFaultIn ls fault s × (length (closed s) ≤ 1)) ⊎ IsSecondIn ls fault)
 
--- what was read of a text: all of it, or the lines before the first that no case takes
+-- what was read of a text: all of it, or the lines before the first that no case takes, where the last field ends too
 abbrev pub IsReadTo : List (List ℕ) → List Located → Located → Option ControlFault → Type 0
 IsReadTo ls paragraphs begun None = (s : Reading) × Run 1 ls start s × (paragraphs ≡ closed s) × (begun ≡ nothing)
-IsReadTo ls paragraphs begun (Some fault) = IsFaultIn ls fault (record { done = paragraphs; begun = begun })
+IsReadTo ls paragraphs begun (Some fault) = (s : Reading) × IsFaultIn ls fault s × (paragraphs ≡ s.done) × (begun ≡ settled_at s.begun)
 
 -- the same for a reader that may be told to stop at a second paragraph
 abbrev pub StopsAt : Bool → List (List ℕ) → ControlFault → Reading → Type 0

@@ -28,6 +28,27 @@ abbrev pub trim_start : List ℕ → List ℕ
 trim_start [] = []
 trim_start (b ∷ bs) = cond (is_blank b) (trim_start bs) (b ∷ bs)
 
+-- the lines, with no blanks at the end of the last one
+abbrev pub ended : List (List ℕ) → List (List ℕ)
+ended [] = []
+ended (l ∷ []) = trim_end l ∷ []
+ended (l ∷ m ∷ ls) = l ∷ ended (m ∷ ls)
+
+-- the first line of a value, with no blanks at its end where no other line goes on with it
+abbrev pub ended_first : List ℕ → List (List ℕ) → List ℕ
+ended_first first [] = trim_end first
+ended_first first (l ∷ ls) = first
+
+-- a field whose value has ended: blanks at the end of the whole value don't count, those at the ends of its other lines do
+abbrev pub settled : Field → Field
+settled f = record { name = f.name; first = ended_first f.first f.more; more = ended f.more }
+
+-- fields of which the last one's value has ended too
+abbrev pub settled_last : List Field → List Field
+settled_last [] = []
+settled_last (f ∷ []) = settled f ∷ []
+settled_last (f ∷ g ∷ fs) = f ∷ settled_last (g ∷ fs)
+
 -- what a field may be called (Policy 5.1): bytes 33 to 126, and neither `#` nor `-` first; its colon is the line's first
 abbrev pub IsName : List ℕ → Type 0
 IsName name = (0 < length name) × (slice_index name 0 ≢ 35) × (slice_index name 0 ≢ 45) × EachIndex name (λ i. (32 < slice_index name i) × (slice_index name i < 127))

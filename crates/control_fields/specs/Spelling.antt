@@ -2,7 +2,7 @@
 use Rattle.std.specs.Prelude.{◌≡◌, false, ℕ, List, [], ◌∷◌, ◌++◌}
 use Rattle.std.specs.List.{flat_map, AllByRecursion}
 use Rattle.std.specs.Str.{IsUtf8}
-use Rattle.control_fields.specs.Names.{Lacks, trim_end, trim_start, IsName, stands}
+use Rattle.control_fields.specs.Names.{Lacks, trim_end, trim_start, settled, IsName, stands}
 use Rattle.control_fields.specs.Faults.{BeginsBlank}
 use Rattle.control_fields.specs.declared.field.Field.{Field}
 
@@ -29,26 +29,25 @@ spell_all [] = []
 spell_all (p ∷ []) = spell p
 spell_all (p ∷ q ∷ ps) = spell p ++ 10 ∷ spell_all (q ∷ ps)
 
--- a line that goes on with a field
+-- a line that goes on with a field: it begins with a blank, and isn't blank
 pub record IsMore (l : List ℕ) : Type 0 where
   pub utf8 : IsUtf8 l
   pub one_line : Lacks l 10
-  pub trimmed : trim_end l ≡ l
-  pub blank : BeginsBlank l
+  pub blank : BeginsBlank (trim_end l)
 
 -- the line of a field's name
 abbrev pub first_line : Field → List ℕ
 first_line f = f.name ++ 58 ∷ spell_first f.first
 
--- a field that has a written form
+-- a field that has a written form; only at the end of its whole value stand no blanks
 pub record IsField (f : Field) : Type 0 where
   pub name : IsName f.name
   pub no_colon : Lacks f.name 58
   pub utf8 : IsUtf8 (first_line f)
   pub one_line : Lacks (first_line f) 10
-  pub trimmed : trim_end (first_line f) ≡ first_line f
   pub start_trimmed : trim_start f.first ≡ f.first
   pub more : AllByRecursion IsMore f.more
+  pub ended : settled f ≡ f
 
 -- fields after others, each with a new name
 abbrev pub AreFields : List Field → List Field → Type 0

@@ -1,7 +1,8 @@
 // Fields.
-ghost use Rattle.std.specs.Prelude.{◌≡◌, ◌↔◌, IfOk, IsTrue, []};
+ghost use Rattle.std.specs.Prelude.{◌≡◌, ◌↔◌, OnOk, IfOk, IsTrue, []};
 ghost use Rattle.control_fields.specs.Names.{is_yes_or_no};
 
+use crate::blanks::{drop_end, trim_end};
 use crate::line_list::Lines;
 use std::alloc::{AllocError, Global};
 use texts::Bytes;
@@ -22,7 +23,7 @@ fn is_yes_or_no(value: &[u8]) -> bool
 }
 
 impl Field {
-    ghost use Rattle.control_fields.specs.Names.{value_of, IsYesOrNo};
+    ghost use Rattle.control_fields.specs.Names.{trim_end, settled, value_of, IsYesOrNo};
 
     /// A field of one line.
     pub fn one_line(alloc: Global, name: &[u8], value: &[u8]) -> Result<Field, AllocError>
@@ -48,6 +49,13 @@ impl Field {
         Ok(value)
     }
 
+    /// What stands of the value on the name's line, without the blanks at its end.
+    pub fn own_line(&self) -> &[u8]
+        ensures { result.now ≡ trim_end self.now.first }
+    {
+        trim_end(self.first.as_slice())
+    }
+
     /// Whether the value is `yes` or `no` (Policy 5.6.9).
     pub fn is_yes_or_no(&self) -> bool
         ensures { IsTrue result ↔ IsYesOrNo self.now }
@@ -56,6 +64,17 @@ impl Field {
             return false;
         }
         is_yes_or_no(self.first.as_slice())
+    }
+
+    // Drops the blanks at the end of the value.
+    pub(crate) fn settle(&mut self, alloc: Global) -> Result<(), AllocError>
+        ensures name { self.new.name ≡ self.old.name }
+        ensures ok { OnOk result (self.new ≡ settled self.old) }
+    {
+        if self.more.as_slice().is_empty() {
+            return drop_end(alloc, &mut self.first);
+        }
+        self.more.settle()
     }
 
     pub fn copy(&self) -> Result<Field, AllocError>

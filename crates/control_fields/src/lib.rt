@@ -13,6 +13,7 @@
 //! paragraph as it was (`err`), as adding a line to its last field does.
 #![tactic(auto)]
 
+mod blanks;
 mod fault;
 mod field;
 mod laws;

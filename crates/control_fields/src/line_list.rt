@@ -1,6 +1,7 @@
 // Lists of lines.
 ghost use Rattle.std.specs.Prelude.{◌≡◌, ℕ, List, IfOk, OnOk, OnErr, ◌++◌, ◌∷◌, []};
 
+use crate::blanks::drop_end;
 use std::alloc::{AllocError, Global};
 use std::marker::Model;
 use texts::Bytes;
@@ -19,6 +20,8 @@ impl Model for Lines {
 }
 
 impl Lines {
+    ghost use Rattle.control_fields.specs.Names.{ended};
+
     pub fn new(alloc: Global) -> Self
         ensures { result ≡ [] }
     {
@@ -40,6 +43,18 @@ impl Lines {
         ensures { result.now ≡ self.now }
     {
         self.items.as_slice()
+    }
+
+    // Drops the blanks at the end of the last line.
+    pub(crate) fn settle(&mut self) -> Result<(), AllocError>
+        ensures { OnOk result (self.new ≡ ended self.old) }
+    {
+        let Some(mut last) = self.items.pop() else {
+            return Ok(());
+        };
+        drop_end(self.alloc, &mut last)?;
+        self.items.push(last)?;
+        Ok(())
     }
 
     pub(crate) fn copy(&self) -> Result<Lines, AllocError>

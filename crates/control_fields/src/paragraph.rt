@@ -2,7 +2,7 @@
 ghost use Rattle.std.specs.Prelude.{◌≡◌, List, IfOk, OnOk, OnErr, IfSome, IfNone, ◌++◌, ◌∷◌, [], ◌==◌, false, length, ◌<◌, ◌^◌};
 ghost use Rattle.std.specs.Map.Iter.{ShowsInOrder, deref};
 ghost use Rattle.control_fields.specs.declared.field.Field.{Field as AField};
-ghost use Rattle.control_fields.specs.Names.{lower, is_called, stands, with_line, fields_of, IsKeyed, IsFieldCalled};
+ghost use Rattle.control_fields.specs.Names.{lower, is_called, stands, with_line, settled_last, fields_of, IsKeyed, IsFieldCalled};
 
 use crate::field::Field;
 use indexmap::IndexMap;
@@ -112,6 +112,17 @@ impl Paragraph {
             return Ok(());
         };
         last.more.push(text)
+    }
+
+    // Drops the blanks at the end of the last field's value.
+    pub(crate) fn settle(&mut self) -> Result<(), AllocError>
+        ensures { OnOk result (self.new ≡ settled_last self.old) }
+    {
+        let alloc = self.alloc;
+        let Some(last) = self.fields.last_mut() else {
+            return Ok(());
+        };
+        last.settle(alloc)
     }
 
     pub fn copy(&self) -> Result<Paragraph, AllocError>

@@ -1,12 +1,13 @@
 // Reading control text line by line.
 ghost use Rattle.std.specs.Prelude.{◌≡◌, ◌≤◌, ◌<◌, ◌↔◌, IsTrue, IfSome, IfNone, IfOk, OnOk, IfErr, List, length, None, false, [], ◌++◌, ◌∷◌};
-ghost use Rattle.control_fields.specs.Names.{Lacks, is_blank, trim_end, trim_start, IsName, stands, with_line, begin_line};
+ghost use Rattle.control_fields.specs.Names.{Lacks, settled_last, IsName, stands, with_line, begin_line};
 ghost use Rattle.control_fields.specs.Told.{told};
 ghost use Rattle.control_fields.specs.declared.field.Field.{Field as AField};
 ghost use Rattle.control_fields.specs.declared.reading.LineFault.TheVariants as line;
 ghost use Rattle.control_fields.specs.Grammar.{lines_of, field_of, Reading, start, nothing, with_last, Takes, Run, Reads, ReadsOne, paragraphs_of};
 ghost use Rattle.control_fields.specs.Faults.{IsFaultOf, IsFaultOfOne, IsReadTo, StopsAt, IsLineFault, IsFaultHere};
 
+use crate::blanks::{is_blank, trim_end, trim_start};
 use crate::fault::ControlFault;
 use crate::field::Field;
 use crate::located::{ControlText, Located};
@@ -75,40 +76,6 @@ fn cut(bytes: &[u8], mark: u8) -> Option<(&[u8], &[u8])>
     None
 }
 
-fn is_blank(b: u8) -> bool
-    ensures { result ≡ is_blank b }
-{
-    b == b' ' || b == b'\t'
-}
-
-// Without the spaces and tabs at the end.
-fn trim_end(line: &[u8]) -> &[u8]
-    ensures { result.now ≡ trim_end line.now }
-{
-    let mut rest = line;
-    while let [front @ .., last] = rest {
-        if !is_blank(*last) {
-            return rest;
-        }
-        rest = front;
-    }
-    rest
-}
-
-// Without the spaces and tabs at the start.
-fn trim_start(line: &[u8]) -> &[u8]
-    ensures { result.now ≡ trim_start line.now }
-{
-    let mut rest = line;
-    while let [first, behind @ ..] = rest {
-        if !is_blank(*first) {
-            return rest;
-        }
-        rest = behind;
-    }
-    rest
-}
-
 // Whether a field may have this name.
 fn is_name(name: &[u8]) -> bool
     ensures { IsTrue result ↔ IsName name.now }
@@ -128,21 +95,22 @@ fn close(alloc: Global, done: &mut Vec<Located>, begun: &mut Located) -> Result<
         begun.line = 0;
         return Ok(());
     }
+    begun.paragraph.settle()?;
     done.push(std::mem::replace(begun, Located::new(alloc)))?;
     Ok(())
 }
 
-// The last field goes on.
-fn add_line(alloc: Global, text: &[u8], begun: &mut Located) -> Result<(), AllocError>
+// The last field goes on with the line, as it stands.
+fn add_line(alloc: Global, line: &[u8], begun: &mut Located) -> Result<(), AllocError>
     ensures line { OnOk result (begun.new.line ≡ begun.old.line) }
     ensures paragraph { OnOk result ((front : List AField) (last : AField)
         → begun.old.paragraph ≡ front ++ last ∷ [] → begun.new.paragraph ≡ front ++ with_line last
-        text.now ∷ []) }
+        line.now ∷ []) }
 {
-    begun.paragraph.push_line(Bytes::from_slice(alloc, text)?)
+    begun.paragraph.push_line(Bytes::from_slice(alloc, line)?)
 }
 
-// A field begins on the line of this number.
+// A field begins on the line of this number, and the one before it has ended.
 fn add_field(
     alloc: Global,
     number: u64,
@@ -153,9 +121,10 @@ fn add_field(
     requires { stands name.now begun.old.paragraph ≡ false }
     ensures line { OnOk result (begun.new.line ≡ begin_line begun.old.paragraph begun.old.line
         number) }
-    ensures paragraph { OnOk result (begun.new.paragraph ≡ begun.old.paragraph ++ field_of name.now
-        value.now ∷ []) }
+    ensures paragraph { OnOk result (begun.new.paragraph ≡ settled_last begun.old.paragraph
+        ++ field_of name.now value.now ∷ []) }
 {
+    begun.paragraph.settle()?;
     begun.push(number, Field::one_line(alloc, name, trim_start(value))?)
 }
 
@@ -179,8 +148,7 @@ fn take_line(
     if std::str::from_utf8(line).is_err() {
         return Err(LineFault::Faulty(Kind::NotUtf8));
     }
-    let text = trim_end(line);
-    match text {
+    match trim_end(line) {
         [] => {
             close(alloc, done, begun)?;
             return Ok(());
@@ -189,11 +157,11 @@ fn take_line(
             if begun.paragraph.is_empty() {
                 return Err(LineFault::Faulty(Kind::OrphanContinuation));
             }
-            add_line(alloc, text, begun)?;
+            add_line(alloc, line, begun)?;
             return Ok(());
         }
         _ => {
-            let Some((name, value)) = cut(text, b':') else {
+            let Some((name, value)) = cut(line, b':') else {
                 return Err(LineFault::Faulty(Kind::NoColon));
             };
             if !is_name(name) {
@@ -312,11 +280,14 @@ pub fn read_located(alloc: Global, bytes: &[u8]) -> Result<ControlText, AllocErr
             fault: None,
         }),
         Err(ControlFault::NoMemory) => Err(AllocError),
-        Err(fault) => Ok(ControlText {
-            paragraphs,
-            begun,
-            fault: Some(fault),
-        }),
+        Err(fault) => {
+            begun.paragraph.settle()?;
+            Ok(ControlText {
+                paragraphs,
+                begun,
+                fault: Some(fault),
+            })
+        }
     }
 }
 

@@ -6,7 +6,7 @@ use Rattle.command_line.proofs.Told.{none_told}
 use Rattle.command_words.specs.Commands.{asked_of, rehearsal_of}
 use Rattle.dpkg_words.specs.Translated.{translated}
 use Rattle.dpkg_words.specs.declared.translation.Translated.{Translated}
-use Rattle.dpkg_words.specs.declared.translation.Translated.TheVariants.{Ours, Gathers, Prints, Selects, Refused}
+use Rattle.dpkg_words.specs.declared.translation.Translated.TheVariants.{Ours, Gathers, Prints, Selects, Clears, Refused}
 use Rattle.dpkg_cli.specs.Runs.{IsAnswered, IsDpkgAnswer, IsNamedAnswer, IsNamedAnswerBy, are_dpkgs}
 
 pub named_own : (model : Model) (words : List (List ℕ)) (status : ℕ) → are_dpkgs words ≡ false → IsAnswered model words status → IsNamedAnswer model words status
@@ -18,7 +18,8 @@ named_dpkg model words status e is = subst (λ (b : Bool). IsNamedAnswerBy b mod
 -- want of memory is an answer to all words
 pub want_answer : (model : Model) (come : Translated) → IsDpkgAnswer model come 2
 want_answer model (Ours words) = (0, 0, (memory_answer, _, none_told (rehearsal_of words) (asked_of words), inr (inl refl), inl refl))
-want_answer model (Gathers gathered) = inr refl
+want_answer model (Gathers gathered) = inr (inr refl)
 want_answer model (Prints printed) = inr refl
 want_answer model (Selects front) = inr refl
+want_answer model (Clears clearing) = inr (inr refl)
 want_answer model (Refused line) = refl

@@ -9,9 +9,11 @@ use Rattle.dpkg_words.specs.Selections.{selecting_words}
 use Rattle.dpkg_words.specs.Translated.{translated}
 use Rattle.dpkg_words.specs.declared.selections.Selected.{Selected}
 use Rattle.dpkg_words.specs.declared.selections.Selected.TheVariants as come
+use Rattle.dpkg_words.specs.Picking.{picks}
+use Rattle.dpkg_words.specs.declared.translation.Clearing.{Clearing}
 use Rattle.dpkg_words.specs.declared.translation.Gathered.{Gathered}
 use Rattle.dpkg_words.specs.declared.translation.Translated.{Translated}
-use Rattle.dpkg_words.specs.declared.translation.Translated.TheVariants.{Ours, Gathers, Prints, Selects, Refused}
+use Rattle.dpkg_words.specs.declared.translation.Translated.TheVariants.{Ours, Gathers, Prints, Selects, Clears, Refused}
 use Rattle.command_line.specs.Rehearsed.{IsEndOf}
 use Rattle.command_line.specs.Roots.{Around}
 
@@ -34,9 +36,16 @@ abbrev pub IsAnswered : Model → List (List ℕ) → ℕ → Type 0
 IsAnswered model words status = (before after : ℕ)
     × IsEndOf (around_real model (before < after)) (rehearsal_of words) (named_in words) (asked_of words) status
 
--- Words are answered that have some files behind them, which stand below the directories, unless none can be had.
+-- Words are answered that have some files behind them, unless none can be had. Nothing is done where all are passed over.
 abbrev pub IsGatheredAnswer : Model → Gathered → ℕ → Type 0
-IsGatheredAnswer model gathered status = ((files : List (List ℕ)) × IsAnswered model (behind_dashes gathered.front files) status) ⊎ (status ≡ 2)
+IsGatheredAnswer model gathered status =
+    ((files : List (List ℕ)) × IsAnswered model (behind_dashes gathered.front files) status)
+    ⊎ ((picks gathered.picking ≡ true) × (status ≡ 0)) ⊎ (status ≡ 2)
+
+-- The words are answered by which some packages are to go, unless there are none, or records can't be read.
+abbrev pub IsClearingAnswer : Model → Clearing → ℕ → Type 0
+IsClearingAnswer model clearing status =
+    ((names : List (List ℕ)) × IsAnswered model (behind_dashes clearing.front names) status) ⊎ (status ≡ 0) ⊎ (status ≡ 2)
 
 -- What a text selects: the words by which it is recorded are answered, nothing is run where no package is selected, and a line
 -- that can't be read ends with 2.
@@ -60,6 +69,7 @@ IsDpkgAnswer model (Ours words) status = IsAnswered model words status
 IsDpkgAnswer model (Gathers gathered) status = IsGatheredAnswer model gathered status
 IsDpkgAnswer model (Prints printed) status = (status ≡ printed.status) ⊎ (status ≡ 2)
 IsDpkgAnswer model (Selects front) status = IsSelectingAnswer model front status
+IsDpkgAnswer model (Clears clearing) status = IsClearingAnswer model clearing status
 IsDpkgAnswer model (Refused line) status = status ≡ 2
 
 -- whether words are dpkg's, by the program's name in front of them

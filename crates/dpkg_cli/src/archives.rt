@@ -1,4 +1,5 @@
-// Archives of packages: `dpkg-deb -R` unpacks each into a directory of its own, which is there while its tree is read.
+// Archives of packages: `dpkg-deb -R` unpacks each into a directory of its own, which is there while its tree is read. Where there
+// is no such program `ar` and `tar` do it.
 use std::fs::DirBuilder;
 use std::io::{Error, ErrorKind};
 use std::os::unix::fs::DirBuilderExt;
@@ -9,6 +10,24 @@ use std::{env, fs, io, process};
 const ROOM: &str = "/var/lib/dpkg/tmp.trees";
 
 const UNPACKER: &str = "dpkg-deb";
+
+// What `dpkg-deb -R` does, of an archive and a directory that isn't there yet. A member lies beside that while it is read, so that tar
+// sees by itself how it is compressed.
+const BY_TAR: &str = "set -e
+member=$2.member
+mkdir \"$2\" \"$2/DEBIAN\"
+for name in $(ar t \"$1\")
+do
+  case $name in
+    control.tar*) place=$2/DEBIAN ;;
+    data.tar*) place=$2 ;;
+    *) continue ;;
+  esac
+  ar p \"$1\" \"$name\" >\"$member\"
+  tar --extract --preserve-permissions --numeric-owner --file \"$member\" --directory \"$place\"
+  rm \"$member\"
+done
+[ -f \"$2/DEBIAN/control\" ]";
 
 /// Where archives are unpacked.
 #[derive(Drop)]
@@ -43,15 +62,35 @@ fn room_elsewhere(rt: &HostRuntime) -> io::Result<String> {
     Ok(format!(in rt.alloc(); "{}/coizkerra-{number}", directory.as_str())?)
 }
 
-// The tool tells a person itself why it fails.
-fn unpack(rt: &HostRuntime, archive: &str, tree: &str) -> io::Result<ExitStatus> {
-    let mut command = Command::new(rt.alloc(), UNPACKER)?;
-    command.arg("--raw-extract")?;
+// Gives a command the archive and the directory. The tool tells a person itself why it fails.
+fn run(
+    rt: &HostRuntime,
+    mut command: Command,
+    archive: &str,
+    tree: &str,
+) -> io::Result<ExitStatus> {
     command.arg(archive)?;
     command.arg(tree)?;
     command.stdin(Stdio::null());
     command.stdout(Stdio::null());
     command.status(rt)
+}
+
+fn unpack_by_tar(rt: &HostRuntime, archive: &str, tree: &str) -> io::Result<ExitStatus> {
+    let mut command = Command::new(rt.alloc(), "/bin/sh")?;
+    command.arg("-c")?;
+    command.arg(BY_TAR)?;
+    command.arg("sh")?;
+    run(rt, command, archive, tree)
+}
+
+fn unpack(rt: &HostRuntime, archive: &str, tree: &str) -> io::Result<ExitStatus> {
+    let mut command = Command::new(rt.alloc(), UNPACKER)?;
+    command.arg("--raw-extract")?;
+    match run(rt, command, archive, tree) {
+        Err(error) if error.kind() == ErrorKind::NotFound => unpack_by_tar(rt, archive, tree),
+        ended => ended,
+    }
 }
 
 impl Archives {
@@ -87,7 +126,7 @@ impl Archives {
         if unpack(rt, archive, tree.as_str())?.success() {
             return Ok(tree);
         }
-        Err(Error::other("dpkg-deb can't unpack it"))
+        Err(Error::other("the archive can't be unpacked"))
     }
 
     /// The tree of a word that names a file: an archive, which is unpacked. The one before it goes; of no other word is there one.

@@ -3,10 +3,10 @@ ghost use Rattle.std.specs.Prelude.{◌≡◌, ◌≤◌, ◌<◌, [], ⊤, IfOk
 ghost use Rattle.host_core.specs.declared.fault.HostFault.TheVariants.{Declined, Device};
 ghost use Rattle.command_line.specs.declared.fault.RootFault.TheVariants.{Host as OfHost};
 
-use crate::architectures::Architectures;
 use crate::archives::Archives;
 use crate::locks::{Held, locks_of};
 use crate::progress::Line;
+use crate::records::Records;
 use crate::watched::Watched;
 use command_line::{Hosts, RootFault, ScriptStreams, TreeOwners};
 use host_core::HostFault;
@@ -172,7 +172,7 @@ impl<'a, D: Disk> Directories<'a, D> {
         Watched {
             host,
             line: self.line,
-            architectures: Architectures::new(self.rt.alloc()),
+            records: Records::new(self.rt.alloc()),
             written: None,
         }
     }
@@ -308,6 +308,7 @@ impl<'a, D: Disk> Hosts for Directories<'a, D> {
 
     fn open_tree(&mut self, tree: &str, owners: TreeOwners) -> Result<Watched<'a, D>, HostFault> {
         self.line.show_tree(tree, self.trees);
+        self.line.frontend.begin_tree();
         self.trees = self.trees.saturating_add(1);
         let unpacked = self.place_of(tree)?;
         let place = match &unpacked {

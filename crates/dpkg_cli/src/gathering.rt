@@ -57,6 +57,15 @@ fn gather(rt: &HostRuntime, directory: &str, found: &mut Texts) -> io::Result<()
     Err(Error::new(ErrorKind::FileTooLarge, "more than 1,048,576 files"))
 }
 
+/// These files themselves.
+pub(crate) fn copies_of(rt: &HostRuntime, files: &[Text]) -> io::Result<Texts> {
+    let mut copies = Texts::new(rt.alloc());
+    for file in files {
+        copies.push(file.copy()?)?;
+    }
+    Ok(copies)
+}
+
 /// The archives (`*.deb`, as dpkg has it) below these directories, each directory's in the order of names. Links are followed.
 pub(crate) fn archives_below(rt: &HostRuntime, directories: &[Text]) -> io::Result<Texts> {
     let mut found = Texts::new(rt.alloc());

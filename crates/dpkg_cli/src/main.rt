@@ -8,45 +8,58 @@
 //! not all of that could be written (`answered`: `IsAnswered`). Where the program has one of dpkg's
 //! names its words are dpkg's: `run_named` ends with the status of the answer to what they are
 //! translated to by the definition of dpkg_words (`IsNamedAnswer`). `code_of` says that the program
-//! ends with that status; that `main` calls these is read.
+//! ends with that status; that `main` calls these is read. What a unit begins with (`begun_stage`), the
+//! lines of `--status-fd` and `--log`, and which archives are passed over (`pick_of`) are their
+//! definitions in specs/; that they are told of what is noted is read.
 #![tactic(auto)]
 
-ghost use Rattle.std.specs.Prelude.{◌≡◌, ◌≤◌, ◌⊎◌, IfSome, map, string_bytes};
+ghost use Rattle.std.specs.Prelude.{◌≡◌, ◌≤◌, ◌⊎◌, [], IfSome, map, string_bytes, true};
 ghost use Rattle.std.specs.Process.{exit_status};
+ghost use Rattle.dpkg_words.specs.Picking.{picks};
 ghost use Rattle.dpkg_words.specs.Translated.{translated};
-ghost use Rattle.dpkg_cli.specs.Runs.{IsAnswered, IsDpkgAnswer, IsGatheredAnswer, IsNamedAnswer, IsSelectedAnswer, IsSelectingAnswer, IsTextAnswer, are_dpkgs};
+ghost use Rattle.dpkg_cli.specs.Runs.{IsAnswered, IsClearingAnswer, IsDpkgAnswer, IsGatheredAnswer, IsNamedAnswer, IsSelectedAnswer, IsSelectingAnswer, IsTextAnswer, are_dpkgs};
 
-mod architectures;
 mod archives;
 mod directories;
 mod fixed_lines;
+mod frontends;
 mod gathering;
 mod locks;
+mod log;
 mod mask;
+mod objects;
+mod picking;
 mod progress;
+mod recorded;
+mod records;
+mod stages;
 mod standard_streams;
-mod status_fd;
 mod terminal;
 mod watched;
 
 use command_line::{FAILED, run_words};
 use directories::Directories;
 use dpkg_words::{
-    Gathered, OwnWords, Printed, Selected, Translated, selecting_words, speaks_dpkg, translate,
+    Clearing, Gathered, OwnWords, Printed, Selected, Translated, selecting_words, speaks_dpkg,
+    translate,
 };
 use fixed_lines::FixedLines;
-use gathering::archives_below;
+use frontends::Frontends;
+use gathering::{archives_below, copies_of};
 use host_files::{Disk, Unknown};
-use mask::{Masked, status_fd_before, status_fd_of, under_mask};
+use mask::{Masked, under_mask};
+use objects::{Objects, kind_for};
+use picking::picked;
 use progress::{Beside, Going, Line, going_through};
+use recorded::cleared;
 use standard_streams::fill_missing;
-use status_fd::StatusFd;
 use std::cell::Cell;
 use std::io::{ErrorKind, Input, IsTerminal, Read, Write};
 use std::process::ExitCode;
 use std::rt::Env;
 use std::{env, io};
 use terminal::{columns_of, renews_lines};
+use texts::{Text, Texts};
 
 fn words_of<R: Env + AllocGlobal>(rt: &R) -> io::Result<Vec<String>> {
     Ok(env::args(rt)?.collect(rt.alloc())?)
@@ -65,11 +78,12 @@ fn line_of<'a>(
     rt: HostRuntime,
     going: Option<Going>,
     told: &'a Cell<usize>,
-    frontend: &'a StatusFd,
+    frontend: &'a Frontends,
 ) -> Line<'a> {
     let is_shown = going.is_some() && renews_lines(&rt);
     Line {
         rt,
+        going_on: going,
         going: if is_shown { going } else { None },
         columns: if is_shown { columns_of(&rt) } else { 0 },
         told,
@@ -87,35 +101,46 @@ fn are_dpkgs(words: &[String]) -> bool
     }
 }
 
-// The frontend that dpkg's words name, these or those of the program that started this one anew.
-fn frontend_of(rt: &HostRuntime) -> StatusFd {
-    if let Some(number) = status_fd_before(rt) {
-        return StatusFd::open(rt, number.as_str());
+// Opens what the words name that is told beside the lines, and begins a log.
+fn frontends_of(
+    rt: &HostRuntime,
+    going: Option<Going>,
+    words: &[String],
+) -> Result<Frontends, String> {
+    let installs = match going {
+        Some(going) => going.installs(),
+        None => false,
+    };
+    let frontends = Frontends::open(rt, words, installs)?;
+    if let Some(going) = going {
+        frontends.log(going.startup());
     }
-    match words_of(rt) {
-        Ok(words) => match status_fd_of(words.as_slice()) {
-            Some(number) => StatusFd::open(rt, number),
-            None => StatusFd::none(rt.alloc()),
-        },
-        Err(_) => StatusFd::none(rt.alloc()),
-    }
+    Ok(frontends)
 }
 
 // What the words ask for, over real directories. Where a person looks on there is the line of progress beside it, and the line
 // behind `damaged` that tells what was expected; a program that reads standard error gets the fixed lines alone.
-fn run<D: Disk>(rt: HostRuntime, going: Option<Going>, words: &[String]) -> u8
+fn run_telling<D: Disk>(
+    rt: HostRuntime,
+    going: Option<Going>,
+    words: &[String],
+    frontends: &Frontends,
+) -> u8
     ensures bound { result ≤ 2 }
     ensures answered { IsAnswered D.Disk.model (map string_bytes words.now) result }
 {
     let stderr = rt.stderr();
     let person = stderr.is_terminal();
     let told = Cell::new(0);
-    let frontend = frontend_of(&rt);
-    let line = line_of(rt, going, &told, &frontend);
+    let line = line_of(rt, going, &told, frontends);
     let mut hosts = Directories::<D>::new(rt, line);
     let mut out = Beside {
         line,
-        writer: io::writer(&rt),
+        writer: Objects {
+            alloc: rt.alloc(),
+            kind: kind_for(rt.alloc(), words),
+            writer: io::writer(&rt),
+        },
         tells: true,
     };
     let mut err = Beside {
@@ -131,6 +156,17 @@ fn run<D: Disk>(rt: HostRuntime, going: Option<Going>, words: &[String]) -> u8
     hosts.tell_failure();
     hosts.drop_archives();
     status
+}
+
+// The same, unless a descriptor that the words name isn't open.
+fn run<D: Disk>(rt: HostRuntime, going: Option<Going>, words: &[String]) -> u8
+    ensures bound { result ≤ 2 }
+    ensures answered { IsAnswered D.Disk.model (map string_bytes words.now) result }
+{
+    match frontends_of(&rt, going, words) {
+        Ok(frontends) => run_telling::<D>(rt, going, words, &frontends),
+        Err(line) => refuse(rt, line.as_str()),
+    }
 }
 
 // A status, as a program ends with it.
@@ -208,20 +244,84 @@ fn run_selecting<D: Disk, R: Read + Drop>(
     }
 }
 
-// The words with the archives behind them that stand below directories.
+// The files that are given, or the archives below them, or why there are none.
+fn files_of(rt: &HostRuntime, gathered: &Gathered) -> Result<Texts, &'static str> {
+    let given = gathered.files.as_slice();
+    let found = if gathered.recursive {
+        archives_below(rt, given)
+    } else {
+        copies_of(rt, given)
+    };
+    match found {
+        Ok(found) if found.as_slice().is_empty() => {
+            Err("error: no archive (*.deb) stands below the directories\n")
+        }
+        Ok(found) => Ok(found),
+        Err(_) => Err("error: a directory behind --recursive can't be read\n"),
+    }
+}
+
+// The words with these files behind them, of which there are some unless all were passed over.
+fn run_files<D: Disk>(
+    rt: HostRuntime,
+    going: Option<Going>,
+    gathered: &Gathered,
+    files: &[Text],
+) -> u8
+    requires { files.now ≡ [] → picks gathered.now.picking ≡ true }
+    ensures { IsGatheredAnswer D.Disk.model gathered.now result }
+{
+    if files.is_empty() {
+        return 0;
+    }
+    match gathered.front.copy_with(files) {
+        Ok(words) => run::<D>(rt, going, words.as_slice()),
+        Err(_) => refuse(rt, "broken memory\n"),
+    }
+}
+
+// Those of the files that aren't passed over.
+fn run_picked<D: Disk>(
+    rt: HostRuntime,
+    going: Option<Going>,
+    gathered: &Gathered,
+    files: &[Text],
+) -> u8
+    ensures { IsGatheredAnswer D.Disk.model gathered.now result }
+{
+    if !gathered.picking.picks() {
+        if files.is_empty() {
+            return refuse(rt, "error: there are no files\n");
+        }
+        return run_files::<D>(rt, going, gathered, files);
+    }
+    match picked(&rt, gathered, files) {
+        Ok(taken) => run_files::<D>(rt, going, gathered, taken.as_slice()),
+        Err(_) => refuse(rt, "error: the records can't be read\n"),
+    }
+}
+
+// The words with the files behind them that are found.
 fn run_gathered<D: Disk>(rt: HostRuntime, going: Option<Going>, gathered: &Gathered) -> u8
     ensures { IsGatheredAnswer D.Disk.model gathered.now result }
 {
-    let Ok(found) = archives_below(&rt, gathered.directories.as_slice()) else {
-        return refuse(rt, "error: a directory behind --recursive can't be read\n");
-    };
-    if found.as_slice().is_empty() {
-        return refuse(
-            rt,
-            "error: no archive (*.deb) stands below the directories\n",
-        );
+    match files_of(&rt, gathered) {
+        Ok(files) => run_picked::<D>(rt, going, gathered, files.as_slice()),
+        Err(line) => refuse(rt, line),
     }
-    match gathered.front.copy_with(found.as_slice()) {
+}
+
+// The words by which all packages are to go that aren't essential.
+fn run_clearing<D: Disk>(rt: HostRuntime, going: Option<Going>, clearing: &Clearing) -> u8
+    ensures { IsClearingAnswer D.Disk.model clearing.now result }
+{
+    let Ok(names) = cleared(&rt, clearing.root.as_str()) else {
+        return refuse(rt, "error: the records can't be read\n");
+    };
+    if names.as_slice().is_empty() {
+        return 0;
+    }
+    match clearing.front.copy_with(names.as_slice()) {
         Ok(words) => run::<D>(rt, going, words.as_slice()),
         Err(_) => refuse(rt, "broken memory\n"),
     }
@@ -236,6 +336,7 @@ fn run_translated<D: Disk>(rt: HostRuntime, going: Option<Going>, translated: &T
         Translated::Gathers(gathered) => run_gathered::<D>(rt, going, gathered),
         Translated::Prints(printed) => print(rt, printed),
         Translated::Selects(front) => run_selecting::<D, _>(rt, going, front, rt.reader()),
+        Translated::Clears(clearing) => run_clearing::<D>(rt, going, clearing),
         Translated::Refused(line) => refuse(rt, line.as_str()),
     }
 }
@@ -276,7 +377,7 @@ fn begin_gathered(
     given: &[String],
     gathered: &Gathered,
 ) -> (Option<Going>, Masked) {
-    match gathered.front.copy_with(gathered.directories.as_slice()) {
+    match gathered.front.copy_with(gathered.files.as_slice()) {
         Ok(own) => begin(rt, given, own.as_slice()),
         Err(_) => (None, Masked::Here),
     }

@@ -1,6 +1,6 @@
 // The mask under which scripts make files. The program has no call that sets it, so it starts itself once more below a shell
 // that does.
-use dpkg_words::{speaks_dpkg, status_fd};
+use dpkg_words::speaks_dpkg;
 use std::os::fd::AsFd;
 use std::process::{Child, Command, Stdio};
 use std::{env, fs, io};
@@ -14,9 +14,6 @@ const SHELL: &str = "/bin/sh";
 
 // That the mask was set, so that the program starts itself no more than once.
 const MARK: &str = "COIZKERRA_UMASK_SET";
-
-// The descriptor that dpkg's words named, whatever words the program has that is started by them.
-const FRONTEND: &str = "COIZKERRA_STATUS_FD";
 
 /// How the words are carried out so that scripts have the mask.
 #[derive(Drop)]
@@ -52,7 +49,7 @@ fn is_marked(rt: &HostRuntime) -> bool {
     env::var(rt, MARK).is_ok()
 }
 
-/// The number of the program that started this one anew for the mask, if one did.
+/// The number of the program that started this one anew for the mask, if one did: it has the descriptors that this one lacks.
 pub(crate) fn parent_of(rt: &HostRuntime) -> Option<String> {
     if !is_marked(rt) {
         return None;
@@ -73,22 +70,6 @@ fn is_dpkg_still(program: &str, given: &[String]) -> io::Result<bool> {
     }
 }
 
-/// The descriptor that dpkg's words name.
-pub(crate) fn status_fd_of(given: &[String]) -> Option<&str> {
-    match given.first() {
-        Some(name) if speaks_dpkg(name.as_str()) => status_fd(given),
-        _ => None,
-    }
-}
-
-/// The descriptor that the words named of the program that started this one anew for the mask.
-pub(crate) fn status_fd_before(rt: &HostRuntime) -> Option<String> {
-    if !is_marked(rt) {
-        return None;
-    }
-    env::var(rt, FRONTEND).ok()
-}
-
 // The shell that sets the mask and becomes this program, which is given the same words but for its name: by its path it has
 // another, so that dpkg's words are given as they were or in the program's own.
 fn masking(rt: &HostRuntime, given: &[String], own: &[String]) -> io::Result<Command> {
@@ -107,9 +88,6 @@ fn masking(rt: &HostRuntime, given: &[String], own: &[String]) -> io::Result<Com
         command.arg(word.as_str())?;
     }
     command.env(MARK, "1")?;
-    if let Some(number) = status_fd_of(given) {
-        command.env(FRONTEND, number)?;
-    }
     Ok(command)
 }
 

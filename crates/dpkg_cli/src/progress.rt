@@ -1,7 +1,8 @@
 // What is being done and how far it is: one line on standard error that is renewed, where that stream is a terminal.
 ghost use Rattle.std.specs.Prelude.{◌≡◌};
 
-use crate::status_fd::StatusFd;
+use crate::frontends::Frontends;
+use crate::stages::Phase;
 use command_words::{Asked, command_of, rehearsal_of};
 use shown_lines::shown;
 use std::alloc::{AllocError, Global};
@@ -13,6 +14,10 @@ use texts::Texts;
 #[derive(Clone, Copy)]
 pub(crate) struct Going {
     verb: &'static str,
+    /// How a log names it.
+    startup: &'static str,
+    /// What its units do, but for those of trees.
+    phase: Phase,
     /// How many trees or names it has; 0 where it finds the packages itself.
     all: usize,
     /// Trees are shown as they are opened.
@@ -25,13 +30,15 @@ pub(crate) struct Going {
 #[derive(Clone, Copy)]
 pub(crate) struct Line<'a> {
     pub(crate) rt: HostRuntime,
+    /// What the command goes through, also where no line shows it.
+    pub(crate) going_on: Option<Going>,
     pub(crate) going: Option<Going>,
     /// How many columns the terminal has for it.
     pub(crate) columns: usize,
     /// How many units are told.
     pub(crate) told: &'a Cell<usize>,
     /// Where a frontend is told what is noted.
-    pub(crate) frontend: &'a StatusFd,
+    pub(crate) frontend: &'a Frontends,
 }
 
 /// A stream beside which the line stands: what is written takes the line's place.
@@ -43,22 +50,65 @@ pub(crate) struct Beside<'a, W: Write> {
     pub(crate) tells: bool,
 }
 
-fn trees(verb: &'static str, words: &Texts, then: Option<&'static str>) -> Option<Going> {
+fn trees(startup: &'static str, words: &Texts, then: Option<&'static str>) -> Option<Going> {
+    let phase = match then {
+        Some(_) => Phase::Configuring,
+        None => Phase::Processing,
+    };
     Some(Going {
-        verb,
+        verb: "unpacking",
+        startup,
+        phase,
         all: words.as_slice().len(),
         trees: true,
         then,
     })
 }
 
-fn names(verb: &'static str, all: usize) -> Option<Going> {
+fn names(verb: &'static str, startup: &'static str, phase: Phase, all: usize) -> Option<Going> {
     Some(Going {
         verb,
+        startup,
+        phase,
         all,
         trees: false,
         then: None,
     })
+}
+
+fn configuring(all: usize) -> Option<Going> {
+    names(
+        "configuring",
+        "startup packages configure",
+        Phase::Configuring,
+        all,
+    )
+}
+
+fn removing(all: usize) -> Option<Going> {
+    names("removing", "startup packages remove", Phase::Removing, all)
+}
+
+fn removing_selected() -> Option<Going> {
+    names(
+        "removing",
+        "startup packages remove",
+        Phase::RemovingSelected,
+        0,
+    )
+}
+
+fn purging(all: usize) -> Option<Going> {
+    names("purging", "startup packages purge", Phase::Removing, all)
+}
+
+fn processing() -> Option<Going> {
+    names(
+        "processing triggers of",
+        "startup packages triggers-only",
+        Phase::Processing,
+        0,
+    )
 }
 
 /// What the words of a command go through, if it has units and there is memory to read them. A rehearsal goes through nothing.
@@ -71,16 +121,20 @@ pub(crate) fn going_through(alloc: Global, words: &[String]) -> Option<Going> {
 
 fn going_of(alloc: Global, words: &[String]) -> Option<Going> {
     match command_of(alloc, words) {
-        Ok(Asked::Unpack(asked)) => trees("unpacking", &asked.trees, None),
-        Ok(Asked::Install(asked)) => trees("unpacking", &asked.trees, Some("configuring")),
+        Ok(Asked::Unpack(asked)) => trees("startup archives unpack", &asked.trees, None),
+        Ok(Asked::Install(asked)) => trees(
+            "startup archives install",
+            &asked.trees,
+            Some("configuring"),
+        ),
         Ok(Asked::Configure(asked)) => match &asked.names {
-            Some(given) => names("configuring", given.as_slice().len()),
-            None => names("configuring", 0),
+            Some(given) => configuring(given.as_slice().len()),
+            None => configuring(0),
         },
-        Ok(Asked::Remove(asked)) => names("removing", asked.names.as_slice().len()),
-        Ok(Asked::Purge(asked)) => names("purging", asked.names.as_slice().len()),
-        Ok(Asked::RemoveSelected(_)) => names("removing", 0),
-        Ok(Asked::ProcessTriggers(_)) => names("processing triggers of", 0),
+        Ok(Asked::Remove(asked)) => removing(asked.names.as_slice().len()),
+        Ok(Asked::Purge(asked)) => purging(asked.names.as_slice().len()),
+        Ok(Asked::RemoveSelected(_)) => removing_selected(),
+        Ok(Asked::ProcessTriggers(_)) => processing(),
         _ => None,
     }
 }
@@ -115,7 +169,38 @@ fn step_text(
     format!(in alloc; "{verb} {name} ({at} of {all})")
 }
 
+impl Going {
+    /// How a log begins.
+    pub(crate) fn startup(self) -> &'static str {
+        self.startup
+    }
+
+    // What the next unit does, behind so many: behind the removal of those that were named triggers are processed.
+    fn phase_at(self, told: usize) -> Phase {
+        match self.phase {
+            Phase::Removing if told >= self.all => Phase::Processing,
+            phase => phase,
+        }
+    }
+
+    /// Whether what is configured came by the same command.
+    pub(crate) fn installs(self) -> bool {
+        self.then.is_some()
+    }
+}
+
 impl<'a> Line<'a> {
+    /// What the unit that goes on does.
+    pub(crate) fn phase(self) -> Phase {
+        if self.frontend.in_tree() {
+            return Phase::Unpacking;
+        }
+        match self.going_on {
+            Some(going) => going.phase_at(self.told.get()),
+            None => Phase::Other,
+        }
+    }
+
     /// Takes the line away.
     pub(crate) fn clear(self) {
         if self.going.is_some() {
@@ -174,7 +259,7 @@ impl<'a, W: Write> Write for Beside<'a, W> {
         self.line.clear();
         if self.tells {
             self.line.count();
-            self.line.frontend.tell_replies(buf);
+            self.line.frontend.end_unit(buf);
         }
         self.writer.write(buf)
     }

@@ -1,9 +1,9 @@
 // A host beside which the line of progress stands.
 ghost use Rattle.std.specs.Prelude.{◌≡◌};
 
-use crate::architectures::Architectures;
+use crate::frontends::Told;
 use crate::progress::Line;
-use crate::status_fd::lines_of_note;
+use crate::records::Records;
 use host_core::{Access, Call, Host, HostFault, Keep, Kind, Listing, Node, Outcome, RootPath};
 use host_files::{Disk, FilesHost};
 use std::str::from_utf8;
@@ -15,9 +15,9 @@ use texts::Text;
 pub(crate) struct Watched<'a, D: Disk> {
     pub(crate) host: FilesHost<D>,
     pub(crate) line: Line<'a>,
-    pub(crate) architectures: Architectures,
+    pub(crate) records: Records,
     /// What a frontend is to be told of the note that was written last, once it has its name.
-    pub(crate) written: Option<String>,
+    pub(crate) written: Option<Told>,
 }
 
 fn is_note(path: &RootPath) -> bool {
@@ -40,33 +40,51 @@ fn package_in(record: &[u8]) -> Option<&str> {
     from_utf8(line.strip_prefix(b"Package: ")?).ok()
 }
 
-// Takes from what is read or noted which architectures records have.
-fn learn(architectures: &mut Architectures, path: &RootPath, node: &Node) {
-    if let Some(records) = records_in(path, node) {
-        architectures.learn(records);
+// Takes from what is read or noted what is known of records, and of the tree that is opened.
+fn learn(records: &mut Records, line: Line<'_>, path: &RootPath, node: &Node) {
+    if let Some(read) = records_in(path, node) {
+        records.learn(read);
+    }
+    if path.as_str() == "/DEBIAN/control" {
+        if let Node::File { bytes, .. } = node {
+            line.frontend.learn_tree(bytes.as_slice());
+        }
     }
 }
 
 // Keeps what a frontend is to be told of a note.
-fn keep(written: &mut Option<String>, line: Line<'_>, path: &RootPath, node: &Node) {
+fn keep(
+    written: &mut Option<Told>,
+    line: Line<'_>,
+    records: &Records,
+    path: &RootPath,
+    node: &Node,
+) {
     if !is_note(path) || !line.frontend.is_open() {
         return;
     }
-    let alloc = line.rt.alloc();
-    *written = records_in(path, node).and_then(|record| lines_of_note(alloc, record));
+    *written = match records_in(path, node) {
+        Some(record) => line.frontend.told_of(line.phase(), records, record),
+        None => None,
+    };
 }
 
 // Tells it, once the note has its name.
-fn tell(written: &mut Option<String>, line: Line<'_>, path: &RootPath) {
+fn tell(written: &mut Option<Told>, line: Line<'_>, path: &RootPath) {
     if !is_note(path) {
         return;
     }
-    if let Some(lines) = written.take() {
-        line.frontend.tell(lines.as_str());
+    if let Some(told) = written.take() {
+        line.frontend.tell_note(&told);
     }
 }
 
 impl<'a, D: Disk> Watched<'a, D> {
+    fn architecture_of(&self, package: &str) -> Option<String> {
+        let architecture = self.records.architecture_of(package)?;
+        String::from_str(self.line.rt.alloc(), architecture).ok()
+    }
+
     fn show(&self, path: &RootPath, node: &Node) {
         if !is_note(path) {
             return;
@@ -89,7 +107,7 @@ impl<'a, D: Disk> Host for Watched<'a, D> {
     fn node(&mut self, path: &RootPath) -> Result<Option<Node>, HostFault> {
         let found = self.host.node(path);
         if let Ok(Some(node)) = &found {
-            learn(&mut self.architectures, path, node);
+            learn(&mut self.records, self.line, path, node);
         }
         found
     }
@@ -104,8 +122,8 @@ impl<'a, D: Disk> Host for Watched<'a, D> {
 
     fn write_new(&mut self, path: &RootPath, node: &Node) -> Result<(), HostFault> {
         self.show(path, node);
-        keep(&mut self.written, self.line, path, node);
-        learn(&mut self.architectures, path, node);
+        keep(&mut self.written, self.line, &self.records, path, node);
+        learn(&mut self.records, self.line, path, node);
         self.host.write_new(path, node)
     }
 
@@ -159,7 +177,7 @@ impl<'a, D: Disk> Host for Watched<'a, D> {
 
     fn run(&mut self, call: &Call, keep: &Keep<'_>) -> Result<Outcome, HostFault> {
         self.line.clear();
-        let architecture = self.architectures.of(call.package.as_str());
+        let architecture = self.architecture_of(call.package.as_str());
         self.host.set_architecture(architecture);
         self.host.run(call, keep)
     }

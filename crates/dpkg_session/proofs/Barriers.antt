@@ -1,5 +1,5 @@
 -- A barrier behind what was done.
-use Rattle.std.proofs.Common.{◌≡◌, List, [], ◌∷◌, Option, Some, None, Result, length, sym, subst, ◌∙◌}
+use Rattle.std.proofs.Common.{◌≡◌, List, [], ◌∷◌, Option, Some, None, Result, inl, inr, length, sym, subst, ◌∙◌}
 use Rattle.administration.specs.Fault.{fault_of}
 use Rattle.administration.specs.declared.fault.AdministrationFault.{AdministrationFault}
 use Rattle.undo_rows.specs.Telling.{Begun}
@@ -108,17 +108,19 @@ opens_stopped fault given old now later is same all = by all.found all.opens all
     sound Declined damaged = damaged
 
     by : (found : Option AdministrationFault) → OpensAndMerges found old all.read → TakesUp found None all.read now → OpensAndAdopts (Some given) old later
-    by None opens takes = record {
+    by None opens (inl refused) = absurd refused
+    by None opens (inr takes) = record {
       read = all.read;
       found = None;
       opens = opens;
-      takes = record {
+      takes = inr (record {
         sound = λ damaged. sound fault (subst (λ f. IsDamaged (Some f)) is damaged);
         ways = takes.ways;
         table = takes.table;
         records = takes.records;
+        one = takes.one;
         adopting = subst (IsAdopting takes.ways takes.table all.read) (sym same) takes.adopting;
-      };
+      });
     }
     by (Some f) opens takes = absurd (let e : None ≡ Some f = takes.0 in cc)
 

@@ -26,6 +26,7 @@ use Rattle.configure_run.specs.Asked.{each_once}
 use Rattle.configure_run.specs.Early.{AreRefused, AreSomeRefused, early_refusals}
 use Rattle.configure_run.specs.Run.{HasRun, IsAmidRun, IsConfigureRun}
 use Rattle.configure_run.specs.Turns.{ConfiguresTo, IsConfigured, IsUnit, IsUnitFor}
+use Rattle.configure_run.specs.declared.options.ConfigureOptions.{ConfigureOptions}
 use Rattle.dpkg_session.specs.Diversions.{HasBroken, IsBrokenDiversion}
 use Rattle.dpkg_session.proofs.Carries.{Carries, carries_here, carries_reads, carries_refused, carries_stages, carries_then}
 use Rattle.unit_stages.specs.declared.stage.Stage.{Stage}
@@ -96,16 +97,16 @@ unit_carries : (policy : ConfPolicy) (packages : List Package) (p : Package) (be
 unit_carries policy packages p before after u s t (IsUnit.broken y first refused) = carries_refused _ p.name before after u s t refused
 unit_carries policy packages p before after u s t (IsUnit.unbroken none is) = for_carries policy p.name before after u s t is
 
-turns_carry : (policy : ConfPolicy) (silent : ℕ → Bool) (start : Waiting) (before : Held) (s : State) (us : List AUnit) (q : Waiting) (after : Held) (t : State) → ConfiguresTo policy silent start before s us q after t → Carries before after s t
-turns_carry policy silent start before s us q after t TurnsTo.begun = carries_here before s
-turns_carry policy silent start before s us q after t (TurnsTo.turned done u mid_q later mid ends m end come turn) =
-    carries_then before mid after s m t (turns_carry policy silent start before s done mid_q mid m come) (unit_carries policy mid_q.packages turn.p mid after u m t turn.is)
+turns_carry : (options : ConfigureOptions) (silent : ℕ → Bool) (start : Waiting) (before : Held) (s : State) (us : List AUnit) (q : Waiting) (after : Held) (t : State) → ConfiguresTo options silent start before s us q after t → Carries before after s t
+turns_carry options silent start before s us q after t TurnsTo.begun = carries_here before s
+turns_carry options silent start before s us q after t (TurnsTo.turned done u mid_q later mid ends m end come turn) =
+    carries_then before mid after s m t (turns_carry options silent start before s done mid_q mid m come) (unit_carries options.policy mid_q.packages turn.p mid after u m t turn.is)
 
-pub configure_carries : (names : List (List ℕ)) (policy : ConfPolicy) (us : List AUnit) (before after : Held) (s t : State) → IsConfigureRun names policy us before after s t → Carries before after s t
-configure_carries names policy us before after s t run =
+pub configure_carries : (names : List (List ℕ)) (options : ConfigureOptions) (us : List AUnit) (before after : Held) (s t : State) → IsConfigureRun names options us before after s t → Carries before after s t
+configure_carries names options us before after s t run =
     let turned = run.turns.turned in
     carries_then before before after s run.looked t (carries_reads before s run.looked run.begins.looks)
-    (turns_carry policy run.silent run.start before run.looked turned.turned run.turns.q after t turned.come)
+    (turns_carry options run.silent run.start before run.looked turned.turned run.turns.q after t turned.come)
 
 -- there was no memory for the names
 
@@ -115,12 +116,12 @@ reads_here s = record { honest = λ h. h; world = refl; added = []; failed = tt;
 none_refused : (names : List (List ℕ)) (before : Held) (us : List AUnit) → us ≡ [] → AreSomeRefused (early_refusals before.records.records (each_once names)) us
 none_refused names before us none = record { done = []; rest = early_refusals before.records.records (each_once names); are = refl; refused = subst (AreRefused []) (sym none) tt }
 
-pub not_begun : (names : List (List ℕ)) (policy : ConfPolicy) (before : Held) (s : State) (report : Report) → HasBroken report → is_some report.last ≡ true → HasRun names policy report.units.items report.last before s s
-not_begun names policy before s report broken some = by report.last broken some
+pub not_begun : (names : List (List ℕ)) (options : ConfigureOptions) (before : Held) (s : State) (report : Report) → HasBroken report → is_some report.last ≡ true → HasRun names options report.units.items report.last before s s
+not_begun names options before s report broken some = by report.last broken some
   where
-    by : (last : Option AUnit) → IfSome last (λ u. (report.units.items ≡ []) × IsBrokenDiversion u) → is_some last ≡ true → HasRun names policy report.units.items last before s s
+    by : (last : Option AUnit) → IfSome last (λ u. (report.units.items ≡ []) × IsBrokenDiversion u) → is_some last ≡ true → HasRun names options report.units.items last before s s
     by None is none = cc
     by (Some u) is there = HasRun.refusing (none_refused names before report.units.items is.0) (reads_here s) (record { broken = is.1.broken; untouched = is.1.touched; none = no_calls u s is.1.calls })
 
-pub still_moments : (names : List (List ℕ)) (policy : ConfPolicy) (before : Held) (s : State) → Since (IsAmidRun names policy before s) s s
-still_moments names policy before s = since_start (IsAmidRun names policy before s) s (IsAmidRun.beginning (record { same = refl; quiet = refl }))
+pub still_moments : (names : List (List ℕ)) (options : ConfigureOptions) (before : Held) (s : State) → Since (IsAmidRun names options before s) s s
+still_moments names options before s = since_start (IsAmidRun names options before s) s (IsAmidRun.beginning (record { same = refl; quiet = refl }))

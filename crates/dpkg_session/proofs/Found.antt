@@ -9,8 +9,6 @@ use Rattle.administration.specs.Places.{diversions_path, info_path, temporary}
 use Rattle.administration.proofs.WholeFiles.{no_directory_at}
 use Rattle.undo_rows.specs.Place.{Place}
 use Rattle.undo_rows.specs.Transcripts.{Ended, Committed, Unwound}
-use Rattle.diversions.specs.declared.entry.Diversion.{Diversion}
-use Rattle.diversions.specs.Lines.{HasEntries}
 use Rattle.file_lists.specs.Info.{AreLoose, AreSound}
 use Rattle.file_lists.specs.Lists.{HasLists}
 use Rattle.file_lists.specs.declared.paths.PackageList.{PackageList}
@@ -39,15 +37,16 @@ use Rattle.unpack_relations.specs.declared.checking.Checked.{Checked}
 use Rattle.unpack_relations.specs.declared.checking.Checked.TheVariants.{Planned as Unpacks, Refused}
 use Rattle.unpack_relations.specs.declared.beside.Beside.{Beside}
 use Rattle.undo_rows.specs.declared.rows.Called.{Called}
+use Rattle.unpack_relations.specs.declared.options.UnpackOptions.{UnpackOptions}
 use Rattle.dpkg_session.specs.declared.report.Candidate.{Candidate}
 use Rattle.unit_reports.specs.declared.report.Unit.{Unit as AUnit}
 use Rattle.unit_reports.specs.Held.{Held, places_of}
 use Rattle.dpkg_session.specs.History.{Stands}
-use Rattle.dpkg_session.specs.Growth.{grown}
+use Rattle.dpkg_session.specs.Rereading.{with_ways}
 use Rattle.dpkg_session.proofs.Overridden.{unit_alike}
 use Rattle.dpkg_session.specs.Run.{IsRun}
-use Rattle.dpkg_session.specs.Units.{HasUnpackedBeside, IsUnitBy, IsUnitOf, IsUnpacked, displacing_by, given_by, held_with, yielding}
-use Rattle.dpkg_session.proofs.Beside.{diverted_run, diverted_spare_run, entries_run}
+use Rattle.dpkg_session.specs.Units.{HasUnpackedBeside, IsUnitBy, IsUnitOf, IsUnpacked, all_yielding, displacing_by, given_by, held_with}
+use Rattle.dpkg_session.proofs.Beside.{diverted_spare_run, table_run}
 use Rattle.dpkg_session.proofs.Certain.{lists_had}
 use Rattle.dpkg_session.proofs.Displaced.{behind_leaves}
 use Rattle.dpkg_session.proofs.Keeping.{KeepsUnnamed}
@@ -100,7 +99,7 @@ module _ (j : Job) (g : Ground) (p : Planned) (planned : IsPlanned j p) (same : 
 unpacked_info : (p : Package) (beside : Beside) (before : Held) (unwinding : Option Unwinding) (records : Recorded) (lists : List PackageList) (s t : State) (told now : List Called) → HasUnpackedBeside p beside before (places_of before) unwinding records lists s t told now
     → IsTrue t.honest → IsInOrder records lists t.world → HasInfo before s.world → HasInfo (held_with before records lists) t.world
 unpacked_info p beside before unwinding records lists s t told now is h order info =
-    let g = ground_of (given_by p before is.others (yielding beside)) (places_of before) in
+    let g = ground_of (given_by p before is.others (all_yielding p beside before)) (places_of before) in
     let out = is.unpacked.carried_out in
     let plan = is.unpacked.plan in
     let planned = is.unpacked.plan_for.planned in
@@ -117,7 +116,7 @@ unpacked_info p beside before unwinding records lists s t told now is h order in
       sound = sound_left g plan named planned.works_are.named planned.lists_are.spares planned.names_are.elsewhere ended out.mid s.world out.ran.begun out.last (out.ran.begins_so honest) at honest t.world (out.leaves h)
           (record_names g.records) (record_names records.records) (found_among _ g plan planned refl info.standing recorded)
           (known_name (record_names g.records) (package_name g plan) records.records known)
-          (gone_after (given_by p before is.others (yielding beside)) is.unpacked.plan_for.stored plan planned (places_of before) out.ran.begun out.last out.mid ended at records.records out.records) info.sound order.loose lists (lists_had t.world (record_names records.records) lists order.listed);
+          (gone_after (given_by p before is.others (all_yielding p beside before)) is.unpacked.plan_for.stored plan planned (places_of before) out.ran.begun out.last out.mid ended at records.records out.records) info.sound order.loose lists (lists_had t.world (record_names records.records) lists order.listed);
     }
 
 -- what packages leave that aren't unpacked
@@ -150,22 +149,22 @@ info_by : (p : Package) (decision : Checked) (before after : Held) (u : AUnit) (
 info_by p (Refused rule) before after u s t is h info = same_info before after s.world t.world is.held (is.world h) info
 info_by p (Unpacks beside) before after u s t is h info = whole_info p beside before after u s t is h info
 
-info_unit : (auto : Bool) (label : List ℕ) (tree : Result Package TreeFault) (before after : Held) (u : AUnit) (s t : State) → IsUnitOf auto label tree before after u s t → IsTrue t.honest → HasInfo before s.world → HasInfo after t.world
+info_unit : (auto : UnpackOptions) (label : List ℕ) (tree : Result Package TreeFault) (before after : Held) (u : AUnit) (s t : State) → IsUnitOf auto label tree before after u s t → IsTrue t.honest → HasInfo before s.world → HasInfo after t.world
 info_unit auto label (Err fault) before after u s t is h info = same_info before after s.world t.world is.held (is.world h) info
 info_unit auto label (Ok p) before after u s t (added, read, is) h info =
-    let one = unit_alike auto p (grown before added) after u s t is in
-    info_by one.alike one.decision (grown before added) after u s t one.unit h (record { text = info.text; standing = info.standing; sound = info.sound })
+    let one = unit_alike auto p (with_ways before added) after u s t is in
+    info_by one.alike one.decision (with_ways before added) after u s t one.unit h (record { text = info.text; standing = info.standing; sound = info.sound })
 
 -- and a run of them
 
-info_run : (auto : Bool) (cs : List Candidate) (us : List AUnit) (before after : Held) (s t : State) → IsRun auto cs us before after s t → IsTrue t.honest → HasInfo before s.world → HasInfo after t.world
+info_run : (auto : UnpackOptions) (cs : List Candidate) (us : List AUnit) (before after : Held) (s t : State) → IsRun auto cs us before after s t → IsTrue t.honest → HasInfo before s.world → HasInfo after t.world
 info_run auto [] [] before after s t run h info = same_info before after s.world t.world run.1 (ap (λ (x : State). x.world) run.0) info
 info_run auto [] (u ∷ us) before after s t run h info = absurd run
 info_run auto (c ∷ cs) [] before after s t run h info = absurd run
 info_run auto (c ∷ cs) (u ∷ us) before after s t run h info =
     info_run auto cs us run.1 after run.0 t run.3 h (info_unit auto c.label c.tree before run.1 u s run.0 run.2.is (falls_run auto cs us run.1 after run.0 t run.3 h) info)
 
-pub found_run : (auto : Bool) (cs : List Candidate) (us : List AUnit) (before after : Held) (s t : State) → IsRun auto cs us before after s t → IsTrue t.honest → IsInOrder after.records after.lists t.world → Stands before s.world → Stands after t.world
+pub found_run : (auto : UnpackOptions) (cs : List Candidate) (us : List AUnit) (before after : Held) (s t : State) → IsRun auto cs us before after s t → IsTrue t.honest → IsInOrder after.records after.lists t.world → Stands before s.world → Stands after t.world
 found_run auto cs us before after s t run h order found =
     let info = info_run auto cs us before after s t run h (record { text = found.text; standing = same_standing before.records.records found.standing; sound = found.listed.sound }) in
     record {
@@ -173,8 +172,7 @@ found_run auto cs us before after s t run h order found =
       info = directory_there (t.world info_path) order.info;
       updates = order.kept.unblocked.updates;
       text = info.text;
-      diversions = subst (λ (l : List Diversion). HasEntries (t.world diversions_path) l) (sym (entries_run auto cs us before after s t run))
-          (subst (λ n. HasEntries n before.ways.entries) (sym (diverted_run auto cs us before after s t run h)) found.diversions);
+      diversions = table_run auto cs us before after s t run h found.diversions;
       diversions_spare = no_directory_at (t.world (temporary diversions_path)) (s.world (temporary diversions_path)) (diverted_spare_run auto cs us before after s t run h) found.diversions_spare;
       tmp = order.tmp;
       records = order.kept;

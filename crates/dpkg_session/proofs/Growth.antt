@@ -14,6 +14,7 @@ use Rattle.diversions.specs.Ways.{Ways}
 use Rattle.diversions.specs.declared.refusal.Answer.{Answer}
 use Rattle.diversions.specs.declared.refusal.Answer.TheVariants as answered
 use Rattle.diversions.specs.declared.refusal.Seen.{Seen}
+use Rattle.unpack_relations.specs.declared.options.UnpackOptions.{UnpackOptions}
 use Rattle.dpkg_session.specs.Diversions.{IsDiverted, IsFlushed, IsUndiverted, LeavesAnswer, asked_entry}
 use Rattle.dpkg_session.specs.declared.asked.Diverting.{Diverting}
 use Rattle.dpkg_session.specs.declared.asked.Undiverting.{Undiverting}
@@ -39,10 +40,11 @@ use Rattle.unit_reports.specs.declared.report.Unit.{Unit as AUnit}
 use Rattle.unpack_relations.specs.declared.beside.Beside.{Beside}
 use Rattle.unpack_relations.specs.declared.checking.Checked.{Checked}
 use Rattle.unpack_relations.specs.declared.checking.Checked.TheVariants.{Planned, Refused}
-use Rattle.dpkg_session.specs.Growth.{AreAdded, GrowAlong, HasRead, KeepsEntries, grown, with_more}
+use Rattle.dpkg_session.specs.Growth.{AreAdded, GrowAlong, KeepsEntries, with_more}
+use Rattle.dpkg_session.specs.Rereading.{HasRead, with_ways}
 use Rattle.dpkg_session.specs.Overriding.{AreOverrides, taken_with}
 use Rattle.dpkg_session.specs.Run.{IsAmidOverridden, IsAmidPackage, IsAmidTaken}
-use Rattle.dpkg_session.specs.Units.{HasCalledBeside, HasCalledBy, HasCalledDecided, HasCalledOverridden, HasCalledPackage, HasCalledTaken, HasCalledWhole, HasUnpackedBeside, HasUnpackedWhole, HaveRows, IsOverriddenUnit, IsPackageUnit, IsTakenUnit, IsUnitBy, given_by, yielding}
+use Rattle.dpkg_session.specs.Units.{HasCalledBeside, HasCalledBy, HasCalledDecided, HasCalledOverridden, HasCalledPackage, HasCalledTaken, HasCalledWhole, HasUnpackedBeside, HasUnpackedWhole, HaveRows, IsOverriddenUnit, IsPackageUnit, IsTakenUnit, IsUnitBy, all_yielding, given_by}
 use Rattle.dpkg_session.proofs.Looking.{called_from, failed_from, none_failed, unpacked_from}
 
 -- path by path
@@ -103,7 +105,7 @@ pub events_same : (s m : State) → Reads s m → NoFault s m → m.events ≡ s
 events_same s m reads same =
     reads.events ∙ ap (λ (l : List Event). s.events ++ l) (no_failures reads.added reads.failed (omega (arith, ap faults_of reads.events, faults_of-append s.events reads.added, same.faults))) ∙ append-nil s.events
 
-moments_from : (P : World → List Event → World → Type 0) (s m t : State) → Reads s m → NoFault s m → AtEachMomentOf P m t → AtEachMomentOf P s t
+pub moments_from : (P : World → List Event → World → Type 0) (s m t : State) → Reads s m → NoFault s m → AtEachMomentOf P m t → AtEachMomentOf P s t
 moments_from P s m t reads same since = record {
   added = since.added;
   events = since.events ∙ ap (λ (l : List Event). l ++ since.added) (events_same s m reads same);
@@ -125,8 +127,8 @@ module _ (s m : State) (reads : Reads s m) (silent : Silent s m) where
   beside_from p beside h places unwinding after lists t told now is = record {
     others = is.others;
     have_rows = subst (λ (w : World). HaveRows p beside h.records.records w t.honest is.others) reads.world is.have_rows;
-    unpacked = unpacked_from (given_by p h is.others (yielding beside)) places s m reads silent t told now (ended_as unwinding) after lists is.unpacked;
-    cause = failed_from (given_by p h is.others (yielding beside)) places s m reads silent t unwinding is.cause;
+    unpacked = unpacked_from (given_by p h is.others (all_yielding p beside h)) places s m reads silent t told now (ended_as unwinding) after lists is.unpacked;
+    cause = failed_from (given_by p h is.others (all_yielding p beside h)) places s m reads silent t unwinding is.cause;
   }
 
   whole_from : (p : Package) (beside : Beside) (h : Held) (unwinding : Option Unwinding) (displaced : List (List ℕ)) (failed : Option Call) (after : Held) (t : State) (told now : List Called)
@@ -159,7 +161,7 @@ module _ (s m : State) (reads : Reads s m) (silent : Silent s m) where
   called_whole_from : (p : Package) (beside : Beside) (h : Held) (t : State) (told now : List Called) → HasCalledWhole p beside h m t told now → HasCalledWhole p beside h s t told now
   called_whole_from p beside h t told now (inl (HasCalledBeside.looking quiet same)) = inl (HasCalledBeside.looking (silent_then s m t silent quiet) same)
   called_whole_from p beside h t told now (inl (HasCalledBeside.calling others rows called)) =
-      inl (HasCalledBeside.calling others (subst (λ (w : World). HaveRows p beside h.records.records w t.honest others) reads.world rows) (called_from (given_by p h others (yielding beside)) [] s m reads silent t told now called))
+      inl (HasCalledBeside.calling others (subst (λ (w : World). HaveRows p beside h.records.records w t.honest others) reads.world rows) (called_from (given_by p h others (all_yielding p beside h)) [] s m reads silent t told now called))
   called_whole_from p beside h t told now (inr is) = inr (record {
     records = is.records;
     lists = is.lists;
@@ -173,32 +175,32 @@ module _ (s m : State) (reads : Reads s m) (silent : Silent s m) where
   called_by_from p (Refused rule) h u t none = no_calls_from u t none
   called_by_from p (Planned beside) h u t called = called_whole_from p beside h t [] u.calls.items called
 
-  called_decided_from : (auto : Bool) (p : Package) (h : Held) (u : AUnit) (t : State) → HasCalledDecided auto p h u m t → HasCalledDecided auto p h u s t
+  called_decided_from : (auto : UnpackOptions) (p : Package) (h : Held) (u : AUnit) (t : State) → HasCalledDecided auto p h u m t → HasCalledDecided auto p h u s t
   called_decided_from auto p h u t (inl none) = inl (no_calls_from u t none)
   called_decided_from auto p h u t (inr (decision, decided, called)) = inr (decision, decided, called_by_from p decision h u t called)
 
   -- by what the overrides make of a package
 
-  taken_unit_from : (auto : Bool) (name : List ℕ) (taken : Result Package Rule) (h after : Held) (u : AUnit) (t : State) → IsTakenUnit auto name taken h after u m t → IsTakenUnit auto name taken h after u s t
+  taken_unit_from : (auto : UnpackOptions) (name : List ℕ) (taken : Result Package Rule) (h after : Held) (u : AUnit) (t : State) → IsTakenUnit auto name taken h after u m t → IsTakenUnit auto name taken h after u s t
   taken_unit_from auto name (Err rule) h after u t is = record { refused = is.refused; held = is.held; silent = silent_then s m t silent is.silent; world = λ honest. is.world honest ∙ reads.world }
   taken_unit_from auto name (Ok q) h after u t (decision, decided, by) = (decision, decided, unit_from q decision h after u t by)
 
-  called_taken_from : (auto : Bool) (taken : Result Package Rule) (h : Held) (u : AUnit) (t : State) → HasCalledTaken auto taken h u m t → HasCalledTaken auto taken h u s t
+  called_taken_from : (auto : UnpackOptions) (taken : Result Package Rule) (h : Held) (u : AUnit) (t : State) → HasCalledTaken auto taken h u m t → HasCalledTaken auto taken h u s t
   called_taken_from auto (Err rule) h u t none = no_calls_from u t none
   called_taken_from auto (Ok q) h u t called = called_decided_from auto q h u t called
 
   overrides_from : (read : Result Overrides ℕ) (honest : Bool) → AreOverrides read m.world honest → AreOverrides read s.world honest
   overrides_from read honest are = λ h. subst (λ (w : World). read ≡ overrides_of w) reads.world (are h)
 
-  overridden_unit_from : (auto : Bool) (p : Package) (h after : Held) (u : AUnit) (t : State) → IsOverriddenUnit auto p h after u m t → IsOverriddenUnit auto p h after u s t
+  overridden_unit_from : (auto : UnpackOptions) (p : Package) (h after : Held) (u : AUnit) (t : State) → IsOverriddenUnit auto p h after u m t → IsOverriddenUnit auto p h after u s t
   overridden_unit_from auto p h after u t (read, are, is) = (read, overrides_from read t.honest are, taken_unit_from auto p.name (taken_with read p) h after u t is)
 
-  called_overridden_from : (auto : Bool) (p : Package) (h : Held) (u : AUnit) (t : State) → HasCalledOverridden auto p h u m t → HasCalledOverridden auto p h u s t
+  called_overridden_from : (auto : UnpackOptions) (p : Package) (h : Held) (u : AUnit) (t : State) → HasCalledOverridden auto p h u m t → HasCalledOverridden auto p h u s t
   called_overridden_from auto p h u t (inl none) = inl (no_calls_from u t none)
   called_overridden_from auto p h u t (inr (read, are, called)) = inr (read, overrides_from read t.honest are, called_taken_from auto (taken_with read p) h u t called)
 
   -- the unit of a package, once the overrides were read
-  module _ (auto : Bool) (p : Package) (h : Held) (read : Result Overrides ℕ) (are : AreOverrides read s.world m.honest) (u : AUnit) (t : State) (falls : IsTrue t.honest → IsTrue m.honest) where
+  module _ (auto : UnpackOptions) (p : Package) (h : Held) (read : Result Overrides ℕ) (are : AreOverrides read s.world m.honest) (u : AUnit) (t : State) (falls : IsTrue t.honest → IsTrue m.honest) where
     pub overridden_unit : (after : Held) → IsTakenUnit auto p.name (taken_with read p) h after u m t → IsOverriddenUnit auto p h after u s t
     overridden_unit after is = (read, (λ yes. are (falls yes)), taken_unit_from auto p.name (taken_with read p) h after u t is)
 
@@ -211,20 +213,20 @@ module _ (s m : State) (reads : Reads s m) (silent : Silent s m) where
         (λ yes so_far now amid. inr (read, (λ true_now. are (falls yes)), amid))
         (moments_from (IsAmidTaken auto (taken_with read p) h) s m t reads counts since)
 
-  -- the unit of a package, once the aliases above its paths were read
-  module _ (auto : Bool) (p : Package) (before mid : Held) (added : List Alias) (same : mid ≡ grown before added) (read : HasRead p before added s.world m.honest) (u : AUnit) (t : State) (falls : IsTrue t.honest → IsTrue m.honest) where
+  -- the unit of a package, once the table was read again, and the aliases above its paths
+  module _ (auto : UnpackOptions) (p : Package) (before mid : Held) (ways : Ways) (same : mid ≡ with_ways before ways) (read : HasRead p before ways s.world m.honest) (u : AUnit) (t : State) (falls : IsTrue t.honest → IsTrue m.honest) where
     pub package_unit : (after : Held) → IsOverriddenUnit auto p mid after u m t → IsPackageUnit auto p before after u s t
     package_unit after is =
-        (added, (λ h. read (falls h)), overridden_unit_from auto p (grown before added) after u t (subst (λ (h : Held). IsOverriddenUnit auto p h after u m t) same is))
+        (ways, (λ h. read (falls h)), overridden_unit_from auto p (with_ways before ways) after u t (subst (λ (h : Held). IsOverriddenUnit auto p h after u m t) same is))
 
     pub package_called : HasCalledOverridden auto p mid u m t → HasCalledPackage auto p before u s t
-    package_called is = inr (added, (λ h. read (falls h)), called_overridden_from auto p (grown before added) u t (subst (λ (h : Held). HasCalledOverridden auto p h u m t) same is))
+    package_called is = inr (ways, (λ h. read (falls h)), called_overridden_from auto p (with_ways before ways) u t (subst (λ (h : Held). HasCalledOverridden auto p h u m t) same is))
 
     pub package_moments : NoFault s m → AtEachMomentOf (IsAmidOverridden auto p mid) m t → AtEachMomentOf (IsAmidPackage auto p before) s t
     package_moments counts since =
-        since_weaker_if (IsAmidOverridden auto p (grown before added) s.world) (IsAmidPackage auto p before s.world) s t
-        (λ h so_far now amid. inr (added, (λ yes. read (falls h)), amid))
-        (moments_from (IsAmidOverridden auto p (grown before added)) s m t reads counts (subst (λ (h : Held). AtEachMomentOf (IsAmidOverridden auto p h) m t) same since))
+        since_weaker_if (IsAmidOverridden auto p (with_ways before ways) s.world) (IsAmidPackage auto p before s.world) s t
+        (λ h so_far now amid. inr (ways, (λ yes. read (falls h)), amid))
+        (moments_from (IsAmidOverridden auto p (with_ways before ways)) s m t reads counts (subst (λ (h : Held). AtEachMomentOf (IsAmidOverridden auto p h) m t) same since))
 
 -- the moments of a change of the diversions, once the aliases above its paths were read
 pub diverting_moments : (P : World → World → Type 0) (Q : World → World → Type 0) (s m t : State) → Reads s m → NoFault s m → (IsTrue t.honest → (now : World) → P s.world now → Q s.world now) → AtEachMoment P m t → AtEachMoment Q s t
@@ -266,8 +268,8 @@ undiverted_from asked before after u s m t reads is = record {
 
 -- it was broken off while it looked
 
-pub looked_overridden : (auto : Bool) (p : Package) (before : Held) (s m : State) → Reads s m → AtEachMomentOf (IsAmidOverridden auto p before) s m
+pub looked_overridden : (auto : UnpackOptions) (p : Package) (before : Held) (s m : State) → Reads s m → AtEachMomentOf (IsAmidOverridden auto p before) s m
 looked_overridden auto p before s m reads = since_reads (IsAmidOverridden auto p before s.world) s m reads (λ es all. inl (refl, none_failed es all))
 
-pub looked_moments : (auto : Bool) (p : Package) (before : Held) (s m : State) → Reads s m → AtEachMomentOf (IsAmidPackage auto p before) s m
+pub looked_moments : (auto : UnpackOptions) (p : Package) (before : Held) (s m : State) → Reads s m → AtEachMomentOf (IsAmidPackage auto p before) s m
 looked_moments auto p before s m reads = since_reads (IsAmidPackage auto p before s.world) s m reads (λ es all. inl (refl, none_failed es all))

@@ -20,7 +20,9 @@ use Rattle.status_db.specs.Notes.{note_path}
 use Rattle.status_db.specs.Recorded.{Recorded}
 use Rattle.status_records.specs.declared.record.Record.{Record}
 use Rattle.unit_reports.specs.Held.{Held}
-use Rattle.dpkg_session.specs.History.{Changed, Configured, Diverted, HasDone, Installed, IsCommand, IsHistory, KeepsRest, Merged, Ran, Removed, Stands, Triggered, Undiverted, Unpacked}
+use Rattle.dpkg_session.specs.History.{Changed, Configured, Diverted, HasDone, Installed, IsCommand, IsHistory, KeepsRest, Merged, Ran, Removed, Reread, Stands, Triggered, Undiverted, Unpacked}
+use Rattle.dpkg_session.specs.Rereading.{with_ways}
+use Rattle.dpkg_session.proofs.Reread.{found_reread}
 use Rattle.dpkg_session.proofs.Carries.{carries_found}
 use Rattle.dpkg_session.proofs.Changes.{changes_carry}
 use Rattle.dpkg_session.proofs.Configures.{configure_carries}
@@ -34,7 +36,7 @@ use Rattle.dpkg_session.proofs.Triggers.{triggers_carry}
 
 -- the administration is read from its own paths alone
 
-kept_outside : (table : List Record) (notes : ℕ) (old new : World) → SameOn is_own old new → AreKept table notes old → AreKept table notes new
+pub kept_outside : (table : List Record) (notes : ℕ) (old new : World) → SameOn is_own old new → AreKept table notes old → AreKept table notes new
 kept_outside table notes old new same is = record {
   unblocked = record {
     home = subst IsDirectory (sym (same home_path refl)) is.unblocked.home;
@@ -85,6 +87,8 @@ done_stands (Configured names policy units) before after s t done h found = carr
 done_stands (Removed names extents units) before after s t done h found = carries_found before after s t (removal_carries names extents units before after s t done) h found
 done_stands (Changed changes units) before after s t done h found = carries_found before after s t (changes_carry changes units before after s t done) h found
 done_stands (Triggered names units) before after s t done h found = carries_found before after s t (triggers_carry names units before after s t done) h found
+done_stands (Reread ways) before after s t done h found =
+    subst (λ (x : Held). Stands x t.world) (sym done.1) (subst (Stands (with_ways before ways)) (sym done.0.reads.world) (found_reread before ways s.world (done.0.found h) found))
 done_stands Merged before after s t done h found =
     subst (λ (x : Held). Stands x t.world) (sym done.0) (found_noted before.records.records before.records.notes before.lists before.ways.entries s.world t.world found (done.1 h))
 done_stands (Installed auto candidates policy unpacked configured) before after s t done h found = install_found auto candidates policy unpacked configured before after s t done h found

@@ -1,7 +1,7 @@
 -- An install: unpacks, and then what is configured.
-use Rattle.std.proofs.Common.{◌≡◌, inl, inr, ℕ, Bool, IsTrue, List, [], ◌++◌, Option, Some, None, refl, ap, subst, ◌∙◌}
+use Rattle.std.proofs.Common.{◌⊎◌, ◌≡◌, inl, inr, ℕ, Bool, IsTrue, List, [], ◌++◌, Option, Some, None, refl, ap, subst, ◌∙◌}
 use Rattle.std.specs.Prelude.{IsNone, is_some, true, map}
-use Rattle.conffiles.specs.declared.decisions.ConfPolicy.{ConfPolicy}
+use Rattle.configure_run.specs.declared.options.ConfigureOptions.{ConfigureOptions}
 use Rattle.configure_run.specs.Run.{HasRun as HasConfigured, IsAmidRun as IsAmidConfigure, IsConfigureRun}
 use Rattle.host_core.specs.Host.{State, Since}
 use Rattle.host_core.specs.Loss.{IsAnswered}
@@ -12,7 +12,9 @@ use Rattle.unit_reports.specs.Units.{CountsLast, TellsCalls, calls_of, calls_tol
 use Rattle.unit_reports.specs.declared.report.Report.{Report}
 use Rattle.unit_reports.specs.declared.report.Unit.{Unit as AUnit}
 use Rattle.undo_rows.proofs.Makes.{tells_none, tells_then}
+use Rattle.unpack_relations.specs.declared.options.UnpackOptions.{UnpackOptions}
 use Rattle.dpkg_session.specs.Installs.{HasGoneOn, HasInstalled, HasInstalledThrough, IsAmidInstall, IsEmptyReport, TellsBoth, label_of, last_of, names_done, packages_done}
+use Rattle.dpkg_session.specs.Rereading.{BehindReading, IsAmidReading, IsUnread}
 use Rattle.dpkg_session.specs.Run.{HasRun, HasRunThrough, IsAmidRun, IsRun}
 use Rattle.dpkg_session.specs.declared.report.Candidate.{Candidate}
 use Rattle.dpkg_session.proofs.Outlasting.{answered_then, loses_like, run_answered}
@@ -20,16 +22,16 @@ use Rattle.unit_reports.proofs.Counting.{last_from}
 
 -- the moments
 
-pub amid_unpacks : (auto : Bool) (cs : List Candidate) (policy : ConfPolicy) (before : Held) (s m : State) → Since (IsAmidRun auto cs before s) s m → Since (IsAmidInstall auto cs policy before s) s m
+pub amid_unpacks : (auto : UnpackOptions) (cs : List Candidate) (policy : ConfigureOptions) (before : Held) (s m : State) → Since (IsAmidRun auto cs before s) s m → Since (IsAmidInstall auto cs policy before s) s m
 amid_unpacks auto cs policy before s m since = since_weaker (IsAmidRun auto cs before s) (IsAmidInstall auto cs policy before s) s m (λ so_far w is. inl is) since
 
-pub amid_both : (auto : Bool) (cs : List Candidate) (policy : ConfPolicy) (us told : List AUnit) (before mid : Held) (labels : List (List ℕ)) (s m t : State) → labels ≡ map label_of cs → told ≡ us → IsRun auto cs us before mid s m → Since (IsAmidRun auto cs before s) s m
-    → Since (IsAmidConfigure (names_done labels told) policy mid m) m t → Since (IsAmidInstall auto cs policy before s) s t
+pub amid_both : (auto : UnpackOptions) (cs : List Candidate) (policy : ConfigureOptions) (us told : List AUnit) (before mid : Held) (labels : List (List ℕ)) (s m t : State) → labels ≡ map label_of cs → told ≡ us → IsRun auto cs us before mid s m → Since (IsAmidRun auto cs before s) s m
+    → Since (IsAmidReading (λ h. IsAmidConfigure (names_done labels told) policy h) mid m) m t → Since (IsAmidInstall auto cs policy before s) s t
 amid_both auto cs policy us told before mid labels s m t named same run first behind =
-    let second : Since (IsAmidConfigure (packages_done cs us) policy mid m) m t = subst (λ ls. Since (IsAmidConfigure (names_done ls us) policy mid m) m t) named (subst (λ l. Since (IsAmidConfigure (names_done labels l) policy mid m) m t) same behind) in
+    let second : Since (IsAmidReading (λ h. IsAmidConfigure (packages_done cs us) policy h) mid m) m t = subst (λ ls. Since (IsAmidReading (λ h. IsAmidConfigure (names_done ls us) policy h) mid m) m t) named (subst (λ l. Since (IsAmidReading (λ h. IsAmidConfigure (names_done labels l) policy h) mid m) m t) same behind) in
     let unpacks = amid_unpacks auto cs policy before s m first in
     since_then (IsAmidInstall auto cs policy before s) s m t unpacks
-    (since_weaker_if (IsAmidConfigure (packages_done cs us) policy mid m) (λ so_far w. IsAmidInstall auto cs policy before s (unpacks.added ++ so_far) w) m t
+    (since_weaker_if (IsAmidReading (λ h. IsAmidConfigure (packages_done cs us) policy h) mid m) (λ so_far w. IsAmidInstall auto cs policy before s (unpacks.added ++ so_far) w) m t
     (λ h so_far w is. inr (record { unpacked = us; mid = mid; m = m; honest = second.honest h; unpacks = run; front = unpacks.added; rest = so_far; are = refl; events = unpacks.events; configuring = is })) second)
 
 -- the calls
@@ -56,12 +58,12 @@ none_both (Some u) second none both = cc
 
 -- how far an install came
 
-broken_installed : (auto : Bool) (cs : List Candidate) (policy : ConfPolicy) (us : List AUnit) (last : Option AUnit) (configured : Report) (before : Held) (s t : State) → is_some last ≡ true
+broken_installed : (auto : UnpackOptions) (cs : List Candidate) (policy : ConfigureOptions) (us : List AUnit) (last : Option AUnit) (configured : Report) (before : Held) (s t : State) → is_some last ≡ true
     → HasRun auto cs us last before s t → IsEmptyReport configured → HasInstalled auto cs policy us last configured before s t
 broken_installed auto cs policy us None configured before s t some run empty = cc
 broken_installed auto cs policy us (Some u) configured before s t some run empty = (run, empty)
 
-gone_on : (auto : Bool) (cs : List Candidate) (policy : ConfPolicy) (us : List AUnit) (last : Option AUnit) (configured : Report) (before : Held) (s t : State) → IsNone last
+gone_on : (auto : UnpackOptions) (cs : List Candidate) (policy : ConfigureOptions) (us : List AUnit) (last : Option AUnit) (configured : Report) (before : Held) (s t : State) → IsNone last
     → HasGoneOn auto cs policy us configured before s t → HasInstalled auto cs policy us last configured before s t
 gone_on auto cs policy us None configured before s t none gone = gone
 gone_on auto cs policy us (Some u) configured before s t none gone = cc
@@ -70,7 +72,7 @@ some_not_none : (first second : Option AUnit) → is_some first ≡ true → IsN
 some_not_none None second some none = cc
 some_not_none (Some u) second some none = cc
 
-module _ (auto : Bool) (cs : List Candidate) (left : List (List ℕ)) (policy : ConfPolicy) (unpacked configured : Report) where
+module _ (auto : UnpackOptions) (cs : List Candidate) (left : List (List ℕ)) (policy : ConfigureOptions) (unpacked configured : Report) where
   -- an unpack was broken off
   pub installed_part : (before after : Held) (s t : State) → is_some unpacked.last ≡ true → IsEmptyReport configured → (IsTrue t.honest → IsSettled t.events) → HasRunThrough auto cs left unpacked before after s t
       → HasInstalledThrough auto cs left policy unpacked configured before after s t
@@ -87,8 +89,8 @@ module _ (auto : Bool) (cs : List Candidate) (left : List (List ℕ)) (policy : 
 
   -- all were unpacked, and then packages were configured
   pub installed_both : (told : List AUnit) (labels : List (List ℕ)) (before mid after : Held) (s m t : State) → labels ≡ map label_of cs → told ≡ unpacked.units.items → IsNone unpacked.last → (IsTrue t.honest → IsSettled t.events)
-      → HasRunThrough auto cs left unpacked before mid s m → (IsNone configured.last → IsConfigureRun (names_done labels told) policy configured.units.items mid after m t)
-      → HasConfigured (names_done labels told) policy configured.units.items configured.last mid m t → Since (IsAmidConfigure (names_done labels told) policy mid m) m t
+      → HasRunThrough auto cs left unpacked before mid s m → (IsNone configured.last → BehindReading (λ h n. IsConfigureRun (names_done labels told) policy configured.units.items h after n t) mid m)
+      → IsUnread configured.units.items configured.last m t ⊎ BehindReading (λ h n. HasConfigured (names_done labels told) policy configured.units.items configured.last h n t) mid m → Since (IsAmidReading (λ h. IsAmidConfigure (names_done labels told) policy h) mid m) m t
       → HasInstalledThrough auto cs left policy unpacked configured before after s t
   installed_both told labels before mid after s m t named same none settled run whole part moments =
       let us = unpacked.units.items in
@@ -99,14 +101,14 @@ module _ (auto : Bool) (cs : List Candidate) (left : List (List ℕ)) (policy : 
           mid = mid;
           m = m;
           unpacks = run.whole none;
-          configures = subst (λ (ns : List (List ℕ)). IsConfigureRun ns policy configured.units.items mid after m t) names (whole (none_both unpacked.last configured.last none both));
+          configures = subst (λ (ns : List (List ℕ)). BehindReading (λ h n. IsConfigureRun ns policy configured.units.items h after n t) mid m) names (whole (none_both unpacked.last configured.last none both));
         };
         all = run.all;
         part = gone_on auto cs policy us unpacked.last configured before s t none (record {
           mid = mid;
           m = m;
           unpacks = run.whole none;
-          configures = subst (λ (ns : List (List ℕ)). HasConfigured ns policy configured.units.items configured.last mid m t) names part;
+          configures = subst (λ (ns : List (List ℕ)). IsUnread configured.units.items configured.last m t ⊎ BehindReading (λ h n. HasConfigured ns policy configured.units.items configured.last h n t) mid m) names part;
         });
         read = run.read;
         any_moment = since;
@@ -114,5 +116,5 @@ module _ (auto : Bool) (cs : List Candidate) (left : List (List ℕ)) (policy : 
       }
 
 -- all of it only looked or is on the disk
-pub answered_both : (auto : Bool) (cs : List Candidate) (us : List AUnit) (before mid : Held) (s m t : State) → IsRun auto cs us before mid s m → IsAnswered m t → IsAnswered s t
+pub answered_both : (auto : UnpackOptions) (cs : List Candidate) (us : List AUnit) (before mid : Held) (s m t : State) → IsRun auto cs us before mid s m → IsAnswered m t → IsAnswered s t
 answered_both auto cs us before mid s m t run answered = answered_then s m t (run_answered auto cs us before mid s m run) answered

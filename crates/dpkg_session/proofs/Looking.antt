@@ -22,7 +22,7 @@ use Rattle.unpack_rows.specs.declared.rows.OtherPackage.{OtherPackage}
 use Rattle.undo_rows.specs.declared.rows.Called.{Called}
 use Rattle.unit_reports.specs.Held.{Held}
 use Rattle.dpkg_session.specs.Run.{IsAmidBeside}
-use Rattle.dpkg_session.specs.Units.{HasCalledBeside, HasUnpackedBeside, HaveRows, given_by, yielding}
+use Rattle.dpkg_session.specs.Units.{HasCalledBeside, HasUnpackedBeside, HaveRows, all_yielding, given_by}
 
 none_before : (es fs : List Event) → scripts_of es ≡ [] → scripts_of fs ≡ [] → scripts_of (es ++ fs) ≡ []
 none_before es fs first second = scripts_of-append es fs ∙ ap (λ (l : List Event). l ++ scripts_of fs) first ∙ second
@@ -88,7 +88,7 @@ module _ (p : Package) (beside : Beside) (h : Held) (places : List Path) (s m : 
   nothing_called told = HasCalledBeside.looking silent refl
 
   -- with the rows that were seen
-  module _ (others : List OtherPackage) (yields : List (List ℕ)) (are : yields ≡ yielding beside) (have : HaveRows p beside h.records.records s.world m.honest others) (t : State) (falls : IsTrue t.honest → IsTrue m.honest) where
+  module _ (others : List OtherPackage) (yields : List (List ℕ)) (are : yields ≡ all_yielding p beside h) (have : HaveRows p beside h.records.records s.world m.honest others) (t : State) (falls : IsTrue t.honest → IsTrue m.honest) where
     rows_then : HaveRows p beside h.records.records s.world t.honest others
     rows_then = record { rows = λ honest. have.rows (falls honest); shaped = have.shaped; apart = have.apart }
 

@@ -8,6 +8,7 @@ use Rattle.host_core.proofs.Losses.{avoid_session, loses_in_part, since_loss_one
 use Rattle.host_core.proofs.Moments.{faults_then, reads_then, since_weaker}
 use Rattle.host_core.specs.Unsynced.{IsSettled}
 use Rattle.unit_reports.specs.Held.{Held}
+use Rattle.unpack_relations.specs.declared.options.UnpackOptions.{UnpackOptions}
 use Rattle.dpkg_session.specs.declared.report.Candidate.{Candidate}
 use Rattle.unit_reports.specs.declared.report.Unit.{Unit as AUnit}
 use Rattle.dpkg_session.specs.PowerLoss.{LosesLikeAStop, StandsOnceAnswered}
@@ -29,7 +30,7 @@ answered_then s m t first (inl now) = inl now
 answered_then s m t (inl disk) (inr reads) = inl (answered_disk m t (inr reads) disk)
 answered_then s m t (inr before) (inr reads) = inr (reads_then s m t before reads)
 
-pub run_answered : (auto : Bool) (cs : List Candidate) (us : List AUnit) (before after : Held) (s t : State) → IsRun auto cs us before after s t → IsAnswered s t
+pub run_answered : (auto : UnpackOptions) (cs : List Candidate) (us : List AUnit) (before after : Held) (s t : State) → IsRun auto cs us before after s t → IsAnswered s t
 run_answered auto [] [] before after s t run = subst (λ (x : State). IsAnswered s x) (sym run.0) (answered_here s)
 run_answered auto [] (u ∷ us) before after s t run = absurd run
 run_answered auto (c ∷ cs) [] before after s t run = absurd run
@@ -39,5 +40,5 @@ pub answered_stands : (P : List Event → World → Type 0) (s t : State) → Si
 answered_stands P s t since answered = λ begun new left later loses.
     loses_in_part begun s t new left (since_weaker P (λ so_far w. Unit {0}) s t (λ so_far w is. tt) since) later answered loses
 
-pub run_stands : (auto : Bool) (P : List Event → World → Type 0) (cs : List Candidate) (us : List AUnit) (before after : Held) (s t : State) → Since P s t → IsRun auto cs us before after s t → StandsOnceAnswered s t
+pub run_stands : (auto : UnpackOptions) (P : List Event → World → Type 0) (cs : List Candidate) (us : List AUnit) (before after : Held) (s t : State) → Since P s t → IsRun auto cs us before after s t → StandsOnceAnswered s t
 run_stands auto P cs us before after s t since run = answered_stands P s t since (run_answered auto cs us before after s t run)

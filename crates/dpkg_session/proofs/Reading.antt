@@ -7,6 +7,7 @@ use Rattle.host_core.specs.Unsynced.{IsSettled}
 use Rattle.unit_reports.specs.Held.{Held}
 use Rattle.unit_reports.specs.declared.report.Report.{Report}
 use Rattle.unit_reports.specs.declared.report.Unit.{Unit as AUnit}
+use Rattle.unpack_relations.specs.declared.options.UnpackOptions.{UnpackOptions}
 use Rattle.dpkg_session.specs.Installs.{label_of}
 use Rattle.dpkg_session.specs.Run.{AreReadInTurn, HasRun, HasRunThrough, IsAmidRun, IsAmidUnitOf, IsRun, RunsUnit}
 use Rattle.dpkg_session.specs.Trees.{AreRead}
@@ -17,7 +18,7 @@ use Rattle.dpkg_session.proofs.Outlasting.{loses_like}
 use Rattle.dpkg_session.proofs.Runs.{has_run, run_more}
 
 -- Some trees were read, and the units are a run of them; at each moment so far a run of these and any others was under way.
-pub record HasReadTo {T : Type 0} (reads : T → Candidate → T → Type 0) (auto : Bool) (old now : T) (us : List AUnit) (labels : List (List ℕ)) (before mid : Held) (s m : State) : Type 0 where
+pub record HasReadTo {T : Type 0} (reads : T → Candidate → T → Type 0) (auto : UnpackOptions) (old now : T) (us : List AUnit) (labels : List (List ℕ)) (before mid : Held) (s m : State) : Type 0 where
   pub cs : List Candidate
   pub read : AreRead reads old cs now
   pub labelled : labels ≡ map label_of cs
@@ -29,7 +30,7 @@ read_one reads old mid new [] c same is = (new, subst (λ t. reads t c new) same
 read_one reads old mid new (d ∷ cs) c read is = (read.0, read.1, read_one reads read.0 mid new cs c read.2 is)
 
 -- as many units as trees
-run_even : (auto : Bool) (cs : List Candidate) (us : List AUnit) (before after : Held) (s t : State) → IsRun auto cs us before after s t → length cs ≡ length us
+run_even : (auto : UnpackOptions) (cs : List Candidate) (us : List AUnit) (before after : Held) (s t : State) → IsRun auto cs us before after s t → length cs ≡ length us
 run_even auto [] [] before after s t run = refl
 run_even auto [] (u ∷ us) before after s t run = absurd run
 run_even auto (c ∷ cs) [] before after s t run = absurd run
@@ -39,7 +40,7 @@ no_none : {A : Type 0} (last : Option A) (u : A) → last ≡ Some u → IsNone 
 no_none None u is none = cc
 no_none (Some v) u is none = cc
 
-module _ {T : Type 0} (reads : T → Candidate → T → Type 0) (auto : Bool) where
+module _ {T : Type 0} (reads : T → Candidate → T → Type 0) (auto : UnpackOptions) where
   pub read_start : (t : T) (us : List AUnit) (labels : List (List ℕ)) (h : Held) (s : State) → us ≡ [] → labels ≡ [] → HasReadTo reads auto t t us labels h h s s
   read_start t us labels h s none unlabelled = record {
     cs = [];

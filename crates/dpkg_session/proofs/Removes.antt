@@ -11,7 +11,7 @@ use Rattle.removal_run.specs.Extents.{purges}
 use Rattle.removal_run.specs.Run.{IsAmidRun, IsRemovalRun}
 use Rattle.removal_run.specs.Turns.{RemovesTo}
 use Rattle.removal_run.specs.Units.{IsRemoval}
-use Rattle.removal_run.specs.declared.extents.Extents.{Extents}
+use Rattle.removal_run.specs.declared.options.RemovalOptions.{RemovalOptions}
 use Rattle.dpkg_session.proofs.Carries.{Carries, carries_here, carries_stages, carries_then}
 use Rattle.dpkg_session.proofs.Staying.{stages_own}
 
@@ -20,15 +20,15 @@ removal_carries_one purge name before after u s t is =
     let whole = is.removed.removed in
     carries_stages name whole.stages is.failed before after s is.removed.m t [] u.calls.items (ap is_some whole.plan.found) (stages_own name whole.stages before.records.records before.lists whole.fit) whole.run is.removed.disk is.order is.ways
 
-turns_carry : (extents : Extents) (packages : List Package) (waiting : List (List ℕ)) (before : Held) (s : State) (us : List AUnit) (left : List (List ℕ)) (after : Held) (t : State) → RemovesTo extents packages waiting before s us left after t → Carries before after s t
-turns_carry extents packages waiting before s us left after t TurnsTo.begun = carries_here before s
-turns_carry extents packages waiting before s us left after t (TurnsTo.turned done u mid_left later mid ends m end come turn) =
-    carries_then before mid after s m t (turns_carry extents packages waiting before s done mid_left mid m come) (removal_carries_one (purges extents mid.records.records turn.name) turn.name mid after u m t turn.is.is)
+turns_carry : (options : RemovalOptions) (packages : List Package) (waiting : List (List ℕ)) (before : Held) (s : State) (us : List AUnit) (left : List (List ℕ)) (after : Held) (t : State) → RemovesTo options packages waiting before s us left after t → Carries before after s t
+turns_carry options packages waiting before s us left after t TurnsTo.begun = carries_here before s
+turns_carry options packages waiting before s us left after t (TurnsTo.turned done u mid_left later mid ends m end come turn) =
+    carries_then before mid after s m t (turns_carry options packages waiting before s done mid_left mid m come) (removal_carries_one (purges options.extents mid.records.records turn.name) turn.name mid after u m t turn.is.is)
 
-pub removal_carries : (names : List (List ℕ)) (extents : Extents) (us : List AUnit) (before after : Held) (s t : State) → IsRemovalRun names extents us before after s t → Carries before after s t
-removal_carries names extents us before after s t run = turns_carry extents run.runs.packages _ before s run.runs.removed run.runs.waiting after t run.runs.turns
+pub removal_carries : (names : List (List ℕ)) (options : RemovalOptions) (us : List AUnit) (before after : Held) (s t : State) → IsRemovalRun names options us before after s t → Carries before after s t
+removal_carries names options us before after s t run = turns_carry options run.runs.packages _ before s run.runs.removed run.runs.waiting after t run.runs.turns
 
 -- at the beginning, at which nothing is removed yet
 
-pub since_none_removed : (names : List (List ℕ)) (extents : Extents) (before : Held) (s : State) → Since (IsAmidRun names extents before s) s s
-since_none_removed names extents before s = since_start (IsAmidRun names extents before s) s (inl (record { same = refl; quiet = refl }))
+pub since_none_removed : (names : List (List ℕ)) (options : RemovalOptions) (before : Held) (s : State) → Since (IsAmidRun names options before s) s s
+since_none_removed names options before s = since_start (IsAmidRun names options before s) s (inl (record { same = refl; quiet = refl }))

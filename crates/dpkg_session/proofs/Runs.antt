@@ -17,7 +17,8 @@ use Rattle.undo_rows.specs.declared.rows.Called.{Called}
 use Rattle.unit_reports.specs.declared.refusal.Rule.{Rule}
 use Rattle.unit_reports.specs.declared.refusal.Rule.TheVariants.{Tree}
 use Rattle.unit_reports.specs.declared.report.Breakage.{Breakage}
-use Rattle.unit_reports.specs.declared.report.Breakage.TheVariants.{NoMemory, Closed}
+use Rattle.unit_reports.specs.declared.report.Breakage.TheVariants.{NoMemory, Damaged, Closed}
+use Rattle.unpack_relations.specs.declared.options.UnpackOptions.{UnpackOptions}
 use Rattle.dpkg_session.specs.declared.report.Candidate.{Candidate}
 use Rattle.unit_reports.specs.declared.report.Reply.{Reply}
 use Rattle.unit_reports.specs.declared.report.Reply.TheVariants.{Refused, Broken}
@@ -27,7 +28,7 @@ use Rattle.dpkg_session.specs.Run.{HasRun, IsAmidNext, IsBrokenNext, IsRun, Runs
 use Rattle.unit_reports.proofs.Counting.{no_fault_here}
 use Rattle.unit_reports.specs.Units.{CountsCause, CountsReply, IsRefused, IsRefusedUnit, IsBroken, IsBrokenBy, touched_at}
 use Rattle.unit_reports.specs.declared.report.Touched.{Touched}
-use Rattle.dpkg_session.specs.Growth.{grown}
+use Rattle.dpkg_session.specs.Rereading.{with_ways}
 use Rattle.dpkg_session.proofs.Overridden.{unit_alike}
 use Rattle.dpkg_session.specs.Refusals.{IsDecisionFor}
 use Rattle.dpkg_session.specs.Touched.{AreDeconfigured, AreOfBoth, AreUnchanged, IsTouchedBeside, deconfigured_among, told_among}
@@ -35,7 +36,7 @@ use Rattle.dpkg_session.specs.Units.{AnswersBoth, HasUnpackedWhole, IsDecidedUni
 use Rattle.dpkg_session.specs.declared.displacing.Behind.{Behind}
 use Rattle.dpkg_session.proofs.Touching.{deconfigured_beside}
 
-pub run_more : (auto : Bool) (cs : List Candidate) (us : List AUnit) (c : Candidate) (u : AUnit) (before mid after : Held) (s m t : State) → IsRun auto cs us before mid s m → RunsUnit auto c mid after u m t → IsRun auto (cs ++ c ∷ []) (us ++ u ∷ []) before after s t
+pub run_more : (auto : UnpackOptions) (cs : List Candidate) (us : List AUnit) (c : Candidate) (u : AUnit) (before mid after : Held) (s m t : State) → IsRun auto cs us before mid s m → RunsUnit auto c mid after u m t → IsRun auto (cs ++ c ∷ []) (us ++ u ∷ []) before after s t
 run_more auto [] [] c u before mid after s m t so_far unit =
     (t, after, subst (λ x. RunsUnit auto c x after u s t) so_far.1 (subst (λ x. RunsUnit auto c mid after u x t) so_far.0 unit), (refl, refl))
 run_more auto [] (v ∷ us) c u before mid after s m t so_far unit = absurd so_far
@@ -43,7 +44,7 @@ run_more auto (q ∷ cs) [] c u before mid after s m t so_far unit = absurd so_f
 run_more auto (q ∷ cs) (v ∷ us) c u before mid after s m t so_far unit = (so_far.0, so_far.1, so_far.2, run_more auto cs us c u so_far.1 mid after so_far.0 m t so_far.3 unit)
 
 -- the run of the first candidates, and what holds of the rest
-pub has_run : (auto : Bool) (cs done rest : List Candidate) (us : List AUnit) (last : Option AUnit) (before mid : Held) (s m t : State) → cs ≡ done ++ rest → length us ≡ length done → IsRun auto done us before mid s m
+pub has_run : (auto : UnpackOptions) (cs done rest : List Candidate) (us : List AUnit) (last : Option AUnit) (before mid : Held) (s m t : State) → cs ≡ done ++ rest → length us ≡ length done → IsRun auto done us before mid s m
     → Since (IsAmidNext auto rest mid m.world) m t → IfSome last (IsBrokenNext auto rest mid m t) → HasRun auto cs us last before s t
 has_run auto cs done rest us last before mid s m t split count run since broken = record {
   after = mid;
@@ -60,7 +61,7 @@ has_run auto cs done rest us last before mid s m t split count run since broken 
     rests = ap (λ n. drop n cs) count ∙ ap (drop (length done)) split ∙ drop-append_seam done rest
 
 -- no lie is forgotten over a run
-pub falls_run : (auto : Bool) (cs : List Candidate) (us : List AUnit) (before after : Held) (s t : State) → IsRun auto cs us before after s t → IsTrue t.honest → IsTrue s.honest
+pub falls_run : (auto : UnpackOptions) (cs : List Candidate) (us : List AUnit) (before after : Held) (s t : State) → IsRun auto cs us before after s t → IsTrue t.honest → IsTrue s.honest
 falls_run auto [] [] before after s t run h = subst (λ (x : State). IsTrue x.honest) run.0 h
 falls_run auto [] (u ∷ us) before after s t run h = absurd run
 falls_run auto (c ∷ cs) [] before after s t run h = absurd run
@@ -78,15 +79,15 @@ ready_by : (p : Package) (decision : Checked) (before after : Held) (u : AUnit) 
 ready_by p (checked.Refused rule) before after u s t ready is = ready_refused rule p.name before after u s t ready is
 ready_by p (checked.Planned beside) before after u s t ready is = is.order
 
-ready_of : (auto : Bool) (label : List ℕ) (tree : Result Package TreeFault) (before after : Held) (u : AUnit) (s t : State) → Ready before s → IsUnitOf auto label tree before after u s t → Ready after t
+ready_of : (auto : UnpackOptions) (label : List ℕ) (tree : Result Package TreeFault) (before after : Held) (u : AUnit) (s t : State) → Ready before s → IsUnitOf auto label tree before after u s t → Ready after t
 ready_of auto label (Err fault) before after u s t ready is = ready_refused _ label before after u s t ready is
 ready_of auto label (Ok p) before after u s t ready (added, read, is) =
-    let one = unit_alike auto p (grown before added) after u s t is in ready_by one.alike one.decision (grown before added) after u s t ready one.unit
+    let one = unit_alike auto p (with_ways before added) after u s t is in ready_by one.alike one.decision (with_ways before added) after u s t ready one.unit
 
-pub ready_after : (auto : Bool) (c : Candidate) (before after : Held) (u : AUnit) (s t : State) → Ready before s → IsUnit auto c before after u s t → Ready after t
+pub ready_after : (auto : UnpackOptions) (c : Candidate) (before after : Held) (u : AUnit) (s t : State) → Ready before s → IsUnit auto c before after u s t → Ready after t
 ready_after auto c before after u s t ready is = ready_of auto c.label c.tree before after u s t ready is
 
-pub ready_run : (auto : Bool) (cs : List Candidate) (us : List AUnit) (before after : Held) (s t : State) → IsRun auto cs us before after s t → Ready before s → Ready after t
+pub ready_run : (auto : UnpackOptions) (cs : List Candidate) (us : List AUnit) (before after : Held) (s t : State) → IsRun auto cs us before after s t → Ready before s → Ready after t
 ready_run auto [] [] before after s t run ready = subst (λ (x : Held). Ready x t) (sym run.1) (subst (Ready before) (sym run.0) ready)
 ready_run auto [] (u ∷ us) before after s t run ready = absurd run
 ready_run auto (c ∷ cs) [] before after s t run ready = absurd run
@@ -97,18 +98,18 @@ ready_run auto (c ∷ cs) (u ∷ us) before after s t run ready = ready_run auto
 pub refused_here : (rule : Rule) (name : List ℕ) (h : Held) (u : AUnit) (s : State) → IsRefusedUnit rule name u → IsRefused rule name h h u s s
 refused_here rule name h u s refused = record { refused = refused; held = refl; silent = record { honest = λ honest. honest; scripts = refl }; world = λ honest. refl }
 
-pub by_refused : (auto : Bool) (p : Package) (rule : Rule) (decision : Checked) (h : Held) (u : AUnit) (s : State) → IsDecisionFor p auto h decision → decision ≡ checked.Refused rule → IsRefusedUnit rule p.name u → IsDecidedUnit auto p h h u s s
+pub by_refused : (auto : UnpackOptions) (p : Package) (rule : Rule) (decision : Checked) (h : Held) (u : AUnit) (s : State) → IsDecisionFor p auto h decision → decision ≡ checked.Refused rule → IsRefusedUnit rule p.name u → IsDecidedUnit auto p h h u s s
 by_refused auto p rule decision h u s decided is refused = (decision, decided, subst (λ d. IsUnitBy p d h h u s s) (sym is) (refused_here rule p.name h u s refused))
 
-pub by_unpacked : (auto : Bool) (p : Package) (beside : Beside) (decision : Checked) (before after : Held) (u : AUnit) (s t : State) → IsDecisionFor p auto before decision → decision ≡ checked.Planned beside
+pub by_unpacked : (auto : UnpackOptions) (p : Package) (beside : Beside) (decision : Checked) (before after : Held) (u : AUnit) (s t : State) → IsDecisionFor p auto before decision → decision ≡ checked.Planned beside
     → IsBroken u.reply ⊎ IsUnpacked p beside before after u s t → IsBroken u.reply ⊎ IsDecidedUnit auto p before after u s t
 by_unpacked auto p beside decision before after u s t decided is (inl broken) = inl broken
 by_unpacked auto p beside decision before after u s t decided is (inr unpacked) = inr (decision, decided, subst (λ d. IsUnitBy p d before after u s t) (sym is) unpacked)
 
-pub of_read : (auto : Bool) (c : Candidate) (p : Package) (before after : Held) (u : AUnit) (s t : State) → c.tree ≡ Ok p → IsBroken u.reply ⊎ IsPackageUnit auto p before after u s t → IsBroken u.reply ⊎ IsUnit auto c before after u s t
+pub of_read : (auto : UnpackOptions) (c : Candidate) (p : Package) (before after : Held) (u : AUnit) (s t : State) → c.tree ≡ Ok p → IsBroken u.reply ⊎ IsPackageUnit auto p before after u s t → IsBroken u.reply ⊎ IsUnit auto c before after u s t
 of_read auto c p before after u s t is either = subst (λ r. IsBroken u.reply ⊎ IsUnitOf auto c.label r before after u s t) (sym is) either
 
-pub of_unread : (auto : Bool) (c : Candidate) (fault : TreeFault) (h : Held) (u : AUnit) (s : State) → c.tree ≡ Err fault → IsRefusedUnit (Tree fault) c.label u → IsUnit auto c h h u s s
+pub of_unread : (auto : UnpackOptions) (c : Candidate) (fault : TreeFault) (h : Held) (u : AUnit) (s : State) → c.tree ≡ Err fault → IsRefusedUnit (Tree fault) c.label u → IsUnit auto c h h u s s
 of_unread auto c fault h u s is refused = subst (λ r. IsUnitOf auto c.label r h h u s s) (sym is) (refused_here (Tree fault) c.label h u s refused)
 
 -- a unit that wasn't broken off is as the tables say
@@ -175,6 +176,19 @@ reply_not_closed name (Some u) failed closed = cc
 
 pub answer_not_closed : (name : List ℕ) (records : List Record) (copies : List Touched) (half : List (List ℕ)) (unwinding : Option Unwinding) (failed : Option Call) (touched displaced : List (List ℕ)) (u : AUnit) → IsBrokenBy NoMemory u.reply ⊎ AnswersBoth name records copies half unwinding failed touched displaced u → IsBrokenBy Closed u.reply → ⊥
 answer_not_closed name records copies half unwinding failed touched displaced u either = by_no_memory u.reply (λ answers closed. reply_not_closed name unwinding failed (sym answers.replied ∙ closed)) either
+
+-- nor one of a table that can't be read
+pub no_memory_undamaged : (reply : Reply) → IsBrokenBy NoMemory reply → IsBrokenBy Damaged reply → ⊥
+no_memory_undamaged reply broken damaged = let e : Broken NoMemory ≡ Broken Damaged = sym broken ∙ damaged in cc
+
+reply_not_damaged : (name : List ℕ) (unwinding : Option Unwinding) (failed : Option Call) → IsBrokenBy Damaged (reply_to name unwinding failed) → ⊥
+reply_not_damaged name None None damaged = cc
+reply_not_damaged name None (Some call) damaged = cc
+reply_not_damaged name (Some u) failed damaged = cc
+
+pub answer_not_damaged : (name : List ℕ) (records : List Record) (copies : List Touched) (half : List (List ℕ)) (unwinding : Option Unwinding) (failed : Option Call) (touched displaced : List (List ℕ)) (u : AUnit) → IsBrokenBy NoMemory u.reply ⊎ AnswersBoth name records copies half unwinding failed touched displaced u → IsBrokenBy Damaged u.reply → ⊥
+answer_not_damaged name records copies half unwinding failed touched displaced u (inl broken) damaged = no_memory_undamaged u.reply broken damaged
+answer_not_damaged name records copies half unwinding failed touched displaced u (inr answers) damaged = reply_not_damaged name unwinding failed (sym answers.replied ∙ damaged)
 
 -- the faults of a unit
 

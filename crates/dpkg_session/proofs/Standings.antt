@@ -18,12 +18,13 @@ use Rattle.opening.specs.Opened.{IsFound, IsOpened}
 use Rattle.status_db.specs.Held.{IsKept}
 use Rattle.status_db.specs.Recorded.{Recorded}
 use Rattle.held_administration.specs.Order.{IsInOrder}
+use Rattle.unpack_relations.specs.declared.options.UnpackOptions.{UnpackOptions}
 use Rattle.dpkg_session.specs.declared.report.Candidate.{Candidate}
 use Rattle.unit_reports.specs.declared.report.Unit.{Unit as AUnit}
 use Rattle.unit_reports.specs.Held.{Held, held}
 use Rattle.dpkg_session.specs.Run.{IsRun}
 use Rattle.dpkg_session.specs.Standing.{AreRecorded, IsStanding}
-use Rattle.dpkg_session.proofs.Beside.{diverted_run, diverted_spare_run, entries_run}
+use Rattle.dpkg_session.proofs.Beside.{diverted_run, diverted_spare_run, table_run}
 
 directory_there : (node : Option Node) → is_directory node ≡ true → IsDirectory node
 directory_there None is = cc
@@ -50,7 +51,7 @@ recorded d w kept = (
   kept.free,
 )
 
-kept_recorded : (d : Recorded) (w : World) → AreRecorded d w → IsKept d w
+pub kept_recorded : (d : Recorded) (w : World) → AreRecorded d w → IsKept d w
 kept_recorded d w is = record {
   unblocked = record {
     home = directory_there (w home_path) is.0;
@@ -90,7 +91,7 @@ standing_found h w found = (
 pub standing_opened : (d : Recorded) (f : Filed) (v : Diverted) (w : World) → d.notes ≡ 0 → IsOpened d.records f.lists v.ways.entries w → IsStanding (held d f v) w
 standing_opened d f v w none opened = standing_found (held d f v) w (subst (λ n. IsFound d.records n f.lists v.ways.entries w) (sym none) opened)
 
-pub standing_run : (auto : Bool) (cs : List Candidate) (us : List AUnit) (before after : Held) (s t : State) → IsRun auto cs us before after s t → IsTrue t.honest → IsInOrder after.records after.lists t.world → IsStanding before s.world → IsStanding after t.world
+pub standing_run : (auto : UnpackOptions) (cs : List Candidate) (us : List AUnit) (before after : Held) (s t : State) → IsRun auto cs us before after s t → IsTrue t.honest → IsInOrder after.records after.lists t.world → IsStanding before s.world → IsStanding after t.world
 standing_run auto cs us before after s t run h order standing = (
   recorded after.records t.world order.kept,
   order.info,
@@ -99,5 +100,5 @@ standing_run auto cs us before after s t run h order standing = (
   no_directory_at (t.world (temporary diversions_path)) (s.world (temporary diversions_path)) (diverted_spare_run auto cs us before after s t run h) standing.4,
   order.tmp,
   order.listed,
-  ∥∥₁_map standing.7 (λ has. subst (λ (l : List Diversion). HasEntries (t.world diversions_path) l) (sym (entries_run auto cs us before after s t run)) (subst (λ n. HasEntries n before.ways.entries) (sym (diverted_run auto cs us before after s t run h)) has)),
+  ∥∥₁_map standing.7 (λ has. table_run auto cs us before after s t run h has),
 )

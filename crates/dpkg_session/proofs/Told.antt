@@ -27,10 +27,11 @@ use Rattle.unit_reports.specs.declared.refusal.Rule.{Rule}
 use Rattle.unit_reports.specs.declared.report.Unit.{Unit as AUnit}
 use Rattle.unit_reports.specs.Units.{HasNoCalls, TellsCalls, calls_of, last_calls}
 use Rattle.unit_reports.specs.declared.report.Report.{Report}
+use Rattle.unpack_relations.specs.declared.options.UnpackOptions.{UnpackOptions}
 use Rattle.dpkg_session.specs.Refusals.{IsDecisionFor}
-use Rattle.dpkg_session.specs.Growth.{grown}
+use Rattle.dpkg_session.specs.Rereading.{with_ways}
 use Rattle.dpkg_session.specs.Overriding.{taken_with}
-use Rattle.dpkg_session.specs.Units.{HasCalledBeside, HasCalledBy, HasCalledDecided, HasCalledOf, HasCalledOverridden, HasCalledPackage, HasCalledTaken, HasCalledWhole, HasUnpackedBeside, given_by, yielding}
+use Rattle.dpkg_session.specs.Units.{HasCalledBeside, HasCalledBy, HasCalledDecided, HasCalledOf, HasCalledOverridden, HasCalledPackage, HasCalledTaken, HasCalledWhole, HasUnpackedBeside, all_yielding, given_by}
 
 -- nothing was done
 pub silent_here : (s : State) → Silent s s
@@ -86,7 +87,7 @@ has_called_tells g s t told now (HasCalled.planned plan is rows) = rows_tell pla
 
 beside_tells : (p : Package) (beside : Beside) (before : Held) (s t : State) (told now : List Called) → HasCalledBeside p beside before s t told now → TellsAll s t told now
 beside_tells p beside before s t told now (HasCalledBeside.looking silent same) = tells_none s t told now (silent_calls s t silent) same
-beside_tells p beside before s t told now (HasCalledBeside.calling others rows called) = has_called_tells (given_by p before others (yielding beside)) s t told now called
+beside_tells p beside before s t told now (HasCalledBeside.calling others rows called) = has_called_tells (given_by p before others (all_yielding p beside before)) s t told now called
 
 -- all calls of an unpack that was carried out
 unpacked_tells : (p : Package) (beside : Beside) (before : Held) (places : List Path) (unwinding : Option Unwinding) (after : Recorded) (lists : List PackageList) (s t : State) (told now : List Called) → HasUnpackedBeside p beside before places unwinding after lists s t told now → TellsAll s t told now
@@ -107,23 +108,23 @@ called_by_tells : (p : Package) (decision : Checked) (before : Held) (u : AUnit)
 called_by_tells p (Refused rule) before u s t none = no_calls_tell u s t none
 called_by_tells p (Planned beside) before u s t called = whole_tells p beside before s t [] u.calls.items called
 
-decided_tells : (auto : Bool) (p : Package) (before : Held) (u : AUnit) (s t : State) → HasCalledDecided auto p before u s t → TellsAll s t [] u.calls.items
+decided_tells : (auto : UnpackOptions) (p : Package) (before : Held) (u : AUnit) (s t : State) → HasCalledDecided auto p before u s t → TellsAll s t [] u.calls.items
 decided_tells auto p before u s t (inl none) = no_calls_tell u s t none
 decided_tells auto p before u s t (inr called) = called_by_tells p called.0 before u s t called.2
 
-taken_tells : (auto : Bool) (taken : Result Package Rule) (before : Held) (u : AUnit) (s t : State) → HasCalledTaken auto taken before u s t → TellsAll s t [] u.calls.items
+taken_tells : (auto : UnpackOptions) (taken : Result Package Rule) (before : Held) (u : AUnit) (s t : State) → HasCalledTaken auto taken before u s t → TellsAll s t [] u.calls.items
 taken_tells auto (Err rule) before u s t none = no_calls_tell u s t none
 taken_tells auto (Ok q) before u s t called = decided_tells auto q before u s t called
 
-overridden_tells : (auto : Bool) (p : Package) (before : Held) (u : AUnit) (s t : State) → HasCalledOverridden auto p before u s t → TellsAll s t [] u.calls.items
+overridden_tells : (auto : UnpackOptions) (p : Package) (before : Held) (u : AUnit) (s t : State) → HasCalledOverridden auto p before u s t → TellsAll s t [] u.calls.items
 overridden_tells auto p before u s t (inl none) = no_calls_tell u s t none
 overridden_tells auto p before u s t (inr (read, are, called)) = taken_tells auto (taken_with read p) before u s t called
 
-package_tells : (auto : Bool) (p : Package) (before : Held) (u : AUnit) (s t : State) → HasCalledPackage auto p before u s t → TellsAll s t [] u.calls.items
+package_tells : (auto : UnpackOptions) (p : Package) (before : Held) (u : AUnit) (s t : State) → HasCalledPackage auto p before u s t → TellsAll s t [] u.calls.items
 package_tells auto p before u s t (inl none) = no_calls_tell u s t none
-package_tells auto p before u s t (inr (added, read, called)) = overridden_tells auto p (grown before added) u s t called
+package_tells auto p before u s t (inr (added, read, called)) = overridden_tells auto p (with_ways before added) u s t called
 
-pub called_tells : (auto : Bool) (tree : Result Package TreeFault) (before : Held) (u : AUnit) (s t : State) → HasCalledOf auto tree before u s t → TellsAll s t [] u.calls.items
+pub called_tells : (auto : UnpackOptions) (tree : Result Package TreeFault) (before : Held) (u : AUnit) (s t : State) → HasCalledOf auto tree before u s t → TellsAll s t [] u.calls.items
 called_tells auto (Err fault) before u s t none = no_calls_tell u s t none
 called_tells auto (Ok p) before u s t called = package_tells auto p before u s t called
 
@@ -135,17 +136,17 @@ called_nothing p beside before s told none = inl (HasCalledBeside.looking (silen
 pub no_calls : (u : AUnit) (s : State) → u.calls.items ≡ [] → HasNoCalls u s s
 no_calls u s none = record { silent = silent_here s; told = none }
 
-pub not_begun_decided : (auto : Bool) (p : Package) (before : Held) (u : AUnit) (s : State) → u.calls.items ≡ [] → HasCalledDecided auto p before u s s
+pub not_begun_decided : (auto : UnpackOptions) (p : Package) (before : Held) (u : AUnit) (s : State) → u.calls.items ≡ [] → HasCalledDecided auto p before u s s
 not_begun_decided auto p before u s none = inl (no_calls u s none)
 
-pub not_begun_package : (auto : Bool) (p : Package) (before : Held) (u : AUnit) (s : State) → u.calls.items ≡ [] → HasCalledPackage auto p before u s s
+pub not_begun_package : (auto : UnpackOptions) (p : Package) (before : Held) (u : AUnit) (s : State) → u.calls.items ≡ [] → HasCalledPackage auto p before u s s
 not_begun_package auto p before u s none = inl (no_calls u s none)
 
-pub called_decided : (auto : Bool) (p : Package) (beside : Beside) (decision : Checked) (before : Held) (u : AUnit) (s t : State) → IsDecisionFor p auto before decision → decision ≡ Planned beside
+pub called_decided : (auto : UnpackOptions) (p : Package) (beside : Beside) (decision : Checked) (before : Held) (u : AUnit) (s t : State) → IsDecisionFor p auto before decision → decision ≡ Planned beside
     → HasCalledWhole p beside before s t [] u.calls.items → HasCalledDecided auto p before u s t
 called_decided auto p beside decision before u s t decided is called = inr (decision, decided, subst (λ d. HasCalledBy p d before u s t) (sym is) called)
 
-pub called_read : (auto : Bool) (p : Package) (tree : Result Package TreeFault) (before : Held) (u : AUnit) (s t : State) → tree ≡ Ok p → HasCalledPackage auto p before u s t → HasCalledOf auto tree before u s t
+pub called_read : (auto : UnpackOptions) (p : Package) (tree : Result Package TreeFault) (before : Held) (u : AUnit) (s t : State) → tree ≡ Ok p → HasCalledPackage auto p before u s t → HasCalledOf auto tree before u s t
 called_read auto p tree before u s t is called = subst (λ r. HasCalledOf auto r before u s t) (sym is) called
 
 -- from the list that a unit began with, and as it tells it
@@ -153,6 +154,6 @@ pub called_as : (p : Package) (beside : Beside) (before : Held) (s t : State) (o
 called_as p beside before s t old now told empty is called = subst (λ l. HasCalledWhole p beside before s t l told) empty (subst (HasCalledWhole p beside before s t old) (sym is) called)
 
 -- a unit that wasn't begun
-pub not_begun : (auto : Bool) (tree : Result Package TreeFault) (before : Held) (u : AUnit) (s : State) → u.calls.items ≡ [] → HasCalledOf auto tree before u s s
+pub not_begun : (auto : UnpackOptions) (tree : Result Package TreeFault) (before : Held) (u : AUnit) (s : State) → u.calls.items ≡ [] → HasCalledOf auto tree before u s s
 not_begun auto (Err fault) before u s none = no_calls u s none
 not_begun auto (Ok p) before u s none = not_begun_package auto p before u s none

@@ -7,8 +7,8 @@ use Rattle.unit_reports.specs.Held.{Held}
 use Rattle.unit_reports.specs.declared.report.Report.{Report}
 use Rattle.unit_reports.specs.declared.report.Unit.{Unit as AUnit}
 use Rattle.unit_runs.specs.Turns.{GoesTo, TurnsTo}
-use Rattle.diversions.specs.Diverted.{Diverted}
-use Rattle.dpkg_session.specs.Growth.{KeepsEntries}
+use Rattle.dpkg_session.specs.Growth.{StaysWritable}
+use Rattle.unpack_relations.specs.declared.options.UnpackOptions.{UnpackOptions}
 use Rattle.dpkg_session.specs.Installs.{label_of}
 use Rattle.dpkg_session.specs.Run.{HasRunThrough}
 use Rattle.dpkg_session.specs.Trees.{AreRead}
@@ -20,14 +20,11 @@ pub lent_stays : {T : Type 0} (start later : Unread T) → GoesTo StaysLent star
 lent_stays start later GoesTo.here = refl
 lent_stays start later (GoesTo.then q more come goes) = goes.lent ∙ lent_stays start q come
 
-keeps_then : (a b c : Diverted) → KeepsEntries a b → KeepsEntries b c → KeepsEntries a c
-keeps_then a b c first second = second ∙ ap (λ (d : Diverted). record d { ways = record d.ways { aliases = c.ways.aliases } }) first
+pub writable_stays : {T : Type 0} (start later : Unread T) → GoesTo StaysLent start later → StaysWritable start.diverted later.diverted
+writable_stays start later GoesTo.here was = was
+writable_stays start later (GoesTo.then q more come goes) was = goes.writable (writable_stays start q come was)
 
-pub entries_stay : {T : Type 0} (start later : Unread T) → GoesTo StaysLent start later → KeepsEntries start.diverted later.diverted
-entries_stay start later GoesTo.here = refl
-entries_stay start later (GoesTo.then q more come goes) = keeps_then start.diverted q.diverted more.diverted (entries_stay start q come) goes.entries
-
-module _ {T : Type 0} (reads : T → Candidate → T → Type 0) (words : T → List (List ℕ)) (auto : Bool) (start : Unread T) (before : Held) (s : State) (none : start.labels ≡ []) where
+module _ {T : Type 0} (reads : T → Candidate → T → Type 0) (words : T → List (List ℕ)) (auto : UnpackOptions) (start : Unread T) (before : Held) (s : State) (none : start.labels ≡ []) where
   read_turns : (us : List AUnit) (left : Unread T) (after : Held) (t : State) → TurnsTo (UnpacksTree words reads auto) start before s us left after t
       → HasReadTo reads auto start.trees left.trees us left.labels before after s t
   read_turns us left after t TurnsTo.begun = read_start reads auto start.trees [] start.labels before s refl none

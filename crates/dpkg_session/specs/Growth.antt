@@ -1,5 +1,5 @@
 -- Aliases that are read before a unit is decided, above the paths of its tree, or above those of a diversion.
-use Rattle.std.specs.Prelude.{◌≡◌, Bool, true, IsTrue, List, [], ◌∷◌, ◌++◌}
+use Rattle.std.specs.Prelude.{◌≡◌, true, false, IsTrue, List, [], ◌∷◌, ◌++◌}
 use Rattle.aliases.specs.Aliases.{Alias}
 use Rattle.aliases.specs.Reading.{AreAliasesIn, Grows}
 use Rattle.diversions.specs.Diverted.{Diverted}
@@ -7,8 +7,6 @@ use Rattle.diversions.specs.Ways.{Ways}
 use Rattle.host_core.specs.Paths.{Path}
 use Rattle.host_core.specs.World.{World}
 use Rattle.opening.specs.Followed.{AreWhole}
-use Rattle.package_tree.specs.ShipMap.{paths_of}
-use Rattle.package_tree.specs.declared.package.Package.{Package}
 use Rattle.unit_reports.specs.Held.{Held}
 
 -- with more aliases, beside the same entries
@@ -30,10 +28,10 @@ pub record AreAdded (w : World) (paths : List Path) (old added : List Alias) : T
   pub along : GrowAlong w paths old (old ++ added)
   pub whole : AreAliasesIn w old → AreWhole w paths (old ++ added)
 
--- above the paths that a package ships, where the answers were true
-abbrev pub HasRead : Package → Held → List Alias → World → Bool → Type 0
-HasRead p before added w honest = IsTrue honest → AreAdded w (paths_of p.files) before.ways.aliases added
-
 -- only the aliases may be others
 abbrev pub KeepsEntries : Diverted → Diverted → Type 0
 KeepsEntries old new = new ≡ record old { ways = record old.ways { aliases = new.ways.aliases } }
+
+-- the table can be changed, if it could before
+abbrev pub StaysWritable : Diverted → Diverted → Type 0
+StaysWritable old new = old.closed ≡ false → new.closed ≡ false

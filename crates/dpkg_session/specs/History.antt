@@ -1,9 +1,9 @@
 -- Commands given one after another.
-use Rattle.std.specs.Prelude.{◌≡◌, ℕ, Bool, IsTrue, List, [], ◌∷◌, None}
+use Rattle.std.specs.Prelude.{◌≡◌, ℕ, IsTrue, List, [], ◌∷◌, None}
 use Rattle.adopted_conffiles.specs.Adopted.{all_adopted}
 use Rattle.aliases.specs.Aliases.{Alias}
-use Rattle.conffiles.specs.declared.decisions.ConfPolicy.{ConfPolicy}
 use Rattle.configure_run.specs.Run.{IsConfigureRun}
+use Rattle.diversions.specs.Ways.{Ways}
 use Rattle.host_core.specs.Paths.{is_own}
 use Rattle.host_core.specs.World.{World, KeepsBut, SameOn}
 use Rattle.host_core.specs.Host.{State}
@@ -12,10 +12,12 @@ use Rattle.opening.specs.Parts.{OpensAndMerges}
 use Rattle.record_changes.specs.Run.{IsChangeRun}
 use Rattle.record_changes.specs.declared.change.RecordChange.{RecordChange}
 use Rattle.removal_run.specs.Run.{IsRemovalRun}
-use Rattle.removal_run.specs.declared.extents.Extents.{Extents}
+use Rattle.removal_run.specs.declared.options.RemovalOptions.{RemovalOptions}
 use Rattle.status_db.specs.Held.{is_record_place}
 use Rattle.status_db.specs.Noting.{AreNoted}
 use Rattle.trigger_run.specs.Run.{IsTriggerRun}
+use Rattle.configure_run.specs.declared.options.ConfigureOptions.{ConfigureOptions}
+use Rattle.unpack_relations.specs.declared.options.UnpackOptions.{UnpackOptions}
 use Rattle.dpkg_session.specs.declared.asked.Diverting.{Diverting}
 use Rattle.dpkg_session.specs.declared.asked.Undiverting.{Undiverting}
 use Rattle.dpkg_session.specs.declared.report.Candidate.{Candidate}
@@ -24,24 +26,27 @@ use Rattle.dpkg_session.specs.Checkpoints.{merged}
 use Rattle.dpkg_session.specs.Diversions.{HasDiverted, HasUndiverted}
 use Rattle.unit_reports.specs.Held.{Held}
 use Rattle.dpkg_session.specs.Installs.{IsInstall}
+use Rattle.dpkg_session.specs.Rereading.{HasReread, with_ways}
 use Rattle.dpkg_session.specs.Run.{IsRun}
 
 -- a command with the units that were reported
 pub data Ran : Type 0 where
   -- the trees that were to be unpacked, and whether other packages might be deconfigured
-  Unpacked : (auto_deconfigure : Bool) (candidates : List Candidate) (units : List AUnit) → Ran
+  Unpacked : (allowed : UnpackOptions) (candidates : List Candidate) (units : List AUnit) → Ran
   Diverted : (asked : Diverting) (unit : AUnit) → Ran
   Undiverted : (asked : Undiverting) (unit : AUnit) → Ran
   -- the names of the packages that were to be configured
-  Configured : (names : List (List ℕ)) (policy : ConfPolicy) (units : List AUnit) → Ran
+  Configured : (names : List (List ℕ)) (options : ConfigureOptions) (units : List AUnit) → Ran
   -- of those that were to be removed, or purged
-  Removed : (names : List (List ℕ)) (extents : Extents) (units : List AUnit) → Ran
+  Removed : (names : List (List ℕ)) (options : RemovalOptions) (units : List AUnit) → Ran
   -- what was to be changed of records
   Changed : (changes : List RecordChange) (units : List AUnit) → Ran
   -- the names of the packages whose triggers were to be processed
   Triggered : (names : List (List ℕ)) (units : List AUnit) → Ran
   -- trees that were to be unpacked and configured, with the units of both
-  Installed : (auto_deconfigure : Bool) (candidates : List Candidate) (policy : ConfPolicy) (unpacked configured : List AUnit) → Ran
+  Installed : (allowed : UnpackOptions) (candidates : List Candidate) (options : ConfigureOptions) (unpacked configured : List AUnit) → Ran
+  -- the table of diversions was read again, before a command, and these are the ways that it goes by
+  Reread : (ways : Ways) → Ran
   -- the end of a command, behind its units: all notes were merged
   Merged : Ran
 
@@ -52,15 +57,16 @@ pub record KeepsRest (before after : Held) : Type 0 where
 
 -- the units of a command
 abbrev pub HasDone : Ran → Held → Held → State → State → Type 0
-HasDone (Unpacked auto_deconfigure candidates units) before after s t = IsRun auto_deconfigure candidates units before after s t
+HasDone (Unpacked allowed candidates units) before after s t = IsRun allowed candidates units before after s t
 HasDone (Diverted asked unit) before after s t =
     HasDiverted asked before.records.records before.lists before.ways after.ways unit s t × KeepsRest before after
 HasDone (Undiverted asked unit) before after s t = HasUndiverted asked before.ways after.ways unit s t × KeepsRest before after
-HasDone (Configured names policy units) before after s t = IsConfigureRun names policy units before after s t
-HasDone (Removed names extents units) before after s t = IsRemovalRun names extents units before after s t
+HasDone (Configured names options units) before after s t = IsConfigureRun names options units before after s t
+HasDone (Removed names options units) before after s t = IsRemovalRun names options units before after s t
 HasDone (Changed changes units) before after s t = IsChangeRun changes units before after s t
 HasDone (Triggered names units) before after s t = IsTriggerRun names units before after s t
-HasDone (Installed auto_deconfigure candidates policy unpacked configured) before after s t = IsInstall auto_deconfigure candidates policy unpacked configured before after s t
+HasDone (Installed allowed candidates options unpacked configured) before after s t = IsInstall allowed candidates options unpacked configured before after s t
+HasDone (Reread ways) before after s t = HasReread before ways s t × (after ≡ with_ways before ways)
 HasDone Merged before after s t = (after ≡ merged before) × (IsTrue t.honest → AreNoted before.records.records 0 s.world t.world)
 
 -- the administration stands for these records, lists and diversions, and all parts of it can be read

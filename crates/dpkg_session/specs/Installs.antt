@@ -2,7 +2,6 @@
 use Rattle.std.specs.Prelude.{◌≡◌, ◌⊎◌, ◌&&◌, ℕ, Bool, IsTrue, true, false, not, List, [], ◌∷◌, ◌++◌, Option, Some, None, IsNone, Result, Ok, Err, filter, map}
 use Rattle.std.specs.List.{list_any}
 use Rattle.std.specs.Str.{bytes_eq}
-use Rattle.conffiles.specs.declared.decisions.ConfPolicy.{ConfPolicy}
 use Rattle.configure_run.specs.Run.{IsConfigureRun, HasRun as HasConfigured, IsAmidRun as IsAmidConfigure}
 use Rattle.host_core.specs.Events.{Event}
 use Rattle.host_core.specs.Host.{State, Since}
@@ -15,12 +14,15 @@ use Rattle.status_records.specs.declared.words.State.TheVariants.{NotInstalled, 
 use Rattle.unit_reports.specs.Held.{Held}
 use Rattle.unit_reports.specs.Units.{calls_told}
 use Rattle.unit_reports.specs.declared.report.Reply.{Reply}
-use Rattle.unit_reports.specs.declared.report.Reply.TheVariants.{Done, Refused, Failed, Broken}
+use Rattle.unit_reports.specs.declared.report.Reply.TheVariants.{Done, Refused, Failed, Looped, Broken}
 use Rattle.unit_reports.specs.declared.report.Report.{Report}
 use Rattle.unit_reports.specs.declared.report.Touched.{Touched}
 use Rattle.unit_reports.specs.declared.report.Unit.{Unit as AUnit}
 use Rattle.undo_rows.specs.Transcript.{TellsAll}
+use Rattle.configure_run.specs.declared.options.ConfigureOptions.{ConfigureOptions}
+use Rattle.unpack_relations.specs.declared.options.UnpackOptions.{UnpackOptions}
 use Rattle.dpkg_session.specs.PowerLoss.{LosesLikeAStop}
+use Rattle.dpkg_session.specs.Rereading.{BehindReading, IsAmidReading, IsUnread}
 use Rattle.dpkg_session.specs.Run.{AreReadInTurn, HasRun, IsAmidRun, IsRun}
 use Rattle.dpkg_session.specs.declared.report.Candidate.{Candidate}
 
@@ -64,6 +66,7 @@ abbrev pub if_done : Reply → List (List ℕ) → List (List ℕ)
 if_done Done names = names
 if_done (Refused refusal) names = []
 if_done (Failed failure) names = []
+if_done (Looped cycle) names = []
 if_done (Broken breakage) names = []
 
 -- a unit's package, where it answered Done, and behind it those that were deconfigured for it (Policy 7.3)
@@ -86,12 +89,12 @@ abbrev pub last_of : Option AUnit → Option AUnit → Option AUnit
 last_of None second = second
 last_of (Some u) second = Some u
 
--- The trees were unpacked, and then those packages were configured that answered Done.
-pub record IsInstall (auto_deconfigure : Bool) (cs : List Candidate) (policy : ConfPolicy) (unpacked configured : List AUnit) (before after : Held) (s t : State) : Type 0 where
+-- The trees were unpacked, and then, once the table of diversions was read again, those packages were configured that answered Done.
+pub record IsInstall (allowed : UnpackOptions) (cs : List Candidate) (options : ConfigureOptions) (unpacked configured : List AUnit) (before after : Held) (s t : State) : Type 0 where
   pub mid : Held
   pub m : State
-  pub unpacks : IsRun auto_deconfigure cs unpacked before mid s m
-  pub configures : IsConfigureRun (packages_done cs unpacked) policy configured mid after m t
+  pub unpacks : IsRun allowed cs unpacked before mid s m
+  pub configures : BehindReading (λ h n. IsConfigureRun (packages_done cs unpacked) options configured h after n t) mid m
 
 -- nothing is reported
 pub record IsEmptyReport (report : Report) : Type 0 where
@@ -99,45 +102,45 @@ pub record IsEmptyReport (report : Report) : Type 0 where
   pub last : report.last ≡ None
 
 -- All trees were unpacked, and of what was configured then this is known.
-pub record HasGoneOn (auto_deconfigure : Bool) (cs : List Candidate) (policy : ConfPolicy) (unpacked : List AUnit) (configured : Report) (before : Held) (s t : State) : Type 0 where
+pub record HasGoneOn (allowed : UnpackOptions) (cs : List Candidate) (options : ConfigureOptions) (unpacked : List AUnit) (configured : Report) (before : Held) (s t : State) : Type 0 where
   pub mid : Held
   pub m : State
-  pub unpacks : IsRun auto_deconfigure cs unpacked before mid s m
-  pub configures : HasConfigured (packages_done cs unpacked) policy configured.units.items configured.last mid m t
+  pub unpacks : IsRun allowed cs unpacked before mid s m
+  pub configures : IsUnread configured.units.items configured.last m t ⊎ BehindReading (λ h n. HasConfigured (packages_done cs unpacked) options configured.units.items configured.last h n t) mid m
 
 -- How far an install came: up to an unpack that was broken off, and then nothing is configured; or behind all unpacks.
-abbrev pub HasInstalled : Bool → List Candidate → ConfPolicy → List AUnit → Option AUnit → Report → Held → State → State → Type 0
-HasInstalled auto_deconfigure cs policy unpacked (Some u) configured before s t =
-    HasRun auto_deconfigure cs unpacked (Some u) before s t × IsEmptyReport configured
-HasInstalled auto_deconfigure cs policy unpacked None configured before s t = HasGoneOn auto_deconfigure cs policy unpacked configured before s t
+abbrev pub HasInstalled : UnpackOptions → List Candidate → ConfigureOptions → List AUnit → Option AUnit → Report → Held → State → State → Type 0
+HasInstalled allowed cs options unpacked (Some u) configured before s t =
+    HasRun allowed cs unpacked (Some u) before s t × IsEmptyReport configured
+HasInstalled allowed cs options unpacked None configured before s t = HasGoneOn allowed cs options unpacked configured before s t
 
 -- the unpacks are done, and what was done since then is this
-pub record IsAmidConfiguring (auto_deconfigure : Bool) (cs : List Candidate) (policy : ConfPolicy) (before : Held) (s : State) (so_far : List Event) (now : World) : Type 0 where
+pub record IsAmidConfiguring (allowed : UnpackOptions) (cs : List Candidate) (options : ConfigureOptions) (before : Held) (s : State) (so_far : List Event) (now : World) : Type 0 where
   pub unpacked : List AUnit
   pub mid : Held
   pub m : State
   pub honest : IsTrue m.honest
-  pub unpacks : IsRun auto_deconfigure cs unpacked before mid s m
+  pub unpacks : IsRun allowed cs unpacked before mid s m
   pub front : List Event
   pub rest : List Event
   pub are : so_far ≡ front ++ rest
   pub events : m.events ≡ s.events ++ front
-  pub configuring : IsAmidConfigure (packages_done cs unpacked) policy mid m rest now
+  pub configuring : IsAmidReading (λ h. IsAmidConfigure (packages_done cs unpacked) options h) mid m rest now
 
 -- at each moment of an install
-abbrev pub IsAmidInstall : Bool → List Candidate → ConfPolicy → Held → State → List Event → World → Type 0
-IsAmidInstall auto_deconfigure cs policy before s so_far now =
-    IsAmidRun auto_deconfigure cs before s so_far now ⊎ IsAmidConfiguring auto_deconfigure cs policy before s so_far now
+abbrev pub IsAmidInstall : UnpackOptions → List Candidate → ConfigureOptions → Held → State → List Event → World → Type 0
+IsAmidInstall allowed cs options before s so_far now =
+    IsAmidRun allowed cs before s so_far now ⊎ IsAmidConfiguring allowed cs options before s so_far now
 
 -- the calls of both reports are those by which the host's own list has grown
 abbrev pub TellsBoth : State → State → Report → Report → Type 0
 TellsBoth s t first second = TellsAll s t [] (calls_told first ++ calls_told second)
 
 -- The reports of an install over trees of which these were read, and those of the other words were not.
-pub record HasInstalledThrough (auto_deconfigure : Bool) (cs : List Candidate) (left : List (List ℕ)) (policy : ConfPolicy) (unpacked configured : Report) (before after : Held) (s t : State) : Type 0 where
-  pub whole : IsNone (last_of unpacked.last configured.last) → IsInstall auto_deconfigure cs policy unpacked.units.items configured.units.items before after s t
+pub record HasInstalledThrough (allowed : UnpackOptions) (cs : List Candidate) (left : List (List ℕ)) (options : ConfigureOptions) (unpacked configured : Report) (before after : Held) (s t : State) : Type 0 where
+  pub whole : IsNone (last_of unpacked.last configured.last) → IsInstall allowed cs options unpacked.units.items configured.units.items before after s t
   pub all : IsNone unpacked.last → left ≡ []
-  pub part : HasInstalled auto_deconfigure cs policy unpacked.units.items unpacked.last configured before s t
+  pub part : HasInstalled allowed cs options unpacked.units.items unpacked.last configured before s t
   pub read : AreReadInTurn cs unpacked.units.items unpacked.last
-  pub any_moment : Since (IsAmidInstall auto_deconfigure cs policy before s) s t
-  pub loss : LosesLikeAStop (IsAmidInstall auto_deconfigure cs policy before s) s t
+  pub any_moment : Since (IsAmidInstall allowed cs options before s) s t
+  pub loss : LosesLikeAStop (IsAmidInstall allowed cs options before s) s t

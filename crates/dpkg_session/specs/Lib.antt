@@ -1,5 +1,6 @@
 pub mod Standing
 pub mod Refusals
+pub mod Rereading
 pub mod Overriding
 pub mod Touched
 pub mod Units

@@ -14,6 +14,7 @@ use Rattle.unit_reports.specs.declared.refusal.Rule.TheVariants.{ConffileDiverte
 use Rattle.unpack_relations.specs.Checks.{IsChecked}
 use Rattle.unpack_relations.specs.declared.checking.Checked.{Checked}
 use Rattle.unpack_relations.specs.declared.checking.Checked.TheVariants.{Refused}
+use Rattle.unpack_relations.specs.declared.options.UnpackOptions.{UnpackOptions}
 
 -- the file of a path is diverted for the package: it isn't where the aliases above the path lead
 abbrev pub is_away : Ways → List ℕ → Path → Bool
@@ -34,14 +35,14 @@ abbrev pub conffile_away : Ways → Package → Option Path
 conffile_away ways p = first_of (first_away ways p.name p.conffiles) (first_away ways p.name p.flagged)
 
 -- a conffile is diverted, or else relations to the recorded packages say it (Policy 7.2 to 7.6)
-abbrev pub IsDecisionBy : Option Path → Package → Bool → List Record → Checked → Type 0
-IsDecisionBy (Some path) p auto_deconfigure records decision = decision ≡ Refused (ConffileDiverted path)
-IsDecisionBy None p auto_deconfigure records decision = IsChecked records p auto_deconfigure decision
+abbrev pub IsDecisionBy : Option Path → Package → UnpackOptions → List Record → Checked → Type 0
+IsDecisionBy (Some path) p allowed records decision = decision ≡ Refused (ConffileDiverted path)
+IsDecisionBy None p allowed records decision = IsChecked records p allowed decision
 
 -- the first rule that refuses a package, or what its unpack does to other packages, which are deconfigured only by leave
-abbrev pub IsDecisionOf : Package → Bool → List Record → Ways → Checked → Type 0
-IsDecisionOf p auto_deconfigure records ways decision = IsDecisionBy (conffile_away ways p) p auto_deconfigure records decision
+abbrev pub IsDecisionOf : Package → UnpackOptions → List Record → Ways → Checked → Type 0
+IsDecisionOf p allowed records ways decision = IsDecisionBy (conffile_away ways p) p allowed records decision
 
 -- the same by what is held
-abbrev pub IsDecisionFor : Package → Bool → Held → Checked → Type 0
-IsDecisionFor p auto_deconfigure h decision = IsDecisionOf p auto_deconfigure h.records.records h.ways decision
+abbrev pub IsDecisionFor : Package → UnpackOptions → Held → Checked → Type 0
+IsDecisionFor p allowed h decision = IsDecisionOf p allowed h.records.records h.ways decision

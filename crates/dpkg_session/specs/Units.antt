@@ -1,9 +1,9 @@
 -- Units of an unpack: what each did, and what it answers.
 use Rattle.std.specs.Prelude.{◌≡◌, ◌⊎◌, ℕ, Bool, IsTrue, List, [], ◌++◌, Option, Some, None, Result, Ok, Err, map}
-use Rattle.aliases.specs.Aliases.{Alias}
 use Rattle.displaced_packages.specs.Displacing.{HasCalled as HasCalledDisplacing, HaveBeenDisplaced}
 use Rattle.displaced_packages.specs.Losing.{losing_beside}
 use Rattle.disappearance.specs.declared.losing.Losing.{Losing}
+use Rattle.diversions.specs.Ways.{Ways}
 use Rattle.host_core.specs.Host.{State, Needs, Silent}
 use Rattle.host_core.specs.Paths.{Path}
 use Rattle.host_core.specs.World.{World}
@@ -11,6 +11,7 @@ use Rattle.host_core.specs.declared.call.Call.{Call}
 use Rattle.file_lists.specs.declared.paths.PackageList.{PackageList}
 use Rattle.in_favour_rows.specs.Entries.{entries_of}
 use Rattle.in_favour_rows.specs.Rows.{AreRowsBeside, AreRowsOf}
+use Rattle.obsolete_conffiles.specs.Yields.{obsolete_yields}
 use Rattle.removal_run.specs.Units.{holding_of}
 use Rattle.package_tree.specs.declared.package.Package.{Package}
 use Rattle.package_tree.specs.declared.fault.TreeFault.{TreeFault}
@@ -30,16 +31,18 @@ use Rattle.unpack_relations.specs.declared.checking.Checked.TheVariants as check
 use Rattle.unpack_rows.specs.declared.rows.OtherPackage.{OtherPackage}
 use Rattle.undo_rows.specs.declared.rows.Called.{Called}
 use Rattle.unit_reports.specs.Held.{Held, places_of}
-use Rattle.unit_reports.specs.Units.{HasNoCalls, IsBroken, IsRefused, TellsNoPackage, touched_at}
+use Rattle.unit_reports.specs.Units.{HasNoCalls, IsBroken, IsBrokenBy, IsRefused, TellsNoPackage, touched_at}
 use Rattle.unit_reports.specs.declared.refusal.Rule.{Rule}
 use Rattle.unit_reports.specs.declared.refusal.Rule.TheVariants.{Tree}
+use Rattle.unit_reports.specs.declared.report.Breakage.TheVariants.{Damaged}
 use Rattle.unit_reports.specs.declared.report.Reply.{Reply}
 use Rattle.unit_reports.specs.declared.report.Reply.TheVariants.{Done, Failed}
 use Rattle.unit_reports.specs.declared.report.Touched.{Touched}
 use Rattle.unit_reports.specs.declared.report.Unit.{Unit as AUnit}
-use Rattle.dpkg_session.specs.Growth.{HasRead, grown}
+use Rattle.unpack_relations.specs.declared.options.UnpackOptions.{UnpackOptions}
 use Rattle.dpkg_session.specs.Overriding.{AreOverrides, taken_with}
 use Rattle.dpkg_session.specs.Refusals.{IsDecisionFor}
+use Rattle.dpkg_session.specs.Rereading.{HasRead, IsTableDamaged, with_ways}
 use Rattle.dpkg_session.specs.Touched.{AreDeconfigured, AreTold, IsTouchedBeside, half_configured}
 use Rattle.dpkg_session.specs.declared.displacing.Behind.{Behind}
 use Rattle.dpkg_session.specs.declared.report.Candidate.{Candidate}
@@ -51,6 +54,10 @@ given_by p h others yields = given_beside p h.records.records h.lists h.ways oth
 -- the conflicting and the replaced packages let it take paths of theirs (Policy 7.4, 7.6)
 abbrev pub yielding : Beside → List (List ℕ)
 yielding beside = beside.conflicting ++ beside.replaced
+
+-- behind them those of which the package takes obsolete conffiles alone
+abbrev pub all_yielding : Package → Beside → Held → List (List ℕ)
+all_yielding p beside h = yielding beside ++ obsolete_yields h.ways p h.lists h.records.records (yielding beside)
 
 -- the other packages that have rows, by the scripts that are stored in this world; where the host wasn't honest each still has the
 -- row of its role
@@ -79,8 +86,8 @@ pub record AnswersBoth (name : List ℕ) (records : List Record) (copies : List 
 pub record HasUnpackedBeside (p : Package) (beside : Beside) (h : Held) (places : List Path) (unwinding : Option Unwinding) (after : Recorded) (lists : List PackageList) (s t : State) (told now : List Called) : Type 0 where
   pub others : List OtherPackage
   pub have_rows : HaveRows p beside h.records.records s.world t.honest others
-  pub unpacked : HasUnpacked (given_by p h others (yielding beside)) places (ended_as unwinding) after lists s t told now
-  pub cause : HasFailedFor (given_by p h others (yielding beside)) s t unwinding
+  pub unpacked : HasUnpacked (given_by p h others (all_yielding p beside h)) places (ended_as unwinding) after lists s t told now
+  pub cause : HasFailedFor (given_by p h others (all_yielding p beside h)) s t unwinding
 
 -- nothing was displaced
 pub record HasDisplacedNone (displaced : List (List ℕ)) (failed : Option Call) (mid after : Held) (m t : State) (told now : List Called) : Type 0 where
@@ -152,37 +159,37 @@ IsUnitBy p (checked.Refused rule) before after u s t = IsRefused rule p.name bef
 IsUnitBy p (checked.Planned beside) before after u s t = IsUnpacked p beside before after u s t
 
 -- the unit of a package, once the aliases above its paths are known; it may deconfigure other packages or not
-abbrev pub IsDecidedUnit : Bool → Package → Held → Held → AUnit → State → State → Type 0
-IsDecidedUnit auto_deconfigure p before after u s t = (decision : Checked) × IsDecisionFor p auto_deconfigure before decision × IsUnitBy p decision before after u s t
+abbrev pub IsDecidedUnit : UnpackOptions → Package → Held → Held → AUnit → State → State → Type 0
+IsDecidedUnit allowed p before after u s t = (decision : Checked) × IsDecisionFor p allowed before decision × IsUnitBy p decision before after u s t
 
 -- the unit of a package of this name, by what the overrides make of it: a rule refuses it, or it has their accesses
-abbrev pub IsTakenUnit : Bool → List ℕ → Result Package Rule → Held → Held → AUnit → State → State → Type 0
-IsTakenUnit auto_deconfigure name (Err rule) before after u s t = IsRefused rule name before after u s t
-IsTakenUnit auto_deconfigure name (Ok q) before after u s t = IsDecidedUnit auto_deconfigure q before after u s t
+abbrev pub IsTakenUnit : UnpackOptions → List ℕ → Result Package Rule → Held → Held → AUnit → State → State → Type 0
+IsTakenUnit allowed name (Err rule) before after u s t = IsRefused rule name before after u s t
+IsTakenUnit allowed name (Ok q) before after u s t = IsDecidedUnit allowed q before after u s t
 
 -- the unit of a package the aliases above whose paths are known: the overrides of the root, as it is then, are read first
-abbrev pub IsOverriddenUnit : Bool → Package → Held → Held → AUnit → State → State → Type 0
-IsOverriddenUnit auto_deconfigure p before after u s t =
-    (read : Result Overrides ℕ) × AreOverrides read s.world t.honest × IsTakenUnit auto_deconfigure p.name (taken_with read p) before after u s t
+abbrev pub IsOverriddenUnit : UnpackOptions → Package → Held → Held → AUnit → State → State → Type 0
+IsOverriddenUnit allowed p before after u s t =
+    (read : Result Overrides ℕ) × AreOverrides read s.world t.honest × IsTakenUnit allowed p.name (taken_with read p) before after u s t
 
--- the unit of a tree that was read: what is missing of the aliases above its paths is read first
-abbrev pub IsPackageUnit : Bool → Package → Held → Held → AUnit → State → State → Type 0
-IsPackageUnit auto_deconfigure p before after u s t = (added : List Alias) × HasRead p before added s.world t.honest × IsOverriddenUnit auto_deconfigure p (grown before added) after u s t
+-- the unit of a tree that was read: the table of diversions is read again first, and what is missing of the aliases above its paths
+abbrev pub IsPackageUnit : UnpackOptions → Package → Held → Held → AUnit → State → State → Type 0
+IsPackageUnit allowed p before after u s t = (ways : Ways) × HasRead p before ways s.world t.honest × IsOverriddenUnit allowed p (with_ways before ways) after u s t
 
 -- a tree that can't be read is refused first
-abbrev pub IsUnitOf : Bool → List ℕ → Result Package TreeFault → Held → Held → AUnit → State → State → Type 0
-IsUnitOf auto_deconfigure label (Err fault) before after u s t = IsRefused (Tree fault) label before after u s t
-IsUnitOf auto_deconfigure label (Ok p) before after u s t = IsPackageUnit auto_deconfigure p before after u s t
+abbrev pub IsUnitOf : UnpackOptions → List ℕ → Result Package TreeFault → Held → Held → AUnit → State → State → Type 0
+IsUnitOf allowed label (Err fault) before after u s t = IsRefused (Tree fault) label before after u s t
+IsUnitOf allowed label (Ok p) before after u s t = IsPackageUnit allowed p before after u s t
 
-abbrev pub IsUnit : Bool → Candidate → Held → Held → AUnit → State → State → Type 0
-IsUnit auto_deconfigure c before after u s t = IsUnitOf auto_deconfigure c.label c.tree before after u s t
+abbrev pub IsUnit : UnpackOptions → Candidate → Held → Held → AUnit → State → State → Type 0
+IsUnit allowed c before after u s t = IsUnitOf allowed c.label c.tree before after u s t
 
 -- the calls of an unpack, whatever its answer: none as long as it looks which rows other packages have, then the first of those
 -- with these rows
 pub data HasCalledBeside (p : Package) (beside : Beside) (h : Held) (s t : State) (told now : List Called) : Type 0 where
   looking : Silent s t → now ≡ told → HasCalledBeside p beside h s t told now
   calling : (others : List OtherPackage) → HaveRows p beside h.records.records s.world t.honest others
-      → HasCalled (given_by p h others (yielding beside)) s t told now → HasCalledBeside p beside h s t told now
+      → HasCalled (given_by p h others (all_yielding p beside h)) s t told now → HasCalledBeside p beside h s t told now
 
 -- all calls of an unpack that is committed, and then the first of those for what it displaces
 pub record HasCalledBehind (p : Package) (beside : Beside) (h : Held) (s t : State) (told now : List Called) : Type 0 where
@@ -203,32 +210,34 @@ HasCalledBy p (checked.Refused rule) before u s t = HasNoCalls u s t
 HasCalledBy p (checked.Planned beside) before u s t = HasCalledWhole p beside before s t [] u.calls.items
 
 -- once the aliases above its paths are known; memory may be wanting before it is decided
-abbrev pub HasCalledDecided : Bool → Package → Held → AUnit → State → State → Type 0
-HasCalledDecided auto_deconfigure p before u s t =
-    HasNoCalls u s t ⊎ ((decision : Checked) × IsDecisionFor p auto_deconfigure before decision × HasCalledBy p decision before u s t)
+abbrev pub HasCalledDecided : UnpackOptions → Package → Held → AUnit → State → State → Type 0
+HasCalledDecided allowed p before u s t =
+    HasNoCalls u s t ⊎ ((decision : Checked) × IsDecisionFor p allowed before decision × HasCalledBy p decision before u s t)
 
 -- by what the overrides make of it
-abbrev pub HasCalledTaken : Bool → Result Package Rule → Held → AUnit → State → State → Type 0
-HasCalledTaken auto_deconfigure (Err rule) before u s t = HasNoCalls u s t
-HasCalledTaken auto_deconfigure (Ok q) before u s t = HasCalledDecided auto_deconfigure q before u s t
+abbrev pub HasCalledTaken : UnpackOptions → Result Package Rule → Held → AUnit → State → State → Type 0
+HasCalledTaken allowed (Err rule) before u s t = HasNoCalls u s t
+HasCalledTaken allowed (Ok q) before u s t = HasCalledDecided allowed q before u s t
 
 -- it may be broken off before the overrides are known
-abbrev pub HasCalledOverridden : Bool → Package → Held → AUnit → State → State → Type 0
-HasCalledOverridden auto_deconfigure p before u s t =
-    HasNoCalls u s t ⊎ ((read : Result Overrides ℕ) × AreOverrides read s.world t.honest × HasCalledTaken auto_deconfigure (taken_with read p) before u s t)
+abbrev pub HasCalledOverridden : UnpackOptions → Package → Held → AUnit → State → State → Type 0
+HasCalledOverridden allowed p before u s t =
+    HasNoCalls u s t ⊎ ((read : Result Overrides ℕ) × AreOverrides read s.world t.honest × HasCalledTaken allowed (taken_with read p) before u s t)
 
--- of a tree that was read; it may be broken off before the aliases are known
-abbrev pub HasCalledPackage : Bool → Package → Held → AUnit → State → State → Type 0
-HasCalledPackage auto_deconfigure p before u s t =
-    HasNoCalls u s t ⊎ ((added : List Alias) × HasRead p before added s.world t.honest × HasCalledOverridden auto_deconfigure p (grown before added) u s t)
+-- of a tree that was read; it may be broken off before the diversions and aliases are known
+abbrev pub HasCalledPackage : UnpackOptions → Package → Held → AUnit → State → State → Type 0
+HasCalledPackage allowed p before u s t =
+    HasNoCalls u s t ⊎ ((ways : Ways) × HasRead p before ways s.world t.honest × HasCalledOverridden allowed p (with_ways before ways) u s t)
 
 -- none for a tree that can't be read
-abbrev pub HasCalledOf : Bool → Result Package TreeFault → Held → AUnit → State → State → Type 0
-HasCalledOf auto_deconfigure (Err fault) before u s t = HasNoCalls u s t
-HasCalledOf auto_deconfigure (Ok p) before u s t = HasCalledPackage auto_deconfigure p before u s t
+abbrev pub HasCalledOf : UnpackOptions → Result Package TreeFault → Held → AUnit → State → State → Type 0
+HasCalledOf allowed (Err fault) before u s t = HasNoCalls u s t
+HasCalledOf allowed (Ok p) before u s t = HasCalledPackage allowed p before u s t
 
--- the unit of a candidate that was broken off: it tells no package, and made the first of its calls alone
-pub record IsBrokenOff (auto_deconfigure : Bool) (c : Candidate) (before : Held) (u : AUnit) (s t : State) : Type 0 where
+-- The unit of a candidate that was broken off: it tells no package, and made the first of its calls alone. It is told as damage only where
+-- the table of diversions can't be read.
+pub record IsBrokenOff (allowed : UnpackOptions) (c : Candidate) (before : Held) (u : AUnit) (s t : State) : Type 0 where
   pub broken : IsBroken u.reply
   pub untouched : TellsNoPackage u
-  pub called : HasCalledOf auto_deconfigure c.tree before u s t
+  pub called : HasCalledOf allowed c.tree before u s t
+  pub damaged : IsBrokenBy Damaged u.reply → IsTrue t.honest → IsTableDamaged s.world

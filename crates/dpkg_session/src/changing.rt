@@ -15,8 +15,8 @@ use record_changes::{RecordChange, change_records};
 use unit_reports::{Report, Watcher};
 
 impl<H: Host> Session<H> {
-    /// Changes records, in the order given: what is wanted of a package, or which triggers it is to process. Nothing else is done with
-    /// it. Each unit is told as it is finished; one that is broken off closes the session.
+    /// Changes records, in the order given: what is wanted of a package, which triggers it is to process, or that what is pending of it
+    /// is abandoned. Nothing else is done with it. Each unit is told as it is finished; one that is broken off closes the session.
     pub fn change<W: Watcher>(&mut self, changes: Vec<RecordChange>, watcher: &mut W) -> Report
         ensures whole { self.old.closed ≡ false → IsNone result.last
             → IsChangeRun changes.items result.units.items

@@ -1,5 +1,5 @@
 // A session configures packages.
-ghost use Rattle.std.specs.Prelude.{◌≡◌, true, false, IfOk, IfSome, IsNone, is_some, option_map};
+ghost use Rattle.std.specs.Prelude.{◌≡◌, ◌⊎◌, true, false, IfOk, IfSome, IsNone, is_some, option_map};
 ghost use Rattle.configure_run.specs.Run.{HasRun, IsAmidRun, IsConfigureRun};
 ghost use Rattle.held_administration.specs.Open.{IsOpen};
 ghost use Rattle.host_core.specs.Host.{Falls, Needs, Since};
@@ -11,13 +11,14 @@ ghost use Rattle.unit_reports.specs.Units.{CountsLast, IsBrokenBy, IsClosedRepor
 ghost use Rattle.unit_reports.specs.Watching.{IsTold};
 ghost use Rattle.unit_reports.specs.declared.report.Breakage.TheVariants.{Closed};
 ghost use Rattle.dpkg_session.specs.Asked.{names_asked};
+ghost use Rattle.dpkg_session.specs.Growth.{StaysWritable};
 ghost use Rattle.dpkg_session.specs.PowerLoss.{LosesLikeAStop, StandsOnceAnswered};
+ghost use Rattle.dpkg_session.specs.Rereading.{BehindReading, IsAmidReading, IsUnread};
 
 use crate::recorded::take_packages;
 use crate::session::{Session, closed_report};
 use crate::table_units::no_memory;
-use conffiles::ConfPolicy;
-use configure_run::{configure_packages, waiting_names};
+use configure_run::{ConfigureOptions, configure_packages, waiting_names};
 use diversions::Diversions;
 use held_administration::Administration;
 use host_core::Host;
@@ -47,7 +48,7 @@ pub(crate) fn configure_named<H: Host, W: Watcher>(
     administration: &mut Administration,
     diversions: &Diversions,
     names: Vec<Text>,
-    policy: ConfPolicy,
+    options: ConfigureOptions,
     watcher: &mut W,
 ) -> Report
     requires order { Needs (H.state host.old)
@@ -55,13 +56,13 @@ pub(crate) fn configure_named<H: Host, W: Watcher>(
     requires open { IsOpen diversions.now.ways administration.old }
     requires indexed { IfSome administration.old.packages
         (ArePackagesOf administration.old.database.records) }
-    ensures whole { IsNone result.last → IsConfigureRun names.items policy result.units.items
+    ensures whole { IsNone result.last → IsConfigureRun names.items options result.units.items
         (held_by administration.old diversions.now) (held_by administration.new diversions.now)
         (H.state host.old) (H.state host.new) }
-    ensures part { HasRun names.items policy result.units.items result.last
+    ensures part { HasRun names.items options result.units.items result.last
         (held_by administration.old diversions.now) (H.state host.old) (H.state host.new) }
     ensures told { TellsCalls (H.state host.old) (H.state host.new) result }
-    ensures any_moment { Since (IsAmidRun names.items policy
+    ensures any_moment { Since (IsAmidRun names.items options
         (held_by administration.old diversions.now) (H.state host.old)) (H.state host.old)
         (H.state host.new) }
     ensures answered { IsNone result.last → IsAnswered (H.state host.old) (H.state host.new) }
@@ -87,7 +88,7 @@ pub(crate) fn configure_named<H: Host, W: Watcher>(
                 &mut known,
                 diversions,
                 names,
-                policy,
+                options,
                 watcher,
             );
             administration.packages = Some(known);
@@ -103,7 +104,7 @@ fn configure_on<H: Host, W: Watcher>(
     administration: &mut Administration,
     diversions: &Diversions,
     names: Option<Vec<Text>>,
-    policy: ConfPolicy,
+    options: ConfigureOptions,
     watcher: &mut W,
 ) -> Report
     requires order { Needs (H.state host.old)
@@ -113,15 +114,15 @@ fn configure_on<H: Host, W: Watcher>(
         (ArePackagesOf administration.old.database.records) }
     ensures whole { IsNone result.last
         → IsConfigureRun (names_asked (option_map (λ list. list.items) names)
-        administration.old.database.records) policy result.units.items
+        administration.old.database.records) options result.units.items
         (held_by administration.old diversions.now) (held_by administration.new diversions.now)
         (H.state host.old) (H.state host.new) }
     ensures part { HasRun (names_asked (option_map (λ list. list.items) names)
-        administration.old.database.records) policy result.units.items result.last
+        administration.old.database.records) options result.units.items result.last
         (held_by administration.old diversions.now) (H.state host.old) (H.state host.new) }
     ensures told { TellsCalls (H.state host.old) (H.state host.new) result }
     ensures any_moment { Since (IsAmidRun (names_asked (option_map (λ list. list.items) names)
-        administration.old.database.records) policy (held_by administration.old diversions.now)
+        administration.old.database.records) options (held_by administration.old diversions.now)
         (H.state host.old)) (H.state host.old) (H.state host.new) }
     ensures answered { IsNone result.last → IsAnswered (H.state host.old) (H.state host.new) }
     ensures counts { CountsLast (H.state host.old) (H.state host.new) result.last }
@@ -136,7 +137,7 @@ fn configure_on<H: Host, W: Watcher>(
     let alloc = administration.alloc;
     match names_asked(alloc, &administration.database, names) {
         Ok(asked) => {
-            return configure_named(host, administration, diversions, asked, policy, watcher);
+            return configure_named(host, administration, diversions, asked, options, watcher);
         }
         Err(_) => {
             return no_memory(alloc);
@@ -145,34 +146,81 @@ fn configure_on<H: Host, W: Watcher>(
 }
 
 impl<H: Host> Session<H> {
-    /// Configures packages: those of these names, or all that wait where none are given. Its units are in the order that their
-    /// relations ask for, and each is told as it is finished; one that is broken off closes the session.
-    pub fn configure<W: Watcher>(
+    // The same, once the table of diversions was read.
+    fn configure_read<W: Watcher>(
         &mut self,
         names: Option<Vec<Text>>,
-        policy: ConfPolicy,
+        options: ConfigureOptions,
         watcher: &mut W,
     ) -> Report
-        ensures whole { self.old.closed ≡ false → IsNone result.last
+        requires { self.old.closed ≡ false }
+        ensures whole { IsNone result.last
             → IsConfigureRun (names_asked (option_map (λ list. list.items) names)
-            self.old.administration.database.records) policy result.units.items
+            self.old.administration.database.records) options result.units.items
             (held_by self.old.administration self.old.diversions)
             (held_by self.new.administration self.new.diversions) (H.state self.old.host)
             (H.state self.new.host) }
-        ensures part { self.old.closed ≡ false
-            → HasRun (names_asked (option_map (λ list. list.items) names)
-            self.old.administration.database.records) policy result.units.items result.last
+        ensures part { HasRun (names_asked (option_map (λ list. list.items) names)
+            self.old.administration.database.records) options result.units.items result.last
             (held_by self.old.administration self.old.diversions) (H.state self.old.host)
             (H.state self.new.host) }
         ensures told { TellsCalls (H.state self.old.host) (H.state self.new.host) result }
+        ensures any_moment { Since (IsAmidRun (names_asked (option_map (λ list. list.items) names)
+            self.old.administration.database.records) options
+            (held_by self.old.administration self.old.diversions) (H.state self.old.host))
+            (H.state self.old.host) (H.state self.new.host) }
+        ensures closes { self.new.closed ≡ is_some result.last }
+        ensures answered { IsNone result.last
+            → IsAnswered (H.state self.old.host) (H.state self.new.host) }
+        ensures diversions { self.new.diversions ≡ self.old.diversions }
+        ensures honest { Falls (H.state self.old.host) (H.state self.new.host) }
+        ensures counts { CountsLast (H.state self.old.host)
+            (H.state self.new.host) result.last }
+        ensures not_closed { IfSome result.last (λ unit. IsBrokenBy Closed unit.reply → ⊥) }
+        ensures watched { IsTold W.tells (H.state self.old.host) watcher.old result.units.items
+            watcher.new }
+    {
+        let report = configure_on(
+            &mut self.host,
+            &mut self.administration,
+            &self.diversions,
+            names,
+            options,
+            watcher,
+        );
+        self.closed = report.last.is_some();
+        report
+    }
+
+    /// Configures packages: those of these names, or all that wait where none are given. Its units are in the order that their
+    /// relations ask for, and each is told as it is finished; one that is broken off closes the session. The table of
+    /// diversions is read again first.
+    pub fn configure<W: Watcher>(
+        &mut self,
+        names: Option<Vec<Text>>,
+        options: ConfigureOptions,
+        watcher: &mut W,
+    ) -> Report
+        ensures whole { self.old.closed ≡ false → IsNone result.last
+            → BehindReading (λ h s. IsConfigureRun (names_asked (option_map (λ list. list.items) names)
+            h.records.records) options result.units.items h
+            (held_by self.new.administration self.new.diversions) s (H.state self.new.host))
+            (held_by self.old.administration self.old.diversions) (H.state self.old.host) }
+        ensures part { self.old.closed ≡ false
+            → IsUnread result.units.items result.last (H.state self.old.host)
+            (H.state self.new.host) ⊎ BehindReading (λ h s. HasRun (names_asked (option_map (λ list. list.items) names)
+            h.records.records) options result.units.items
+            result.last h s (H.state self.new.host))
+            (held_by self.old.administration self.old.diversions) (H.state self.old.host) }
+        ensures told { TellsCalls (H.state self.old.host) (H.state self.new.host) result }
         ensures any_moment { self.old.closed ≡ false
-            → Since (IsAmidRun (names_asked (option_map (λ list. list.items) names)
-            self.old.administration.database.records) policy
+            → Since (IsAmidReading (λ h. IsAmidRun (names_asked (option_map (λ list. list.items) names)
+            h.records.records) options h)
             (held_by self.old.administration self.old.diversions) (H.state self.old.host))
             (H.state self.old.host) (H.state self.new.host) }
         ensures loss { self.old.closed ≡ false
-            → LosesLikeAStop (IsAmidRun (names_asked (option_map (λ list. list.items) names)
-            self.old.administration.database.records) policy
+            → LosesLikeAStop (IsAmidReading (λ h. IsAmidRun (names_asked (option_map (λ list. list.items) names)
+            h.records.records) options h)
             (held_by self.old.administration self.old.diversions) (H.state self.old.host))
             (H.state self.old.host) (H.state self.new.host) }
         ensures stands { self.old.closed ≡ false → IsNone result.last
@@ -185,7 +233,7 @@ impl<H: Host> Session<H> {
             ≡ held_by self.old.administration self.old.diversions }
         ensures answered { self.old.closed ≡ false → IsNone result.last
             → IsAnswered (H.state self.old.host) (H.state self.new.host) }
-        ensures diversions { self.new.diversions ≡ self.old.diversions }
+        ensures diversions { StaysWritable self.old.diversions self.new.diversions }
         ensures honest { Falls (H.state self.old.host) (H.state self.new.host) }
         ensures counts { self.old.closed ≡ false → CountsLast (H.state self.old.host)
             (H.state self.new.host) result.last }
@@ -197,15 +245,9 @@ impl<H: Host> Session<H> {
         if self.closed {
             return closed_report(self.administration.alloc);
         }
-        let report = configure_on(
-            &mut self.host,
-            &mut self.administration,
-            &self.diversions,
-            names,
-            policy,
-            watcher,
-        );
-        self.closed = report.last.is_some();
-        report
+        match self.read_again() {
+            Some(report) => report,
+            None => self.configure_read(names, options, watcher),
+        }
     }
 }

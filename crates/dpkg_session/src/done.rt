@@ -112,7 +112,7 @@ fn done_with(alloc: Global, label: &Text, unit: &Unit) -> Result<Vec<Text>, Allo
                 done.push(name.copy()?)?;
             }
         }
-        Reply::Refused(_) | Reply::Failed(_) | Reply::Broken(_) => {}
+        Reply::Refused(_) | Reply::Failed(_) | Reply::Looped(_) | Reply::Broken(_) => {}
     }
     Ok(done)
 }

@@ -9,7 +9,7 @@ ghost use Rattle.host_core.specs.Host.{Counts, Leaves, Reads, Silent};
 ghost use Rattle.opening.specs.Followed.{AreWhole};
 ghost use Rattle.package_tree.specs.ShipMap.{paths_of};
 ghost use Rattle.unit_reports.specs.Held.{held_by};
-ghost use Rattle.dpkg_session.specs.Growth.{AreAdded, GrowAlong, HasRead, KeepsEntries, grown, with_more};
+ghost use Rattle.dpkg_session.specs.Growth.{AreAdded, GrowAlong, KeepsEntries, with_more};
 
 use aliases::Looked;
 use diversions::Diversions;
@@ -111,10 +111,9 @@ pub(crate) fn follow_tree<H: Host>(
 ) -> Result<(), HostFault>
     requires open { IsOpen diversions.old.ways administration.old }
     ensures added { OnOk result ((added : List Alias)
-        × (held_by administration.new diversions.new
-        ≡ grown (held_by administration.old diversions.old) added)
-        × HasRead incoming.now (held_by administration.old diversions.old) added
-        (H.state host.old).world (H.state host.new).honest) }
+        × (diversions.new.ways ≡ with_more diversions.old.ways added)
+        × (IsTrue (H.state host.new).honest → AreAdded (H.state host.old).world
+        (paths_of incoming.now.files) diversions.old.ways.aliases added)) }
     ensures open { OnOk result (IsOpen diversions.new.ways administration.new) }
     ensures kept { KeepsEntries diversions.old diversions.new }
     ensures same { administration.new ≡ record administration.old {

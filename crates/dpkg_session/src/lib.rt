@@ -6,21 +6,29 @@
 //! `process_triggers` and `into_host`. `configure`, `remove`, `purge` and `remove_selected` (what
 //! the records want to go) have the clauses of `run`, with the units of configure_run and
 //! removal_run in the place of the unpacks, and so have `change`, with those of record_changes, and
-//! `process_triggers`, with those of trigger_run for all packages with triggers to process;
+//! `process_triggers`, with those of trigger_run;
 //! `install` is a run of unpacks and then a configure of the packages whose unpack was done, each
 //! with those that were deconfigured for it, without those that a later candidate took away, with a
 //! report of each. `watch_triggers` and `activations` only look, and tell what trigger_watch says of
-//! the records and lists (`looks`); the session stays as it is, and open. An open session always
-//! knows its administration, records, lists and diversions (`ready`), and keeps the places of all
-//! listed paths (`opened`).
+//! the records and lists (`looks`); the session stays as it is, and a closed one doesn't look
+//! (`refused`, `same`). `pending_triggers` tells what is pending by the records. `requested_triggers` and `asked_changes` likewise tell what trigger_journal
+//! says of the journal, and `foresee_triggers` and `clear_triggers` write it and empty it: nothing
+//! else changes, and it stands on the disk when they answer (`ahead`, `cleared`, `on_disk`). So do the files
+//! of interests when `register_triggers` answers (`registered`). An open session always knows its administration, records, lists and
+//! diversions (`ready`), and keeps the places of all listed paths (`opened`).
 //!
 //! An opening reads the aliases of the root behind the administration, and only looks for that: each
 //! listed path, each that a diversion names and those in the usual directories are followed to where
-//! they lead (`followed`). While the session is open more are added, and none is taken away: before
+//! they lead (`followed`). While the session is open more are added: before
 //! the unit of a tree is decided those above its paths (`HasRead`), and before a diversion is added
-//! or taken away those above its path and target (`HasDiverted`, `HasUndiverted`). Nothing else of the
-//! diversions is changed by a run (`diversions`), and the kept places are those of all listed paths
-//! with what is known then.
+//! or taken away those above its path and target (`HasDiverted`, `HasUndiverted`). The kept places
+//! are those of all listed paths with what is known then.
+//!
+//! The table of diversions is read again before the unit of a tree (`HasRead`: `IsReread`), before
+//! the packages of an install are configured, and before a configure, a removal and the processing of
+//! triggers (`BehindReading`): what is held then has the entries of the file. Where they are others
+//! than before, the aliases are read anew; a table that can't be read breaks the unit or the command
+//! off, and nothing of it is done (`IsBrokenOff`: `damaged`; `IsUnread`).
 //!
 //! Where it keeps what the recorded packages state of others, that is what the records state at
 //! each command (`indexed`).
@@ -88,6 +96,7 @@ mod configuring;
 mod displacing;
 mod diverting;
 mod done;
+mod foreseeing;
 mod growing;
 mod installing;
 mod laws;
@@ -99,6 +108,7 @@ mod refusal;
 mod removing;
 mod removing_selected;
 mod report;
+mod rereading;
 mod seen;
 mod session;
 mod table_units;
@@ -110,16 +120,20 @@ mod units;
 mod unpacking;
 mod unpacks;
 mod watching;
+mod yields;
 
 pub use asked::{Diverting, Undiverting};
+pub use configure_run::ConfigureOptions;
 pub use installing::Installed;
 pub use laws::history_stands;
-pub use record_changes::{Change, RecordChange};
-pub use removal_run::Extents;
+pub use record_changes::{Change, PendingTrigger, RecordChange};
+pub use removal_run::{Extents, RemovalOptions};
 pub use report::Candidate;
 pub use session::Session;
 pub use trees::Trees;
-pub use trigger_watch::{Hits, TriggerWatch};
+pub use trigger_journal::Request;
+pub use trigger_watch::{Hits, Touch, TriggerWatch};
 pub use unit_reports::{
-    Breakage, Failure, Refusal, Reply, Report, Rule, Touched, Unit, Unwatched, Watcher,
+    Breakage, Cycle, Failure, Refusal, Reply, Report, Rule, Touched, Unit, Unwatched, Watcher,
 };
+pub use unpack_relations::UnpackOptions;

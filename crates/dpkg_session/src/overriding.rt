@@ -8,7 +8,7 @@ ghost use Rattle.recorded_packages.specs.Packages.{ArePackagesOf};
 ghost use Rattle.stat_overrides.specs.Packages.{first_unknown};
 ghost use Rattle.unit_reports.specs.Held.{held_by};
 ghost use Rattle.unit_reports.specs.Units.{CountsReply, IsBroken, IsBrokenBy, TellsNoPackage};
-ghost use Rattle.unit_reports.specs.declared.report.Breakage.TheVariants.{Closed};
+ghost use Rattle.unit_reports.specs.declared.report.Breakage.TheVariants.{Damaged, Closed};
 ghost use Rattle.dpkg_session.specs.Overriding.{taken_from, taken_with};
 ghost use Rattle.dpkg_session.specs.Run.{IsAmidOverridden, IsAmidTaken};
 ghost use Rattle.dpkg_session.specs.Units.{HasCalledOverridden, HasCalledTaken, IsOverriddenUnit, IsTakenUnit};
@@ -21,6 +21,7 @@ use package_tree::Package;
 use stat_overrides::{Overrides, override_accesses, read_overrides};
 use std::alloc::AllocError;
 use unit_reports::{Breakage, Rule, Unit, breakage_of, broken, refused};
+use unpack_relations::UnpackOptions;
 
 // The first path of which the number of an owner isn't known.
 fn first_unknown(overrides: &Overrides, incoming: &Package) -> Result<Option<ShipPath>, AllocError>
@@ -39,14 +40,14 @@ fn unit_with<H: Host>(
     diversions: &Diversions,
     overrides: &Overrides,
     incoming: Package,
-    auto_deconfigure: bool,
+    allowed: UnpackOptions,
 ) -> Unit
     requires order { Needs (H.state host.old)
         (IsInOrder administration.old.database administration.old.lists.lists) }
     requires open { IsOpen diversions.now.ways administration.old }
     requires indexed { IfSome administration.old.packages
         (ArePackagesOf administration.old.database.records) }
-    ensures unit { IsBroken result.reply ⊎ IsTakenUnit auto_deconfigure incoming.name
+    ensures unit { IsBroken result.reply ⊎ IsTakenUnit allowed incoming.name
         (taken_from overrides.now incoming)
         (held_by administration.old diversions.now) (held_by administration.new diversions.now)
         result (H.state host.old) (H.state host.new) }
@@ -55,13 +56,14 @@ fn unit_with<H: Host>(
         (ArePackagesOf administration.new.database.records) }
     ensures answered { IsBroken result.reply ⊎ IsAnswered (H.state host.old) (H.state host.new) }
     ensures untouched { IsBroken result.reply → TellsNoPackage result }
-    ensures told { HasCalledTaken auto_deconfigure (taken_from overrides.now incoming)
+    ensures told { HasCalledTaken allowed (taken_from overrides.now incoming)
         (held_by administration.old diversions.now) result (H.state host.old) (H.state host.new) }
-    ensures any_moment { AtEachMomentOf (IsAmidTaken auto_deconfigure
+    ensures any_moment { AtEachMomentOf (IsAmidTaken allowed
         (taken_from overrides.now incoming)
         (held_by administration.old diversions.now)) (H.state host.old) (H.state host.new) }
     ensures counts { CountsReply (H.state host.old) (H.state host.new) result.reply }
     ensures not_closed { IsBrokenBy Closed result.reply → ⊥ }
+    ensures not_damaged { IsBrokenBy Damaged result.reply → ⊥ }
 {
     let alloc = administration.alloc;
     match first_unknown(overrides, &incoming) {
@@ -70,13 +72,7 @@ fn unit_with<H: Host>(
         }
         Ok(None) => {
             let overridden = override_accesses(alloc, overrides, incoming);
-            return unit_of_followed(
-                host,
-                administration,
-                diversions,
-                overridden,
-                auto_deconfigure,
-            );
+            return unit_of_followed(host, administration, diversions, overridden, allowed);
         }
         Err(_) => {
             return broken(alloc, Vec::new(alloc), Breakage::NoMemory);
@@ -91,14 +87,14 @@ fn unit_by<H: Host>(
     diversions: &Diversions,
     read: Result<Overrides, u64>,
     incoming: Package,
-    auto_deconfigure: bool,
+    allowed: UnpackOptions,
 ) -> Unit
     requires order { Needs (H.state host.old)
         (IsInOrder administration.old.database administration.old.lists.lists) }
     requires open { IsOpen diversions.now.ways administration.old }
     requires indexed { IfSome administration.old.packages
         (ArePackagesOf administration.old.database.records) }
-    ensures unit { IsBroken result.reply ⊎ IsTakenUnit auto_deconfigure incoming.name
+    ensures unit { IsBroken result.reply ⊎ IsTakenUnit allowed incoming.name
         (taken_with read incoming)
         (held_by administration.old diversions.now) (held_by administration.new diversions.now)
         result (H.state host.old) (H.state host.new) }
@@ -107,13 +103,14 @@ fn unit_by<H: Host>(
         (ArePackagesOf administration.new.database.records) }
     ensures answered { IsBroken result.reply ⊎ IsAnswered (H.state host.old) (H.state host.new) }
     ensures untouched { IsBroken result.reply → TellsNoPackage result }
-    ensures told { HasCalledTaken auto_deconfigure (taken_with read incoming)
+    ensures told { HasCalledTaken allowed (taken_with read incoming)
         (held_by administration.old diversions.now) result (H.state host.old) (H.state host.new) }
-    ensures any_moment { AtEachMomentOf (IsAmidTaken auto_deconfigure
+    ensures any_moment { AtEachMomentOf (IsAmidTaken allowed
         (taken_with read incoming)
         (held_by administration.old diversions.now)) (H.state host.old) (H.state host.new) }
     ensures counts { CountsReply (H.state host.old) (H.state host.new) result.reply }
     ensures not_closed { IsBrokenBy Closed result.reply → ⊥ }
+    ensures not_damaged { IsBrokenBy Damaged result.reply → ⊥ }
 {
     match read {
         Ok(overrides) => {
@@ -123,7 +120,7 @@ fn unit_by<H: Host>(
                 diversions,
                 &overrides,
                 incoming,
-                auto_deconfigure,
+                allowed,
             );
         }
         Err(line) => {
@@ -142,14 +139,14 @@ pub(crate) fn unit_of_overridden<H: Host>(
     administration: &mut Administration,
     diversions: &Diversions,
     incoming: Package,
-    auto_deconfigure: bool,
+    allowed: UnpackOptions,
 ) -> Unit
     requires order { Needs (H.state host.old)
         (IsInOrder administration.old.database administration.old.lists.lists) }
     requires open { IsOpen diversions.now.ways administration.old }
     requires indexed { IfSome administration.old.packages
         (ArePackagesOf administration.old.database.records) }
-    ensures unit { IsBroken result.reply ⊎ IsOverriddenUnit auto_deconfigure incoming
+    ensures unit { IsBroken result.reply ⊎ IsOverriddenUnit allowed incoming
         (held_by administration.old diversions.now) (held_by administration.new diversions.now)
         result (H.state host.old) (H.state host.new) }
     ensures open { IsBroken result.reply ⊎ IsOpen diversions.now.ways administration.new }
@@ -157,24 +154,18 @@ pub(crate) fn unit_of_overridden<H: Host>(
         (ArePackagesOf administration.new.database.records) }
     ensures answered { IsBroken result.reply ⊎ IsAnswered (H.state host.old) (H.state host.new) }
     ensures untouched { IsBroken result.reply → TellsNoPackage result }
-    ensures told { HasCalledOverridden auto_deconfigure incoming
+    ensures told { HasCalledOverridden allowed incoming
         (held_by administration.old diversions.now) result (H.state host.old) (H.state host.new) }
-    ensures any_moment { AtEachMomentOf (IsAmidOverridden auto_deconfigure incoming
+    ensures any_moment { AtEachMomentOf (IsAmidOverridden allowed incoming
         (held_by administration.old diversions.now)) (H.state host.old) (H.state host.new) }
     ensures counts { CountsReply (H.state host.old) (H.state host.new) result.reply }
     ensures not_closed { IsBrokenBy Closed result.reply → ⊥ }
+    ensures not_damaged { IsBrokenBy Damaged result.reply → ⊥ }
 {
     let alloc = administration.alloc;
     match read_overrides(alloc, host) {
         Ok(read) => {
-            return unit_by(
-                host,
-                administration,
-                diversions,
-                read,
-                incoming,
-                auto_deconfigure,
-            );
+            return unit_by(host, administration, diversions, read, incoming, allowed);
         }
         Err(fault) => {
             return broken(alloc, Vec::new(alloc), breakage_of(fault));

@@ -12,7 +12,7 @@ use relation_index::Packages;
 use std::alloc::{AllocError, Global};
 use texts::Text;
 use unit_reports::Rule;
-use unpack_relations::{Checked, check};
+use unpack_relations::{Checked, UnpackOptions, check};
 
 // Whether the file of a path is diverted for the package.
 fn is_away(diversions: &Diversions, name: &Text, path: &ShipPath) -> Result<bool, AllocError>
@@ -73,10 +73,10 @@ pub(crate) fn decision_of(
     incoming: &Package,
     packages: &Packages,
     diversions: &Diversions,
-    auto_deconfigure: bool,
+    allowed: UnpackOptions,
 ) -> Result<Checked, AllocError>
     ensures decided { IfOk result (λ checked. (records : List Record)
-        → ArePackagesOf records packages.now → IsDecisionOf incoming.now auto_deconfigure records
+        → ArePackagesOf records packages.now → IsDecisionOf incoming.now allowed records
         diversions.now.ways checked) }
     ensures apart { IfOk result (λ checked. (records : List Record)
         → ArePackagesOf records packages.now → AreBesideApart incoming.now.name records checked) }
@@ -84,6 +84,6 @@ pub(crate) fn decision_of(
     if let Some(path) = conffile_away(diversions, incoming)? {
         return Ok(Checked::Refused(Rule::ConffileDiverted(path.copy()?)));
     }
-    let checked = check(alloc, packages, incoming, auto_deconfigure)?;
+    let checked = check(alloc, packages, incoming, allowed)?;
     Ok(checked)
 }

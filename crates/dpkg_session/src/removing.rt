@@ -1,10 +1,13 @@
 // A session removes or purges packages.
-ghost use Rattle.std.specs.Prelude.{◌≡◌, true, false, IsNone, IfSome, is_some};
+ghost use Rattle.std.specs.Prelude.{◌≡◌, ◌⊎◌, true, false, IsNone, IfSome, is_some};
 ghost use Rattle.held_administration.specs.Open.{IsOpen};
 ghost use Rattle.host_core.specs.Host.{Falls, Needs, Since};
 ghost use Rattle.host_core.specs.Loss.{IsAnswered};
+ghost use Rattle.dpkg_session.specs.Growth.{StaysWritable};
 ghost use Rattle.dpkg_session.specs.PowerLoss.{LosesLikeAStop, StandsOnceAnswered};
+ghost use Rattle.dpkg_session.specs.Rereading.{BehindReading, IsAmidReading, IsUnread};
 ghost use Rattle.recorded_packages.specs.Packages.{ArePackagesOf};
+ghost use Rattle.removal_run.specs.Extents.{removing};
 ghost use Rattle.removal_run.specs.Run.{HasRun, IsAmidRun, IsRemovalRun};
 ghost use Rattle.removal_run.specs.declared.extents.Extents.TheVariants.{Purged, Removed};
 ghost use Rattle.held_administration.specs.Order.{IsInOrder};
@@ -19,7 +22,7 @@ use crate::table_units::no_memory;
 use diversions::Diversions;
 use held_administration::Administration;
 use host_core::Host;
-use removal_run::{Extents, remove_packages};
+use removal_run::{Extents, RemovalOptions, remove_packages};
 use texts::Text;
 use unit_reports::{Report, Watcher};
 
@@ -29,7 +32,7 @@ pub(crate) fn remove_named<H: Host, W: Watcher>(
     administration: &mut Administration,
     diversions: &Diversions,
     names: Vec<Text>,
-    extents: Extents,
+    options: RemovalOptions,
     watcher: &mut W,
 ) -> Report
     requires order { Needs (H.state host.old)
@@ -37,13 +40,13 @@ pub(crate) fn remove_named<H: Host, W: Watcher>(
     requires open { IsOpen diversions.now.ways administration.old }
     requires indexed { IfSome administration.old.packages
         (ArePackagesOf administration.old.database.records) }
-    ensures whole { IsNone result.last → IsRemovalRun names.items extents result.units.items
+    ensures whole { IsNone result.last → IsRemovalRun names.items options result.units.items
         (held_by administration.old diversions.now) (held_by administration.new diversions.now)
         (H.state host.old) (H.state host.new) }
-    ensures part { HasRun names.items extents result.units.items result.last
+    ensures part { HasRun names.items options result.units.items result.last
         (held_by administration.old diversions.now) (H.state host.old) (H.state host.new) }
     ensures told { TellsCalls (H.state host.old) (H.state host.new) result }
-    ensures any_moment { Since (IsAmidRun names.items extents
+    ensures any_moment { Since (IsAmidRun names.items options
         (held_by administration.old diversions.now) (H.state host.old)) (H.state host.old)
         (H.state host.new) }
     ensures counts { CountsLast (H.state host.old) (H.state host.new) result.last }
@@ -69,7 +72,7 @@ pub(crate) fn remove_named<H: Host, W: Watcher>(
                 &mut known,
                 diversions,
                 names,
-                extents,
+                options,
                 watcher,
             );
             administration.packages = Some(known);
@@ -80,23 +83,72 @@ pub(crate) fn remove_named<H: Host, W: Watcher>(
 }
 
 impl<H: Host> Session<H> {
-    // Removes packages, or purges them.
-    fn take<W: Watcher>(&mut self, names: Vec<Text>, extents: Extents, watcher: &mut W) -> Report
-        ensures whole { self.old.closed ≡ false → IsNone result.last
-            → IsRemovalRun names.items extents result.units.items
+    // The same, once the table of diversions was read.
+    fn take_read<W: Watcher>(
+        &mut self,
+        names: Vec<Text>,
+        options: RemovalOptions,
+        watcher: &mut W,
+    ) -> Report
+        requires { self.old.closed ≡ false }
+        ensures whole { IsNone result.last
+            → IsRemovalRun names.items options result.units.items
             (held_by self.old.administration self.old.diversions)
             (held_by self.new.administration self.new.diversions) (H.state self.old.host)
             (H.state self.new.host) }
-        ensures part { self.old.closed ≡ false → HasRun names.items extents result.units.items
+        ensures part { HasRun names.items options result.units.items
             result.last (held_by self.old.administration self.old.diversions)
             (H.state self.old.host) (H.state self.new.host) }
         ensures told { TellsCalls (H.state self.old.host) (H.state self.new.host) result }
+        ensures any_moment { Since (IsAmidRun names.items options
+            (held_by self.old.administration self.old.diversions) (H.state self.old.host))
+            (H.state self.old.host) (H.state self.new.host) }
+        ensures closes { self.new.closed ≡ is_some result.last }
+        ensures answered { IsNone result.last
+            → IsAnswered (H.state self.old.host) (H.state self.new.host) }
+        ensures diversions { self.new.diversions ≡ self.old.diversions }
+        ensures honest { Falls (H.state self.old.host) (H.state self.new.host) }
+        ensures counts { CountsLast (H.state self.old.host)
+            (H.state self.new.host) result.last }
+        ensures not_closed { IfSome result.last (λ unit. IsBrokenBy Closed unit.reply → ⊥) }
+        ensures watched { IsTold W.tells (H.state self.old.host) watcher.old result.units.items
+            watcher.new }
+    {
+        let report = remove_named(
+            &mut self.host,
+            &mut self.administration,
+            &self.diversions,
+            names,
+            options,
+            watcher,
+        );
+        self.closed = report.last.is_some();
+        report
+    }
+
+    // Removes packages, or purges them.
+    fn take<W: Watcher>(
+        &mut self,
+        names: Vec<Text>,
+        options: RemovalOptions,
+        watcher: &mut W,
+    ) -> Report
+        ensures whole { self.old.closed ≡ false → IsNone result.last
+            → BehindReading (λ h s. IsRemovalRun names.items options result.units.items h
+            (held_by self.new.administration self.new.diversions) s (H.state self.new.host))
+            (held_by self.old.administration self.old.diversions) (H.state self.old.host) }
+        ensures part { self.old.closed ≡ false
+            → IsUnread result.units.items result.last (H.state self.old.host)
+            (H.state self.new.host) ⊎ BehindReading (λ h s. HasRun names.items options result.units.items
+            result.last h s (H.state self.new.host))
+            (held_by self.old.administration self.old.diversions) (H.state self.old.host) }
+        ensures told { TellsCalls (H.state self.old.host) (H.state self.new.host) result }
         ensures any_moment { self.old.closed ≡ false
-            → Since (IsAmidRun names.items extents
+            → Since (IsAmidReading (λ h. IsAmidRun names.items options h)
             (held_by self.old.administration self.old.diversions) (H.state self.old.host))
             (H.state self.old.host) (H.state self.new.host) }
         ensures loss { self.old.closed ≡ false
-            → LosesLikeAStop (IsAmidRun names.items extents
+            → LosesLikeAStop (IsAmidReading (λ h. IsAmidRun names.items options h)
             (held_by self.old.administration self.old.diversions) (H.state self.old.host))
             (H.state self.old.host) (H.state self.new.host) }
         ensures stands { self.old.closed ≡ false → IsNone result.last
@@ -109,7 +161,7 @@ impl<H: Host> Session<H> {
             ≡ held_by self.old.administration self.old.diversions }
         ensures answered { self.old.closed ≡ false → IsNone result.last
             → IsAnswered (H.state self.old.host) (H.state self.new.host) }
-        ensures diversions { self.new.diversions ≡ self.old.diversions }
+        ensures diversions { StaysWritable self.old.diversions self.new.diversions }
         ensures honest { Falls (H.state self.old.host) (H.state self.new.host) }
         ensures counts { self.old.closed ≡ false → CountsLast (H.state self.old.host)
             (H.state self.new.host) result.last }
@@ -121,36 +173,37 @@ impl<H: Host> Session<H> {
         if self.closed {
             return closed_report(self.administration.alloc);
         }
-        let report = remove_named(
-            &mut self.host,
-            &mut self.administration,
-            &self.diversions,
-            names,
-            extents,
-            watcher,
-        );
-        self.closed = report.last.is_some();
-        report
+        match self.read_again() {
+            Some(report) => report,
+            None => self.take_read(names, options, watcher),
+        }
     }
 
     /// Removes packages: all but their configuration files and postrm. Its units are in the order that their relations
-    /// ask for, and each is told as it is finished; one that is broken off closes the session.
-    pub fn remove<W: Watcher>(&mut self, names: Vec<Text>, watcher: &mut W) -> Report
+    /// ask for, and each is told as it is finished; one that is broken off closes the session. The table of
+    /// diversions is read again first.
+    pub fn remove<W: Watcher>(
+        &mut self,
+        names: Vec<Text>,
+        ignore_depends: bool,
+        watcher: &mut W,
+    ) -> Report
         ensures whole { self.old.closed ≡ false → IsNone result.last
-            → IsRemovalRun names.items Removed result.units.items
-            (held_by self.old.administration self.old.diversions)
-            (held_by self.new.administration self.new.diversions) (H.state self.old.host)
-            (H.state self.new.host) }
-        ensures part { self.old.closed ≡ false → HasRun names.items Removed result.units.items
-            result.last (held_by self.old.administration self.old.diversions)
-            (H.state self.old.host) (H.state self.new.host) }
+            → BehindReading (λ h s. IsRemovalRun names.items (removing Removed ignore_depends) result.units.items h
+            (held_by self.new.administration self.new.diversions) s (H.state self.new.host))
+            (held_by self.old.administration self.old.diversions) (H.state self.old.host) }
+        ensures part { self.old.closed ≡ false
+            → IsUnread result.units.items result.last (H.state self.old.host)
+            (H.state self.new.host) ⊎ BehindReading (λ h s. HasRun names.items (removing Removed ignore_depends) result.units.items
+            result.last h s (H.state self.new.host))
+            (held_by self.old.administration self.old.diversions) (H.state self.old.host) }
         ensures told { TellsCalls (H.state self.old.host) (H.state self.new.host) result }
         ensures any_moment { self.old.closed ≡ false
-            → Since (IsAmidRun names.items Removed
+            → Since (IsAmidReading (λ h. IsAmidRun names.items (removing Removed ignore_depends) h)
             (held_by self.old.administration self.old.diversions) (H.state self.old.host))
             (H.state self.old.host) (H.state self.new.host) }
         ensures loss { self.old.closed ≡ false
-            → LosesLikeAStop (IsAmidRun names.items Removed
+            → LosesLikeAStop (IsAmidReading (λ h. IsAmidRun names.items (removing Removed ignore_depends) h)
             (held_by self.old.administration self.old.diversions) (H.state self.old.host))
             (H.state self.old.host) (H.state self.new.host) }
         ensures stands { self.old.closed ≡ false → IsNone result.last
@@ -163,7 +216,7 @@ impl<H: Host> Session<H> {
             ≡ held_by self.old.administration self.old.diversions }
         ensures answered { self.old.closed ≡ false → IsNone result.last
             → IsAnswered (H.state self.old.host) (H.state self.new.host) }
-        ensures diversions { self.new.diversions ≡ self.old.diversions }
+        ensures diversions { StaysWritable self.old.diversions self.new.diversions }
         ensures honest { Falls (H.state self.old.host) (H.state self.new.host) }
         ensures counts { self.old.closed ≡ false → CountsLast (H.state self.old.host)
             (H.state self.new.host) result.last }
@@ -172,26 +225,37 @@ impl<H: Host> Session<H> {
         ensures watched { IsTold W.tells (H.state self.old.host) watcher.old result.units.items
             watcher.new }
     {
-        self.take(names, Extents::Removed, watcher)
+        let options = RemovalOptions {
+            extents: Extents::Removed,
+            ignore_depends,
+        };
+        self.take(names, options, watcher)
     }
 
-    /// Removes packages with their configuration files, or these alone where a package is removed already.
-    pub fn purge<W: Watcher>(&mut self, names: Vec<Text>, watcher: &mut W) -> Report
+    /// Removes packages with their configuration files, or these alone where a package is removed already. The table of
+    /// diversions is read again first.
+    pub fn purge<W: Watcher>(
+        &mut self,
+        names: Vec<Text>,
+        ignore_depends: bool,
+        watcher: &mut W,
+    ) -> Report
         ensures whole { self.old.closed ≡ false → IsNone result.last
-            → IsRemovalRun names.items Purged result.units.items
-            (held_by self.old.administration self.old.diversions)
-            (held_by self.new.administration self.new.diversions) (H.state self.old.host)
-            (H.state self.new.host) }
-        ensures part { self.old.closed ≡ false → HasRun names.items Purged result.units.items
-            result.last (held_by self.old.administration self.old.diversions)
-            (H.state self.old.host) (H.state self.new.host) }
+            → BehindReading (λ h s. IsRemovalRun names.items (removing Purged ignore_depends) result.units.items h
+            (held_by self.new.administration self.new.diversions) s (H.state self.new.host))
+            (held_by self.old.administration self.old.diversions) (H.state self.old.host) }
+        ensures part { self.old.closed ≡ false
+            → IsUnread result.units.items result.last (H.state self.old.host)
+            (H.state self.new.host) ⊎ BehindReading (λ h s. HasRun names.items (removing Purged ignore_depends) result.units.items
+            result.last h s (H.state self.new.host))
+            (held_by self.old.administration self.old.diversions) (H.state self.old.host) }
         ensures told { TellsCalls (H.state self.old.host) (H.state self.new.host) result }
         ensures any_moment { self.old.closed ≡ false
-            → Since (IsAmidRun names.items Purged
+            → Since (IsAmidReading (λ h. IsAmidRun names.items (removing Purged ignore_depends) h)
             (held_by self.old.administration self.old.diversions) (H.state self.old.host))
             (H.state self.old.host) (H.state self.new.host) }
         ensures loss { self.old.closed ≡ false
-            → LosesLikeAStop (IsAmidRun names.items Purged
+            → LosesLikeAStop (IsAmidReading (λ h. IsAmidRun names.items (removing Purged ignore_depends) h)
             (held_by self.old.administration self.old.diversions) (H.state self.old.host))
             (H.state self.old.host) (H.state self.new.host) }
         ensures stands { self.old.closed ≡ false → IsNone result.last
@@ -204,7 +268,7 @@ impl<H: Host> Session<H> {
             ≡ held_by self.old.administration self.old.diversions }
         ensures answered { self.old.closed ≡ false → IsNone result.last
             → IsAnswered (H.state self.old.host) (H.state self.new.host) }
-        ensures diversions { self.new.diversions ≡ self.old.diversions }
+        ensures diversions { StaysWritable self.old.diversions self.new.diversions }
         ensures honest { Falls (H.state self.old.host) (H.state self.new.host) }
         ensures counts { self.old.closed ≡ false → CountsLast (H.state self.old.host)
             (H.state self.new.host) result.last }
@@ -213,6 +277,10 @@ impl<H: Host> Session<H> {
         ensures watched { IsTold W.tells (H.state self.old.host) watcher.old result.units.items
             watcher.new }
     {
-        self.take(names, Extents::Purged, watcher)
+        let options = RemovalOptions {
+            extents: Extents::Purged,
+            ignore_depends,
+        };
+        self.take(names, options, watcher)
     }
 }

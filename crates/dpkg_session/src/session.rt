@@ -12,7 +12,7 @@ ghost use Rattle.opening.specs.TakenUp.{IsOpeningOrAdopting, IsTakenUp, OpensAnd
 ghost use Rattle.recorded_packages.specs.Packages.{ArePackagesOf};
 ghost use Rattle.unit_reports.specs.Held.{held_by};
 ghost use Rattle.unit_reports.specs.declared.report.Breakage.TheVariants.{Closed};
-ghost use Rattle.dpkg_session.specs.Growth.{KeepsEntries};
+ghost use Rattle.dpkg_session.specs.Growth.{StaysWritable};
 ghost use Rattle.dpkg_session.specs.PowerLoss.{LosesLikeAStop, StandsOnceAnswered};
 ghost use Rattle.dpkg_session.specs.Run.{HasRunThrough};
 ghost use Rattle.dpkg_session.specs.Standing.{CountsRefusal, IsStanding, OpensAll, TakesUpAll};
@@ -31,6 +31,7 @@ use opening::{Opened, open_adopted};
 use std::alloc::Global;
 use texts::Texts;
 use unit_reports::{Breakage, Report, Watcher, broken};
+use unpack_relations::UnpackOptions;
 
 /// A root whose administration is open. After a unit that was broken off it is closed. A running
 /// script leaves alone the places of all listed paths, which are computed anew as lists or
@@ -150,11 +151,11 @@ impl<H: Host> Session<H> {
     pub fn run<T: Trees, W: Watcher>(
         &mut self,
         trees: &mut T,
-        auto_deconfigure: bool,
+        allowed: UnpackOptions,
         watcher: &mut W,
     ) -> Report
         ensures run { self.old.closed ≡ false → (cs : List ACandidate) × AreRead T.reads trees.old
-            cs trees.new × HasRunThrough auto_deconfigure cs (T.words trees.new) result
+            cs trees.new × HasRunThrough allowed cs (T.words trees.new) result
             (held_by self.old.administration self.old.diversions)
             (held_by self.new.administration self.new.diversions) (H.state self.old.host)
             (H.state self.new.host) }
@@ -172,7 +173,7 @@ impl<H: Host> Session<H> {
             ≡ held_by self.old.administration self.old.diversions }
         ensures answered { self.old.closed ≡ false → IsNone result.last
             → IsAnswered (H.state self.old.host) (H.state self.new.host) }
-        ensures diversions { KeepsEntries self.old.diversions self.new.diversions }
+        ensures diversions { StaysWritable self.old.diversions self.new.diversions }
         ensures honest { Falls (H.state self.old.host) (H.state self.new.host) }
         ensures counts { self.old.closed ≡ false → CountsLast (H.state self.old.host)
             (H.state self.new.host) result.last }
@@ -188,7 +189,7 @@ impl<H: Host> Session<H> {
             &mut self.administration,
             &mut self.diversions,
             trees,
-            auto_deconfigure,
+            allowed,
             &mut labels,
             watcher,
         );

@@ -1,24 +1,25 @@
 // The unit of one tree.
-ghost use Rattle.std.specs.Prelude.{◌≡◌, ◌⊎◌, None, [], IfSome};
+ghost use Rattle.std.specs.Prelude.{◌≡◌, ◌⊎◌, None, [], IfSome, IsTrue};
 ghost use Rattle.host_core.specs.Host.{AtEachMomentOf, Needs};
 ghost use Rattle.host_core.specs.Loss.{IsAnswered, IsOnDisk};
 ghost use Rattle.held_administration.specs.Open.{IsOpen};
 ghost use Rattle.recorded_packages.specs.Packages.{ArePackagesOf};
 ghost use Rattle.held_administration.specs.Order.{IsInOrder};
 ghost use Rattle.unpack_relations.specs.Checks.{AreApart};
-ghost use Rattle.unit_reports.specs.declared.report.Breakage.TheVariants.{NoMemory, Closed};
+ghost use Rattle.unit_reports.specs.declared.report.Breakage.TheVariants.{NoMemory, Damaged, Closed};
 ghost use Rattle.unit_reports.specs.Held.{held_by};
-ghost use Rattle.dpkg_session.specs.Growth.{KeepsEntries};
+ghost use Rattle.dpkg_session.specs.Growth.{StaysWritable};
+ghost use Rattle.dpkg_session.specs.Rereading.{IsTableDamaged};
 ghost use Rattle.dpkg_session.specs.Run.{IsAmidDecided, IsAmidPackage, IsAmidUnitOf, IsAmidUnpack};
 ghost use Rattle.unit_reports.specs.Units.{CountsReply, IsBroken, IsBrokenBy, TellsNoPackage, breakage_of};
 ghost use Rattle.dpkg_session.specs.Units.{AnswersBoth, HasCalledDecided, HasCalledOf, HasCalledPackage, HasCalledWhole, IsBehind, IsDecidedUnit, KnowsRecords, IsPackageUnit, IsUnit, IsUnpacked, reply_to};
 
 use crate::displacing::{Behind, UnpackEnd, behind_of, unpack_whole};
-use crate::growing::follow_tree;
 use crate::overriding::unit_of_overridden;
 use crate::recorded::take_packages;
 use crate::refusal::decision_of;
 use crate::report::Candidate;
+use crate::rereading::{self, read_for_tree};
 use crate::tellings::told_of;
 use displaced_packages::Displaced;
 use diversions::Diversions;
@@ -32,7 +33,7 @@ use texts::Text;
 use undo_rows::{Called, Failure as Cause, Unwinding};
 use unit_reports::{Breakage, Failure, Reply, Rule, Unit, breakage_of, broken, refused};
 use unpack_engine::Unpacked;
-use unpack_relations::{Beside, Checked};
+use unpack_relations::{Beside, Checked, UnpackOptions};
 
 // The reply to a unit of a package, by how its rows were unwound, and by the call that failed behind its commit.
 fn reply_to(package: Text, unwinding: Option<Unwinding>, failed: Option<Call>) -> Reply
@@ -134,6 +135,7 @@ fn unpack_named<H: Host>(
         (held_by administration.old diversions.now)) (H.state host.old) (H.state host.new) }
     ensures counts { CountsReply (H.state host.old) (H.state host.new) result.reply }
     ensures not_closed { IsBrokenBy Closed result.reply → ⊥ }
+    ensures not_damaged { IsBrokenBy Damaged result.reply → ⊥ }
 {
     let alloc = administration.alloc;
     let mut calls = Vec::new(alloc);
@@ -180,6 +182,7 @@ fn unpack_unit<H: Host>(
         (held_by administration.old diversions.now)) (H.state host.old) (H.state host.new) }
     ensures counts { CountsReply (H.state host.old) (H.state host.new) result.reply }
     ensures not_closed { IsBrokenBy Closed result.reply → ⊥ }
+    ensures not_damaged { IsBrokenBy Damaged result.reply → ⊥ }
 {
     let alloc = administration.alloc;
     match behind_of(
@@ -213,13 +216,13 @@ fn decide_and_unpack<H: Host>(
     packages: &mut Packages,
     diversions: &Diversions,
     incoming: Package,
-    auto_deconfigure: bool,
+    allowed: UnpackOptions,
 ) -> Unit
     requires order { Needs (H.state host.old)
         (IsInOrder administration.old.database administration.old.lists.lists) }
     requires open { IsOpen diversions.now.ways administration.old }
     requires indexed { ArePackagesOf administration.old.database.records packages.old }
-    ensures unit { IsBroken result.reply ⊎ IsDecidedUnit auto_deconfigure incoming
+    ensures unit { IsBroken result.reply ⊎ IsDecidedUnit allowed incoming
         (held_by administration.old diversions.now) (held_by administration.new diversions.now)
         result (H.state host.old) (H.state host.new) }
     ensures open { IsBroken result.reply ⊎ IsOpen diversions.now.ways administration.new }
@@ -227,15 +230,16 @@ fn decide_and_unpack<H: Host>(
         packages.new }
     ensures answered { IsBroken result.reply ⊎ IsAnswered (H.state host.old) (H.state host.new) }
     ensures untouched { IsBroken result.reply → TellsNoPackage result }
-    ensures told { HasCalledDecided auto_deconfigure incoming
+    ensures told { HasCalledDecided allowed incoming
         (held_by administration.old diversions.now) result (H.state host.old) (H.state host.new) }
-    ensures any_moment { AtEachMomentOf (IsAmidDecided auto_deconfigure incoming
+    ensures any_moment { AtEachMomentOf (IsAmidDecided allowed incoming
         (held_by administration.old diversions.now)) (H.state host.old) (H.state host.new) }
     ensures counts { CountsReply (H.state host.old) (H.state host.new) result.reply }
     ensures not_closed { IsBrokenBy Closed result.reply → ⊥ }
+    ensures not_damaged { IsBrokenBy Damaged result.reply → ⊥ }
 {
     let alloc = administration.alloc;
-    match decision_of(alloc, &incoming, packages, diversions, auto_deconfigure) {
+    match decision_of(alloc, &incoming, packages, diversions, allowed) {
         Ok(Checked::Refused(rule)) => {
             return refused(alloc, rule, incoming.name);
         }
@@ -261,14 +265,14 @@ pub(crate) fn unit_of_followed<H: Host>(
     administration: &mut Administration,
     diversions: &Diversions,
     incoming: Package,
-    auto_deconfigure: bool,
+    allowed: UnpackOptions,
 ) -> Unit
     requires order { Needs (H.state host.old)
         (IsInOrder administration.old.database administration.old.lists.lists) }
     requires open { IsOpen diversions.now.ways administration.old }
     requires indexed { IfSome administration.old.packages
         (ArePackagesOf administration.old.database.records) }
-    ensures unit { IsBroken result.reply ⊎ IsDecidedUnit auto_deconfigure incoming
+    ensures unit { IsBroken result.reply ⊎ IsDecidedUnit allowed incoming
         (held_by administration.old diversions.now) (held_by administration.new diversions.now)
         result (H.state host.old) (H.state host.new) }
     ensures open { IsBroken result.reply ⊎ IsOpen diversions.now.ways administration.new }
@@ -276,12 +280,13 @@ pub(crate) fn unit_of_followed<H: Host>(
         (ArePackagesOf administration.new.database.records) }
     ensures answered { IsBroken result.reply ⊎ IsAnswered (H.state host.old) (H.state host.new) }
     ensures untouched { IsBroken result.reply → TellsNoPackage result }
-    ensures told { HasCalledDecided auto_deconfigure incoming
+    ensures told { HasCalledDecided allowed incoming
         (held_by administration.old diversions.now) result (H.state host.old) (H.state host.new) }
-    ensures any_moment { AtEachMomentOf (IsAmidDecided auto_deconfigure incoming
+    ensures any_moment { AtEachMomentOf (IsAmidDecided allowed incoming
         (held_by administration.old diversions.now)) (H.state host.old) (H.state host.new) }
     ensures counts { CountsReply (H.state host.old) (H.state host.new) result.reply }
     ensures not_closed { IsBrokenBy Closed result.reply → ⊥ }
+    ensures not_damaged { IsBrokenBy Damaged result.reply → ⊥ }
 {
     let alloc = administration.alloc;
     match take_packages(
@@ -296,7 +301,7 @@ pub(crate) fn unit_of_followed<H: Host>(
                 &mut known,
                 diversions,
                 incoming,
-                auto_deconfigure,
+                allowed,
             );
             administration.packages = Some(known);
             unit
@@ -305,20 +310,20 @@ pub(crate) fn unit_of_followed<H: Host>(
     }
 }
 
-// The unit of a tree that was read: what is missing of the aliases above its paths is read first.
+// The unit of a tree that was read: the table of diversions is read again first, and what is missing of the aliases above its paths.
 fn unit_of_package<H: Host>(
     host: &mut H,
     administration: &mut Administration,
     diversions: &mut Diversions,
     incoming: Package,
-    auto_deconfigure: bool,
+    allowed: UnpackOptions,
 ) -> Unit
     requires order { Needs (H.state host.old)
         (IsInOrder administration.old.database administration.old.lists.lists) }
     requires open { IsOpen diversions.old.ways administration.old }
     requires indexed { IfSome administration.old.packages
         (ArePackagesOf administration.old.database.records) }
-    ensures unit { IsBroken result.reply ⊎ IsPackageUnit auto_deconfigure incoming
+    ensures unit { IsBroken result.reply ⊎ IsPackageUnit allowed incoming
         (held_by administration.old diversions.old) (held_by administration.new diversions.new)
         result (H.state host.old) (H.state host.new) }
     ensures open { IsBroken result.reply ⊎ IsOpen diversions.new.ways administration.new }
@@ -326,21 +331,23 @@ fn unit_of_package<H: Host>(
         (ArePackagesOf administration.new.database.records) }
     ensures answered { IsBroken result.reply ⊎ IsAnswered (H.state host.old) (H.state host.new) }
     ensures untouched { IsBroken result.reply → TellsNoPackage result }
-    ensures told { HasCalledPackage auto_deconfigure incoming
+    ensures told { HasCalledPackage allowed incoming
         (held_by administration.old diversions.old) result (H.state host.old) (H.state host.new) }
-    ensures any_moment { AtEachMomentOf (IsAmidPackage auto_deconfigure incoming
+    ensures any_moment { AtEachMomentOf (IsAmidPackage allowed incoming
         (held_by administration.old diversions.old)) (H.state host.old) (H.state host.new) }
-    ensures kept { KeepsEntries diversions.old diversions.new }
+    ensures writable { StaysWritable diversions.old diversions.new }
     ensures counts { CountsReply (H.state host.old) (H.state host.new) result.reply }
     ensures not_closed { IsBrokenBy Closed result.reply → ⊥ }
+    ensures damaged { IsBrokenBy Damaged result.reply → IsTrue (H.state host.new).honest
+        → IsTableDamaged (H.state host.old).world }
 {
-    match follow_tree(host, administration, diversions, &incoming) {
+    match read_for_tree(host, administration, diversions, &incoming) {
         Ok(()) => {
-            return unit_of_overridden(host, administration, diversions, incoming, auto_deconfigure);
+            return unit_of_overridden(host, administration, diversions, incoming, allowed);
         }
         Err(fault) => {
             let alloc = administration.alloc;
-            return broken(alloc, Vec::new(alloc), breakage_of(fault));
+            return broken(alloc, Vec::new(alloc), rereading::breakage_of(&fault));
         }
     }
 }
@@ -351,14 +358,14 @@ pub(crate) fn unit_of<H: Host>(
     administration: &mut Administration,
     diversions: &mut Diversions,
     candidate: Candidate,
-    auto_deconfigure: bool,
+    allowed: UnpackOptions,
 ) -> Unit
     requires order { Needs (H.state host.old)
         (IsInOrder administration.old.database administration.old.lists.lists) }
     requires open { IsOpen diversions.old.ways administration.old }
     requires indexed { IfSome administration.old.packages
         (ArePackagesOf administration.old.database.records) }
-    ensures unit { IsBroken result.reply ⊎ IsUnit auto_deconfigure candidate
+    ensures unit { IsBroken result.reply ⊎ IsUnit allowed candidate
         (held_by administration.old diversions.old) (held_by administration.new diversions.new)
         result (H.state host.old) (H.state host.new) }
     ensures open { IsBroken result.reply ⊎ IsOpen diversions.new.ways administration.new }
@@ -366,18 +373,20 @@ pub(crate) fn unit_of<H: Host>(
         (ArePackagesOf administration.new.database.records) }
     ensures answered { IsBroken result.reply ⊎ IsAnswered (H.state host.old) (H.state host.new) }
     ensures untouched { IsBroken result.reply → TellsNoPackage result }
-    ensures told { HasCalledOf auto_deconfigure candidate.tree
+    ensures told { HasCalledOf allowed candidate.tree
         (held_by administration.old diversions.old) result (H.state host.old) (H.state host.new) }
-    ensures any_moment { AtEachMomentOf (IsAmidUnitOf auto_deconfigure candidate.tree
+    ensures any_moment { AtEachMomentOf (IsAmidUnitOf allowed candidate.tree
         (held_by administration.old diversions.old)) (H.state host.old) (H.state host.new) }
-    ensures kept { KeepsEntries diversions.old diversions.new }
+    ensures writable { StaysWritable diversions.old diversions.new }
     ensures counts { CountsReply (H.state host.old) (H.state host.new) result.reply }
     ensures not_closed { IsBrokenBy Closed result.reply → ⊥ }
+    ensures damaged { IsBrokenBy Damaged result.reply → IsTrue (H.state host.new).honest
+        → IsTableDamaged (H.state host.old).world }
 {
     let Candidate { label, tree } = candidate;
     match tree {
         Ok(incoming) => {
-            return unit_of_package(host, administration, diversions, incoming, auto_deconfigure);
+            return unit_of_package(host, administration, diversions, incoming, allowed);
         }
         Err(fault) => {
             return refused(administration.alloc, Rule::Tree(fault), label);

@@ -10,13 +10,14 @@ ghost use Rattle.unit_reports.specs.Units.{CountsLast, CountsReply, IsBrokenBy, 
 ghost use Rattle.unit_reports.specs.Watching.{IsTold};
 ghost use Rattle.unit_reports.specs.declared.report.Breakage.TheVariants.{Closed};
 ghost use Rattle.undo_rows.specs.Transcript.{TellsAll};
-ghost use Rattle.dpkg_session.specs.Growth.{KeepsEntries};
+ghost use Rattle.dpkg_session.specs.Growth.{StaysWritable};
 ghost use Rattle.dpkg_session.specs.Installs.{label_of};
 ghost use Rattle.dpkg_session.specs.Run.{HasRunThrough, IsAmidUnitOf, RunsUnit};
 ghost use Rattle.dpkg_session.specs.Trees.{AreRead};
 ghost use Rattle.dpkg_session.specs.Turns.{AreAllRead, BreaksTree, IsAmidTree, StaysLent, UnpacksTree, Unread, unread};
 ghost use Rattle.dpkg_session.specs.Units.{IsBrokenOff};
 ghost use Rattle.dpkg_session.specs.declared.report.Candidate.{Candidate as ACandidate};
+ghost use Rattle.unpack_relations.specs.declared.options.UnpackOptions.{UnpackOptions as AnUnpackOptions};
 
 use crate::done::label_of;
 use crate::report::Candidate;
@@ -29,20 +30,21 @@ use std::alloc::AllocError;
 use texts::Texts;
 use unit_reports::{Breakage, Report, Unit, Watcher, broken, is_broken};
 use unit_runs::{Turns, run_units};
+use unpack_relations::UnpackOptions;
 
-/// The trees that are unpacked in turn, the labels of those whose units are done, and the diversions, of which the aliases grow.
+/// The trees that are unpacked in turn, the labels of those whose units are done, and the diversions, which are read again before each.
 #[derive(Drop)]
 pub(crate) struct Unpacks<'a, 'l, 'd, T: Trees> {
     pub(crate) trees: &'a mut T,
     pub(crate) labels: &'l mut Texts,
     pub(crate) diversions: &'d mut Diversions,
-    pub(crate) auto_deconfigure: bool,
+    pub(crate) allowed: UnpackOptions,
 }
 
 impl<'a, 'l, 'd, H: Host, T: Trees> Turns<H> for Unpacks<'a, 'l, 'd, T> {
-    ghost Task = { Bool };
+    ghost Task = { AnUnpackOptions };
 
-    ghost task = { λ u. u.auto_deconfigure };
+    ghost task = { λ u. u.allowed };
 
     ghost Left = { Unread T };
 
@@ -57,7 +59,7 @@ impl<'a, 'l, 'd, H: Host, T: Trees> Turns<H> for Unpacks<'a, 'l, 'd, T> {
 
     ghost called = { BreaksTree T.words T.reads };
 
-    ghost goes = { λ auto_deconfigure. StaysLent };
+    ghost goes = { λ allowed. StaysLent };
 
     ghost diverted = { λ u. u.diversions.now };
 
@@ -79,7 +81,7 @@ impl<'a, 'l, 'd, H: Host, T: Trees> Turns<H> for Unpacks<'a, 'l, 'd, T> {
                 administration,
                 self.diversions,
                 candidate,
-                self.auto_deconfigure,
+                self.allowed,
                 self.labels,
                 room,
             ) {
@@ -109,7 +111,7 @@ fn take_unit<H: Host>(
     administration: &mut Administration,
     diversions: &mut Diversions,
     candidate: Candidate,
-    auto_deconfigure: bool,
+    allowed: UnpackOptions,
     labels: &mut Texts,
     room: bool,
 ) -> Result<Unit, Unit>
@@ -118,7 +120,7 @@ fn take_unit<H: Host>(
     requires open { IsOpen diversions.old.ways administration.old }
     requires indexed { IfSome administration.old.packages
         (ArePackagesOf administration.old.database.records) }
-    ensures ok { IfOk result (λ unit. RunsUnit auto_deconfigure candidate
+    ensures ok { IfOk result (λ unit. RunsUnit allowed candidate
         (held_by administration.old diversions.old) (held_by administration.new diversions.new)
         unit (H.state host.old) (H.state host.new)) }
     ensures room { OnOk result (room ≡ true) }
@@ -127,30 +129,24 @@ fn take_unit<H: Host>(
     ensures open { OnOk result (IsOpen diversions.new.ways administration.new) }
     ensures indexed { OnOk result (IfSome administration.new.packages
         (ArePackagesOf administration.new.database.records)) }
-    ensures broken_off { IfErr result (λ unit. IsBrokenOff auto_deconfigure candidate
+    ensures broken_off { IfErr result (λ unit. IsBrokenOff allowed candidate
         (held_by administration.old diversions.old) unit (H.state host.old) (H.state host.new)) }
     ensures told { IfOk result (λ unit. TellsAll (H.state host.old) (H.state host.new) []
         unit.calls.items) }
-    ensures any_moment { AtEachMomentOf (IsAmidUnitOf auto_deconfigure candidate.tree
+    ensures any_moment { AtEachMomentOf (IsAmidUnitOf allowed candidate.tree
         (held_by administration.old diversions.old)) (H.state host.old) (H.state host.new) }
     ensures no_fault { OnOk result (NoFault (H.state host.old) (H.state host.new)) }
     ensures counts { IfErr result (λ unit. CountsReply (H.state host.old) (H.state host.new)
         unit.reply) }
     ensures not_closed { IfErr result (λ unit. IsBrokenBy Closed unit.reply → ⊥) }
-    ensures kept { KeepsEntries diversions.old diversions.new }
+    ensures writable { StaysWritable diversions.old diversions.new }
     ensures labels { OnOk result (labels.new ≡ labels.old ++ label_of candidate ∷ []) }
 {
     if prepare(labels, &candidate, room).is_err() {
         let alloc = administration.alloc;
         return Err(broken(alloc, Vec::new(alloc), Breakage::NoMemory));
     }
-    let unit = unit_of(
-        host,
-        administration,
-        diversions,
-        candidate,
-        auto_deconfigure,
-    );
+    let unit = unit_of(host, administration, diversions, candidate, allowed);
     if is_broken(&unit) {
         return Err(unit);
     }
@@ -174,10 +170,10 @@ fn take_trees<H: Host, T: Trees, W: Watcher>(
     ensures labels_stay { unpacks.new.labels.ghost_name ≡ unpacks.old.labels.ghost_name }
     ensures diversions_stay { unpacks.new.diversions.ghost_name
         ≡ unpacks.old.diversions.ghost_name }
-    ensures kept { KeepsEntries unpacks.old.diversions.now unpacks.new.diversions.now }
+    ensures writable { StaysWritable unpacks.old.diversions.now unpacks.new.diversions.now }
     ensures run { (cs : List ACandidate)
         × AreRead T.reads unpacks.old.trees.now cs unpacks.new.trees.now
-        × HasRunThrough unpacks.old.auto_deconfigure cs (T.words unpacks.new.trees.now) result
+        × HasRunThrough unpacks.old.allowed cs (T.words unpacks.new.trees.now) result
         (held_by administration.old unpacks.old.diversions.now)
         (held_by administration.new unpacks.new.diversions.now)
         (H.state host.old) (H.state host.new) × (IsNone result.last
@@ -209,7 +205,7 @@ pub(crate) fn unpack_trees<H: Host, T: Trees, W: Watcher>(
     administration: &mut Administration,
     diversions: &mut Diversions,
     trees: &mut T,
-    auto_deconfigure: bool,
+    allowed: UnpackOptions,
     labels: &mut Texts,
     watcher: &mut W,
 ) -> Report
@@ -220,11 +216,11 @@ pub(crate) fn unpack_trees<H: Host, T: Trees, W: Watcher>(
     requires indexed { IfSome administration.old.packages
         (ArePackagesOf administration.old.database.records) }
     ensures run { (cs : List ACandidate) × AreRead T.reads trees.old cs trees.new
-        × HasRunThrough auto_deconfigure cs (T.words trees.new) result
+        × HasRunThrough allowed cs (T.words trees.new) result
         (held_by administration.old diversions.old) (held_by administration.new diversions.new)
         (H.state host.old) (H.state host.new) × (IsNone result.last
         → labels.new ≡ map label_of cs) }
-    ensures kept { KeepsEntries diversions.old diversions.new }
+    ensures writable { StaysWritable diversions.old diversions.new }
     ensures told { TellsCalls (H.state host.old) (H.state host.new) result }
     ensures counts { CountsLast (H.state host.old) (H.state host.new) result.last }
     ensures not_closed { IfSome result.last (λ unit. IsBrokenBy Closed unit.reply → ⊥) }
@@ -239,7 +235,7 @@ pub(crate) fn unpack_trees<H: Host, T: Trees, W: Watcher>(
         trees,
         labels,
         diversions,
-        auto_deconfigure,
+        allowed,
     };
     take_trees(host, administration, &mut unpacks, watcher)
 }

@@ -1,3 +1,4 @@
 mod Cutting
 mod Turns
 mod Lines
+mod Three

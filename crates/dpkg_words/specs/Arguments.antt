@@ -14,9 +14,17 @@ root_of (c ∷ cs) = c ∷ cs
 abbrev pub own_words : Text → Options → List Text
 own_words name o = codes "coizkerra" ∷ name ∷ codes "--root" ∷ root_of o.instdir ∷ []
 
+-- who is told beside the lines: those who read a descriptor, and a log
+abbrev pub log_words : Option Text → List Text
+log_words None = []
+log_words (Some file) = (codes "--log=" ++ file) ∷ []
+
+abbrev pub told_words : Options → List Text
+told_words o = map (λ number. codes "--status-fd=" ++ number) o.status_fds ++ log_words o.log
+
 -- one that changes what is there, unless it is only rehearsed
 abbrev pub changing_words : Text → Options → List Text
-changing_words name o = own_words name o ++ cond o.no_act (codes "--dry-run" ∷ []) []
+changing_words name o = (own_words name o ++ cond o.no_act (codes "--dry-run" ∷ []) []) ++ told_words o
 
 -- one that calls scripts: the triggers that are pending then are processed, or let be
 abbrev pub calling_words : Text → Options → List Text
@@ -33,6 +41,13 @@ takes f = not f.confdef && f.confnew
 abbrev pub conffile_words : Forced → List Text → List Text
 conffile_words f words = ((words ++ cond (keeps f) (codes "--force-confold" ∷ []) []) ++ cond (takes f) (codes "--force-confnew" ∷ []) [])
     ++ cond f.confmiss (codes "--force-confmiss" ∷ []) []
+
+-- and Depends and Pre-Depends are ignored
+abbrev pub depends_words : Forced → List Text → List Text
+depends_words f words = words ++ cond f.depends (codes "--force-depends" ∷ []) []
+
+abbrev pub forced_words : Forced → List Text → List Text
+forced_words f words = depends_words f (conffile_words f words)
 
 -- none of these is a flag
 abbrev pub behind_dashes : List Text → List Text → List Text
@@ -56,19 +71,23 @@ plain_names names = map plain_name names
 -- `install` or `unpack`, before the files; an install takes them as given
 abbrev pub tree_front : Text → Bool → Options → List Text
 tree_front name as_given o =
-    conffile_words o.forced (calling_words name o ++ cond o.auto_deconfigure (codes "--auto-deconfigure" ∷ []) []) ++ cond as_given (codes "--as-given" ∷ []) []
+    forced_words o.forced (calling_words name o ++ cond o.auto_deconfigure (codes "--auto-deconfigure" ∷ []) []) ++ cond as_given (codes "--as-given" ∷ []) []
 
 -- `configure`, of all packages that wait for it where none is named
 abbrev pub configuring_words : Options → List Text → List Text
-configuring_words o names = behind_dashes (conffile_words o.forced (calling_words (codes "configure") o)) (plain_names names)
+configuring_words o names = behind_dashes (forced_words o.forced (calling_words (codes "configure") o)) (plain_names names)
 
 -- `remove` or `purge`, or `remove-selected` without names
 abbrev pub removing_words : Text → Options → List Text → List Text
-removing_words name o names = behind_dashes (calling_words name o) (plain_names names)
+removing_words name o names = behind_dashes (depends_words o.forced (calling_words name o)) (plain_names names)
 
 -- `configure --triggers-only`, of all triggers that are pending
 abbrev pub triggering_words : Options → List Text
 triggering_words o = changing_words (codes "configure") o ++ codes "--triggers-only" ∷ []
+
+-- the packages as dpkg's table
+abbrev pub listing_words : Options → List Text → List Text
+listing_words o patterns = behind_dashes (own_words (codes "list") o ++ codes "--table" ∷ []) patterns
 
 -- a question
 abbrev pub asking_words : Text → Options → List Text → List Text

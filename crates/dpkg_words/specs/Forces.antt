@@ -5,12 +5,12 @@ use Rattle.std.specs.Str.{bytes_eq}
 use Rattle.dpkg_words.specs.Options.{Text}
 use Rattle.dpkg_words.specs.declared.forces.Forced.{Forced}
 use Rattle.dpkg_words.specs.declared.forces.Thing.{Thing}
-use Rattle.dpkg_words.specs.declared.forces.Thing.TheVariants.{Confdef, Confold, Confnew, Confmiss, Downgrade, Idle}
+use Rattle.dpkg_words.specs.declared.forces.Thing.TheVariants.{Confdef, Confold, Confnew, Confmiss, Depends, Downgrade, Idle}
 
 abbrev pub nothing : Forced
-nothing = record { confdef = false; confold = false; confnew = false; confmiss = false }
+nothing = record { confdef = false; confold = false; confnew = false; confmiss = false; depends = false }
 
--- what is forced of conffiles, and that an older version may take the place of a newer one
+-- what is forced of conffiles; that an older version takes the place of a newer one is read by itself
 abbrev pub conf_thing : Text → Option Thing
 conf_thing name =
     if bytes_eq name (codes "confdef") then Some Confdef
@@ -20,7 +20,7 @@ conf_thing name =
     else if bytes_eq name (codes "downgrade") then Some Downgrade
     else None
 
--- what goes round dpkg's checks, of which none is gone round here
+-- what goes round dpkg's other checks, of which none is gone round here
 abbrev pub is_check : Text → Bool
 is_check name =
     if bytes_eq name (codes "architecture") then true
@@ -29,7 +29,6 @@ is_check name =
     else if bytes_eq name (codes "bad-version") then true
     else if bytes_eq name (codes "breaks") then true
     else if bytes_eq name (codes "conflicts") then true
-    else if bytes_eq name (codes "depends") then true
     else if bytes_eq name (codes "depends-version") then true
     else if bytes_eq name (codes "hold") then true
     else if bytes_eq name (codes "not-root") then true
@@ -55,7 +54,10 @@ is_manner name =
     else false
 
 abbrev pub thing_of : Text → Option Thing
-thing_of name = if is_check name || is_manner name then Some Idle else conf_thing name
+thing_of name =
+    if bytes_eq name (codes "depends") then Some Depends
+    else if is_check name || is_manner name then Some Idle
+    else conf_thing name
 
 -- the things that a text names, with commas (44) between them
 abbrev pub things_in : Text → List Text
@@ -67,5 +69,6 @@ with_forced Confdef on f = record f { confdef = on }
 with_forced Confold on f = record f { confold = on }
 with_forced Confnew on f = record f { confnew = on }
 with_forced Confmiss on f = record f { confmiss = on }
+with_forced Depends on f = record f { depends = on }
 with_forced Downgrade on f = f
 with_forced Idle on f = f

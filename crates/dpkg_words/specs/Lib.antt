@@ -3,6 +3,7 @@ pub mod Cutting
 pub mod Forces
 pub mod Names
 pub mod Options
+pub mod Picking
 pub mod Reading
 pub mod Refusals
 pub mod Screens

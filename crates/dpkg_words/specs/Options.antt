@@ -24,18 +24,21 @@ action_of name =
     else if bytes_eq name (codes "remove") then Some action.Remove
     else if bytes_eq name (codes "purge") then Some action.Purge
     else if bytes_eq name (codes "set-selections") then Some action.SetSelections
+    else if bytes_eq name (codes "clear-selections") then Some action.ClearSelections
     else None
 
 -- actions that ask for something
 abbrev pub question_of : Text → Option Action
 question_of name =
     if bytes_eq name (codes "status") then Some action.Status
+    else if bytes_eq name (codes "list") then Some action.List
     else if bytes_eq name (codes "listfiles") then Some action.ListFiles
     else if bytes_eq name (codes "search") then Some action.Search
     else if bytes_eq name (codes "audit") then Some action.Audit
     else if bytes_eq name (codes "get-selections") then Some action.GetSelections
     else if bytes_eq name (codes "verify") then Some action.Verify
     else if bytes_eq name (codes "compare-versions") then Some action.CompareVersions
+    else if bytes_eq name (codes "validate-version") then Some action.ValidateVersion
     else if bytes_eq name (codes "print-architecture") then Some action.PrintArchitecture
     else if bytes_eq name (codes "print-foreign-architectures") then Some action.PrintForeignArchitectures
     else None
@@ -64,19 +67,22 @@ flag_of name =
     else if bytes_eq name (codes "recursive") then Some flag.Recursive
     else if bytes_eq name (codes "triggers") then Some flag.Triggers
     else if bytes_eq name (codes "no-triggers") then Some flag.NoTriggers
+    else if bytes_eq name (codes "skip-same-version") then Some flag.SkipSame
+    else if bytes_eq name (codes "refuse-downgrade") then Some flag.RefuseDowngrade
+    else if bytes_eq name (codes "selected-only") then Some flag.SelectedOnly
     else if bytes_eq name (codes "no-pager") then Some flag.Idle
     else if bytes_eq name (codes "no-debsig") then Some flag.Idle
     else None
 
--- options with a value; of what goes on beside the action nothing is written, and each unit is tried
+-- options with a value; each unit is tried
 abbrev pub valued_of : Text → Option Valued
 valued_of name =
     if bytes_eq name (codes "root") then Some valued.Root
     else if bytes_eq name (codes "instdir") then Some valued.Instdir
     else if bytes_eq name (codes "admindir") then Some valued.Admindir
-    else if bytes_eq name (codes "status-fd") then Some valued.Idle
+    else if bytes_eq name (codes "status-fd") then Some valued.StatusFd
     else if bytes_eq name (codes "status-logger") then Some valued.Idle
-    else if bytes_eq name (codes "log") then Some valued.Idle
+    else if bytes_eq name (codes "log") then Some valued.Log
     else if bytes_eq name (codes "abort-after") then Some valued.Idle
     else if bytes_eq name (codes "debug") then Some valued.Idle
     else None
@@ -103,11 +109,15 @@ long_name letter =
     else if nat_eq letter 114 then Some (codes "remove")
     else if nat_eq letter 80 then Some (codes "purge")
     else if nat_eq letter 115 then Some (codes "status")
+    else if nat_eq letter 108 then Some (codes "list")
     else if nat_eq letter 76 then Some (codes "listfiles")
     else if nat_eq letter 83 then Some (codes "search")
     else if nat_eq letter 67 then Some (codes "audit")
     else if nat_eq letter 86 then Some (codes "verify")
     else if nat_eq letter 66 then Some (codes "auto-deconfigure")
+    else if nat_eq letter 69 then Some (codes "skip-same-version")
+    else if nat_eq letter 71 then Some (codes "refuse-downgrade")
+    else if nat_eq letter 79 then Some (codes "selected-only")
     else if nat_eq letter 97 then Some (codes "pending")
     else if nat_eq letter 82 then Some (codes "recursive")
     else if nat_eq letter 104 then Some (codes "help")
@@ -126,13 +136,16 @@ name_of action.TriggersOnly = codes "--triggers-only"
 name_of action.Remove = codes "--remove"
 name_of action.Purge = codes "--purge"
 name_of action.SetSelections = codes "--set-selections"
+name_of action.ClearSelections = codes "--clear-selections"
 name_of action.GetSelections = codes "--get-selections"
 name_of action.Status = codes "--status"
+name_of action.List = codes "--list"
 name_of action.ListFiles = codes "--listfiles"
 name_of action.Search = codes "--search"
 name_of action.Audit = codes "--audit"
 name_of action.Verify = codes "--verify"
 name_of action.CompareVersions = codes "--compare-versions"
+name_of action.ValidateVersion = codes "--validate-version"
 name_of action.PrintArchitecture = codes "--print-architecture"
 name_of action.PrintForeignArchitectures = codes "--print-foreign-architectures"
 name_of (action.Assert holds) = codes "--assert"

@@ -1,9 +1,11 @@
 -- dpkg's words, read one after another: options, up to the first word that is none or stands behind `--`, and words.
-use Rattle.std.specs.Prelude.{ℕ, Bool, true, false, List, [], ◌∷◌, ◌++◌, Option, Some, None, codes, fold, if◌then◌else◌, is_some}
+use Rattle.std.specs.Prelude.{ℕ, Bool, true, false, List, [], ◌∷◌, ◌++◌, Option, Some, None, codes, fold, if◌then◌else◌, is_some, not}
 use Rattle.std.specs.Str.{bytes_eq}
 use Rattle.dpkg_words.specs.Cutting.{behind, cut_at}
 use Rattle.dpkg_words.specs.Forces.{nothing, thing_of, things_in, with_forced}
 use Rattle.dpkg_words.specs.Options.{Text, letter_sense, long_sense}
+use Rattle.dpkg_words.specs.Picking.{all_taken}
+use Rattle.dpkg_words.specs.StatusFd.{is_descriptor}
 use Rattle.dpkg_words.specs.declared.forces.Thing.{Thing}
 use Rattle.dpkg_words.specs.declared.forces.Thing.TheVariants.{Downgrade}
 use Rattle.dpkg_words.specs.declared.options.Action.{Action}
@@ -33,6 +35,9 @@ start = record {
     robot = false;
     recursive = false;
     triggers = true;
+    status_fds = [];
+    log = None;
+    picking = all_taken;
     forced = nothing;
   };
   wants = None;
@@ -60,6 +65,9 @@ with_flag flag.Robot o = record o { robot = true }
 with_flag flag.Recursive o = record o { recursive = true }
 with_flag flag.Triggers o = record o { triggers = true }
 with_flag flag.NoTriggers o = record o { triggers = false }
+with_flag flag.SkipSame o = record o { picking = record o.picking { skip_same = true } }
+with_flag flag.RefuseDowngrade o = record o { picking = record o.picking { refuse_downgrade = true } }
+with_flag flag.SelectedOnly o = record o { picking = record o.picking { selected_only = true } }
 with_flag flag.Idle o = o
 
 -- an option without a value, or one whose value the next word is
@@ -88,18 +96,32 @@ with_instdir root o = record o { instdir = front_of root }
 abbrev pub with_admindir : Text → Options → Options
 with_admindir admindir o = record o { admindir = admindir }
 
+-- each descriptor is told, and of several logs the last one is written
 abbrev pub given : Valued → Text → Options → Options
 given valued.Root value o = with_root value o
 given valued.Instdir value o = with_instdir value o
 given valued.Admindir value o = with_admindir value o
+given valued.StatusFd value o = record o { status_fds = o.status_fds ++ value ∷ [] }
+given valued.Log value o = record o { log = Some value }
 given valued.Idle value o = o
 
-abbrev pub with_value : Valued → Text → Reading → Reading
-with_value valued value r = record r { options = given valued value r.options; wants = None }
+-- a descriptor is a number
+abbrev pub is_taken : Valued → Text → Bool
+is_taken valued.StatusFd value = is_descriptor value
+is_taken _ value = true
 
--- a thing is forced or refused; that an older version takes the place of a newer one can't be refused here
+abbrev pub with_value : Valued → Text → Reading → Reading
+with_value valued value r =
+    if is_taken valued value then record r { options = given valued value r.options; wants = None }
+    else faulty why.Number value r
+
+-- that an older version takes the place of a newer one is forced, unless it is refused
+abbrev pub with_downgrade : Bool → Options → Options
+with_downgrade on o = record o { picking = record o.picking { refuse_downgrade = not on } }
+
+-- a thing is forced or refused
 abbrev pub by_thing : Text → Bool → Option Thing → Reading → Reading
-by_thing word false (Some Downgrade) r = faulty why.Unknown word r
+by_thing word on (Some Downgrade) r = record r { options = with_downgrade on r.options }
 by_thing word on (Some thing) r = record r { options = record r.options { forced = with_forced thing on r.options.forced } }
 by_thing word on None r = faulty why.Thing word r
 

@@ -1,15 +1,14 @@
 -- The descriptor on which dpkg's caller reads the states of packages (`--status-fd N`).
-use Rattle.std.specs.Prelude.{List, [], ◌∷◌, Option, Some, None, codes, if◌then◌else◌}
-use Rattle.std.specs.Option.{option_or}
+use Rattle.std.specs.Prelude.{◌&&◌, ◌||◌, Bool, not, codes, length, nat_eq, nat_le, nat_lt}
+use Rattle.std.specs.Char.{is_ascii_digit}
+use Rattle.std.specs.List.{list_all, starts_with}
 use Rattle.std.specs.Str.{bytes_eq}
-use Rattle.dpkg_words.specs.Cutting.{behind}
 use Rattle.dpkg_words.specs.Options.{Text}
 
-abbrev pub first_of : List Text → Option Text
-first_of [] = None
-first_of (w ∷ ws) = Some w
+-- no zero stands before other digits: dpkg takes such a number for an octal one
+abbrev pub is_plain_number : Text → Bool
+is_plain_number text = bytes_eq text (codes "0") || not (starts_with nat_eq text (codes "0"))
 
--- the first that is named: `--status-fd N` or `--status-fd=N`
-abbrev pub status_fd : List Text → Option Text
-status_fd [] = None
-status_fd (w ∷ ws) = if bytes_eq w (codes "--status-fd") then first_of ws else option_or (behind (codes "--status-fd=") w) (status_fd ws)
+-- a number of one to nine decimal digits
+abbrev pub is_descriptor : Text → Bool
+is_descriptor text = list_all is_ascii_digit text && is_plain_number text && nat_lt 0 (length text) && nat_le (length text) 9

@@ -1,9 +1,10 @@
 -- What dpkg's words come to: the program's own words, a text, or a refusal.
-use Rattle.std.specs.Prelude.{ℕ, ◌&&◌, ◌||◌, ◌==◌, Bool, true, false, not, List, [], ◌∷◌, Option, Some, None, codes, if◌then◌else◌, is_some}
+use Rattle.std.specs.Prelude.{ℕ, ◌&&◌, ◌||◌, ◌==◌, Bool, true, false, not, List, [], ◌∷◌, ◌++◌, Option, Some, None, codes, if◌then◌else◌, is_some}
 use Rattle.std.specs.List.{list_any}
 use Rattle.std.specs.Str.{bytes_eq}
-use Rattle.dpkg_words.specs.Arguments.{asking_words, behind_dashes, changing_words, configuring_words, plain_names, removing_words, tree_front, triggering_words}
+use Rattle.dpkg_words.specs.Arguments.{asking_words, behind_dashes, changing_words, configuring_words, listing_words, plain_names, removing_words, root_of, tree_front, triggering_words}
 use Rattle.dpkg_words.specs.Options.{Text, name_of}
+use Rattle.dpkg_words.specs.Picking.{picks}
 use Rattle.dpkg_words.specs.Reading.{administration_of, read_all}
 use Rattle.dpkg_words.specs.Refusals.{fault_line}
 use Rattle.dpkg_words.specs.Screens.{help_screen, version_of}
@@ -16,7 +17,7 @@ use Rattle.dpkg_words.specs.declared.reading.Reading.{Reading}
 use Rattle.dpkg_words.specs.declared.refusals.Why.{Why}
 use Rattle.dpkg_words.specs.declared.refusals.Why.TheVariants as why
 use Rattle.dpkg_words.specs.declared.translation.Translated.{Translated}
-use Rattle.dpkg_words.specs.declared.translation.Translated.TheVariants.{Ours, Gathers, Prints, Selects, Refused}
+use Rattle.dpkg_words.specs.declared.translation.Translated.TheVariants.{Ours, Gathers, Prints, Selects, Clears, Refused}
 
 abbrev pub refusal : Why → Text → Translated
 refusal why word = Refused (fault_line why word)
@@ -39,15 +40,18 @@ rooted o come =
 abbrev pub under_root : Options → List Text → Translated
 under_root o words = rooted o (Ours words)
 
--- words before files: behind them stand these, or with `--recursive` the archives below these directories
-abbrev pub over_files : Bool → List Text → List Text → Translated
-over_files true front files = Gathers (record { front = front; directories = files })
-over_files false front files = Ours (behind_dashes front files)
+-- words before files: behind them stand these; or with `--recursive` the archives below these directories, or those that aren't
+-- passed over
+abbrev pub over_files : Options → List Text → List Text → Translated
+over_files o front files =
+    if o.recursive || picks o.picking
+    then Gathers (record { front = front; root = root_of o.instdir; files = files; recursive = o.recursive; picking = o.picking })
+    else Ours (behind_dashes front files)
 
 -- `--install FILE..` or `--unpack FILE..`
 abbrev pub trees : Action → Text → Bool → Options → List Text → Translated
 trees asked name as_given o [] = refusal why.NoWords (name_of asked)
-trees asked name as_given o (w ∷ ws) = rooted o (over_files o.recursive (tree_front name as_given o) (w ∷ ws))
+trees asked name as_given o (w ∷ ws) = rooted o (over_files o (tree_front name as_given o) (w ∷ ws))
 
 -- `--configure PKG..`, or `--configure --pending`: with no name, only that asks for all
 abbrev pub configured_by : Bool → Options → List Text → Translated
@@ -88,30 +92,48 @@ abbrev pub selecting : Options → List Text → Translated
 selecting o [] = rooted o (Selects (changing_words (codes "select") o))
 selecting o (w ∷ ws) = refusal why.Words (codes "--set-selections")
 
--- `--get-selections`, of all packages
+-- `--clear-selections`, of all packages that aren't essential
+abbrev pub clear_selections : Options → List Text → Translated
+clear_selections o [] = rooted o (Clears (record { front = changing_words (codes "select") o; root = root_of o.instdir }))
+clear_selections o (w ∷ ws) = refusal why.Words (codes "--clear-selections")
+
+-- `--get-selections [PATTERN..]`
 abbrev pub selections : Options → List Text → Translated
-selections o [] = under_root o (asking_words (codes "selections") o [])
-selections o (w ∷ ws) = refusal why.Words (codes "--get-selections")
+selections o words = under_root o (asking_words (codes "selections") o (plain_names words))
+
+-- `--list [PATTERN..]`
+abbrev pub listed : Options → List Text → Translated
+listed o words = under_root o (listing_words o (plain_names words))
 
 -- `--status PKG` or `--listfiles PKG`
 abbrev pub asked_one : Action → Text → Options → List Text → Translated
 asked_one asked name o (w ∷ []) = under_root o (asking_words name o (plain_names (w ∷ [])))
 asked_one asked name o _ = refusal why.OneWord (name_of asked)
 
--- `*`, `?`, `[` or `\`
+-- `[` or `\`
 abbrev pub is_sign : ℕ → Bool
-is_sign byte = byte == 42 || byte == 63 || byte == 91 || byte == 92
+is_sign byte = byte == 91 || byte == 92
 
-abbrev pub is_pattern : Text → Bool
-is_pattern word = list_any is_sign word
+abbrev pub has_signs : Text → Bool
+has_signs word = list_any is_sign word
 
+-- some text in which these aren't signs
 abbrev pub is_searchable : Text → Bool
 is_searchable [] = false
-is_searchable (c ∷ cs) = c == 47 && not (is_pattern (c ∷ cs))
+is_searchable (c ∷ cs) = not (has_signs (c ∷ cs))
 
--- `--search PATH`
+-- a path, or a pattern for paths: it begins with `/`, `*` or `?`
+abbrev pub is_whole : Text → Bool
+is_whole [] = false
+is_whole (c ∷ cs) = c == 47 || c == 42 || c == 63
+
+-- a word that is neither is a part of a path
+abbrev pub sought : Text → Text
+sought word = if is_whole word then word else codes "*" ++ (word ++ codes "*")
+
+-- `--search PATH`, `--search PATTERN`, or a part of a path
 abbrev pub searched : Options → List Text → Translated
-searched o (w ∷ []) = if is_searchable w then under_root o (asking_words (codes "search") o (w ∷ [])) else refusal why.Pattern w
+searched o (w ∷ []) = if is_searchable w then under_root o (asking_words (codes "search") o (sought w ∷ [])) else refusal why.Pattern w
 searched o _ = refusal why.OneWord (codes "--search")
 
 -- `--audit`, of all packages
@@ -123,19 +145,62 @@ audited o (w ∷ ws) = refusal why.Words (codes "--audit")
 abbrev pub verified : Options → List Text → Translated
 verified o words = under_root o (asking_words (codes "verify") o (plain_names words))
 
+abbrev pub status_for : Bool → ℕ
+status_for true = 0
+status_for false = 1
+
+-- For dpkg an empty version is earlier than any by these operators, and by the program's own words later by those with `-nl`: so the
+-- same is asked of the two the other way round.
+abbrev pub late_operator : Text → Option Text
+late_operator operator =
+    if bytes_eq operator (codes "lt") then Some (codes "lt-nl")
+    else if bytes_eq operator (codes "<<") then Some (codes "lt-nl")
+    else if bytes_eq operator (codes "le") then Some (codes "le-nl")
+    else if bytes_eq operator (codes "<=") then Some (codes "le-nl")
+    else if bytes_eq operator (codes "<") then Some (codes "le-nl")
+    else if bytes_eq operator (codes "ge") then Some (codes "ge-nl")
+    else if bytes_eq operator (codes ">=") then Some (codes "ge-nl")
+    else if bytes_eq operator (codes ">") then Some (codes "ge-nl")
+    else if bytes_eq operator (codes "gt") then Some (codes "gt-nl")
+    else if bytes_eq operator (codes ">>") then Some (codes "gt-nl")
+    else None
+
+-- a comparison in the program's own words
+abbrev pub comparison : Text → Text → Text → Translated
+comparison a operator b = Ours (behind_dashes (codes "coizkerra" ∷ codes "compare-versions" ∷ []) (a ∷ operator ∷ b ∷ []))
+
+-- the other way round, if the operator has one that is for that
+abbrev pub turned_round : Text → Text → Text → Option Text → Translated
+turned_round a operator b None = comparison a operator b
+turned_round a operator b (Some late) = comparison b late a
+
+abbrev pub is_empty : Text → Bool
+is_empty text = bytes_eq text (codes "")
+
+abbrev pub is_equality : Text → Bool
+is_equality operator = bytes_eq operator (codes "eq") || bytes_eq operator (codes "=")
+
+-- where a version may be empty: it equals an empty one alone
+abbrev pub compared_with_empty : Text → Text → Text → Translated
+compared_with_empty a operator b =
+    if is_equality operator then printed [] (status_for (bytes_eq a b))
+    else if bytes_eq operator (codes "ne") then printed [] (status_for (not (bytes_eq a b)))
+    else turned_round a operator b (late_operator operator)
+
 -- `--compare-versions VERSION OPERATOR VERSION`
 abbrev pub compared : List Text → Translated
-compared (a ∷ operator ∷ b ∷ []) = Ours (behind_dashes (codes "coizkerra" ∷ codes "compare-versions" ∷ []) (a ∷ operator ∷ b ∷ []))
+compared (a ∷ operator ∷ b ∷ []) = if is_empty a || is_empty b then compared_with_empty a operator b else comparison a operator b
 compared _ = refusal why.ThreeWords (codes "--compare-versions")
+
+-- `--validate-version VERSION`: only a version can be compared, with itself
+abbrev pub validated : List Text → Translated
+validated (v ∷ []) = Ours (behind_dashes (codes "coizkerra" ∷ codes "compare-versions" ∷ []) (v ∷ codes "eq" ∷ v ∷ []))
+validated _ = refusal why.OneWord (codes "--validate-version")
 
 -- what is told without a look at a root
 abbrev pub told : Action → Text → ℕ → List Text → Translated
 told asked text status [] = printed text status
 told asked text status (w ∷ ws) = refusal why.Words (name_of asked)
-
-abbrev pub status_for : Bool → ℕ
-status_for true = 0
-status_for false = 1
 
 -- what an action comes to, with the options and the words behind them
 abbrev pub done : Action → Options → List Text → Translated
@@ -146,13 +211,16 @@ done action.TriggersOnly o words = triggered o words
 done action.Remove o words = removed action.Remove (codes "remove") o words
 done action.Purge o words = removed action.Purge (codes "purge") o words
 done action.SetSelections o words = selecting o words
+done action.ClearSelections o words = clear_selections o words
 done action.GetSelections o words = selections o words
 done action.Status o words = asked_one action.Status (codes "status") o words
+done action.List o words = listed o words
 done action.ListFiles o words = asked_one action.ListFiles (codes "listfiles") o words
 done action.Search o words = searched o words
 done action.Audit o words = audited o words
 done action.Verify o words = verified o words
 done action.CompareVersions o words = compared words
+done action.ValidateVersion o words = validated words
 done action.PrintArchitecture o words = told action.PrintArchitecture (codes "amd64\n") 0 words
 done action.PrintForeignArchitectures o words = told action.PrintForeignArchitectures [] 0 words
 done (action.Assert holds) o words = told (action.Assert holds) [] (status_for holds) words

@@ -1,6 +1,6 @@
 // The program's own words for what dpkg's ask for.
-ghost use Rattle.std.specs.Prelude.{◌≡◌, IfOk, OnOk};
-ghost use Rattle.dpkg_words.specs.Arguments.{asking_words, behind_dashes, calling_words, changing_words, conffile_words, configuring_words, is_plain, keeps, own_words, plain_name, plain_names, removing_words, root_of, takes, tree_front, triggering_words};
+ghost use Rattle.std.specs.Prelude.{◌≡◌, ◌++◌, ◌∷◌, [], IfOk, OnOk, codes, map, string_bytes};
+ghost use Rattle.dpkg_words.specs.Arguments.{asking_words, behind_dashes, calling_words, changing_words, conffile_words, configuring_words, depends_words, forced_words, is_plain, keeps, listing_words, log_words, own_words, plain_name, plain_names, removing_words, root_of, takes, told_words, tree_front, triggering_words};
 
 use crate::forces::Forced;
 use crate::own_words::OwnWords;
@@ -9,7 +9,7 @@ use crate::words::cut_at_colon;
 use std::alloc::{AllocError, Global};
 use texts::{Text, Texts};
 
-fn root_of(instdir: &str) -> &str
+pub(crate) fn root_of(instdir: &str) -> &str
     ensures { result.now ≡ root_of instdir.now }
 {
     if instdir.is_empty() {
@@ -30,6 +30,52 @@ fn own_words(alloc: Global, name: &str, options: &Options) -> Result<OwnWords, A
     Ok(words)
 }
 
+fn status_fd_word(alloc: Global, number: &str) -> Result<String, AllocError>
+    ensures { IfOk result (λ word. string_bytes word ≡ codes "--status-fd=" ++ number.now) }
+{
+    format!(in alloc; "--status-fd={number}")
+}
+
+fn push_status_fd(alloc: Global, words: &mut OwnWords, number: &str) -> Result<(), AllocError>
+    ensures { OnOk result (words.new
+        ≡ words.old ++ (codes "--status-fd=" ++ number.now) ∷ []) }
+{
+    words.push(status_fd_word(alloc, number)?.as_str())
+}
+
+fn push_status_fds(alloc: Global, words: &mut OwnWords, numbers: &[Text]) -> Result<(), AllocError>
+    ensures { OnOk result (words.new
+        ≡ words.old ++ map (λ number. codes "--status-fd=" ++ number) numbers.now) }
+{
+    for number in numbers {
+        push_status_fd(alloc, words, number.as_str())?;
+    }
+    Ok(())
+}
+
+fn log_word(alloc: Global, file: &str) -> Result<String, AllocError>
+    ensures { IfOk result (λ word. string_bytes word ≡ codes "--log=" ++ file.now) }
+{
+    format!(in alloc; "--log={file}")
+}
+
+fn push_log(alloc: Global, words: &mut OwnWords, log: &Option<Text>) -> Result<(), AllocError>
+    ensures { OnOk result (words.new ≡ words.old ++ log_words log.now) }
+{
+    match log {
+        Some(file) => words.push(log_word(alloc, file.as_str())?.as_str()),
+        None => Ok(()),
+    }
+}
+
+// Who is told beside the lines.
+fn push_told(alloc: Global, words: &mut OwnWords, options: &Options) -> Result<(), AllocError>
+    ensures { OnOk result (words.new ≡ words.old ++ told_words options.now) }
+{
+    push_status_fds(alloc, words, options.status_fds.as_slice())?;
+    push_log(alloc, words, &options.log)
+}
+
 /// One that changes what is there, unless it is only rehearsed.
 pub(crate) fn changing_words(
     alloc: Global,
@@ -40,6 +86,7 @@ pub(crate) fn changing_words(
 {
     let mut words = own_words(alloc, name, options)?;
     words.push_if(options.no_act, "--dry-run")?;
+    push_told(alloc, &mut words, options)?;
     Ok(words)
 }
 
@@ -72,6 +119,19 @@ fn push_conffiles(words: &mut OwnWords, forced: Forced) -> Result<(), AllocError
     words.push_if(forced.confmiss, "--force-confmiss")
 }
 
+fn push_depends(words: &mut OwnWords, forced: Forced) -> Result<(), AllocError>
+    ensures { OnOk result (words.new ≡ depends_words forced words.old) }
+{
+    words.push_if(forced.depends, "--force-depends")
+}
+
+fn push_forced(words: &mut OwnWords, forced: Forced) -> Result<(), AllocError>
+    ensures { OnOk result (words.new ≡ forced_words forced words.old) }
+{
+    push_conffiles(words, forced)?;
+    push_depends(words, forced)
+}
+
 fn push_behind(words: &mut OwnWords, names: &[Text]) -> Result<(), AllocError>
     ensures { OnOk result (words.new ≡ behind_dashes words.old names.now) }
 {
@@ -90,7 +150,7 @@ pub(crate) fn tree_front(
 {
     let mut words = calling_words(alloc, name, options)?;
     words.push_if(options.auto_deconfigure, "--auto-deconfigure")?;
-    push_conffiles(&mut words, options.forced)?;
+    push_forced(&mut words, options.forced)?;
     words.push_if(as_given, "--as-given")?;
     Ok(words)
 }
@@ -104,7 +164,7 @@ pub(crate) fn configuring_words(
     ensures { IfOk result (λ words. words ≡ configuring_words options.now names.now) }
 {
     let mut words = calling_words(alloc, "configure", options)?;
-    push_conffiles(&mut words, options.forced)?;
+    push_forced(&mut words, options.forced)?;
     let names = plain_names(alloc, names)?;
     push_behind(&mut words, names.as_slice())?;
     Ok(words)
@@ -120,6 +180,7 @@ pub(crate) fn removing_words(
     ensures { IfOk result (λ words. words ≡ removing_words name.now options.now names.now) }
 {
     let mut words = calling_words(alloc, name, options)?;
+    push_depends(&mut words, options.forced)?;
     let names = plain_names(alloc, names)?;
     push_behind(&mut words, names.as_slice())?;
     Ok(words)
@@ -145,6 +206,20 @@ pub(crate) fn asking_words(
 {
     let mut words = own_words(alloc, name, options)?;
     push_behind(&mut words, asked)?;
+    Ok(words)
+}
+
+/// The packages as dpkg's table.
+pub(crate) fn listing_words(
+    alloc: Global,
+    options: &Options,
+    patterns: &[Text],
+) -> Result<OwnWords, AllocError>
+    ensures { IfOk result (λ words. words ≡ listing_words options.now patterns.now) }
+{
+    let mut words = own_words(alloc, "list", options)?;
+    words.push("--table")?;
+    push_behind(&mut words, patterns)?;
     Ok(words)
 }
 

@@ -4,13 +4,14 @@ ghost use Rattle.dpkg_words.specs.Forces.{conf_thing, is_check, is_manner, nothi
 
 use std::alloc::{AllocError, Global};
 
-/// What is forced of conffiles.
+/// What is forced of conffiles, and whether Depends and Pre-Depends are ignored.
 #[derive(Clone, Copy)]
 pub(crate) struct Forced {
     pub(crate) confdef: bool,
     pub(crate) confold: bool,
     pub(crate) confnew: bool,
     pub(crate) confmiss: bool,
+    pub(crate) depends: bool,
 }
 
 /// A thing that can be forced.
@@ -20,6 +21,7 @@ pub(crate) enum Thing {
     Confold,
     Confnew,
     Confmiss,
+    Depends,
     Downgrade,
     /// It changes nothing.
     Idle,
@@ -34,6 +36,7 @@ impl Forced {
             confold: false,
             confnew: false,
             confmiss: false,
+            depends: false,
         }
     }
 }
@@ -51,7 +54,7 @@ fn conf_thing(name: &str) -> Option<Thing>
     }
 }
 
-// What goes round dpkg's checks, of which none is gone round here.
+// What goes round dpkg's other checks, of which none is gone round here.
 fn is_check(name: &str) -> bool
     ensures { result ≡ is_check name.now }
 {
@@ -62,7 +65,6 @@ fn is_check(name: &str) -> bool
         "bad-version" => true,
         "breaks" => true,
         "conflicts" => true,
-        "depends" => true,
         "depends-version" => true,
         "hold" => true,
         "not-root" => true,
@@ -97,6 +99,9 @@ fn is_manner(name: &str) -> bool
 pub(crate) fn thing_of(name: &str) -> Option<Thing>
     ensures { result ≡ thing_of name.now }
 {
+    if name == "depends" {
+        return Some(Thing::Depends);
+    }
     if is_check(name) || is_manner(name) {
         return Some(Thing::Idle);
     }
@@ -130,6 +135,10 @@ impl Forced {
             },
             Thing::Confmiss => Forced {
                 confmiss: on,
+                ..self
+            },
+            Thing::Depends => Forced {
+                depends: on,
                 ..self
             },
             Thing::Downgrade | Thing::Idle => self,

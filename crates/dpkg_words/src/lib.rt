@@ -3,8 +3,8 @@
 //! # What is proved
 //!
 //! `translate` gives of dpkg's words exactly what its definition has (specs/), which is a table in
-//! dpkg's terms: the program's own words, also with directories behind which archives are to be
-//! found, a text with a status, or a refusal that names the option that isn't taken. `selecting_words` gives
+//! dpkg's terms: the program's own words, also with files behind them that are still to be found or
+//! picked, a text with a status, or a refusal that names the option that isn't taken. `selecting_words` gives
 //! of a text the words by which what it selects is recorded, or tells the first line that can't be
 //! read. `speaks_dpkg` tells by which names of the program its words are dpkg's.
 #![tactic(auto)]
@@ -14,6 +14,7 @@ mod forces;
 mod names;
 mod options;
 mod own_words;
+mod picking;
 mod reading;
 mod refusals;
 mod screens;
@@ -24,6 +25,6 @@ mod words;
 
 pub use names::speaks_dpkg;
 pub use own_words::OwnWords;
+pub use picking::Picking;
 pub use selections::{Selected, selecting_words};
-pub use status_fds::status_fd;
-pub use translation::{Gathered, Printed, Translated, translate};
+pub use translation::{Clearing, Gathered, Printed, Translated, translate};

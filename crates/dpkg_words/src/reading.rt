@@ -1,11 +1,14 @@
 // dpkg's words, read one after another.
 ghost use Rattle.std.specs.Prelude.{◌≡◌, IfOk, fold, map, option_map, string_bytes};
 ghost use Rattle.dpkg_words.specs.Options.{long_sense};
-ghost use Rattle.dpkg_words.specs.Reading.{administration_of, attached, by_sense, by_thing, faulty, front_of, given, in_place, read_all, read_word, start, with_action, with_admindir, with_cut, with_debug, with_flag, with_instdir, with_letter, with_long, with_option, with_other, with_root, with_short, with_thing, with_things, with_value, with_word};
+ghost use Rattle.dpkg_words.specs.declared.options.Valued.TheVariants as valued;
+ghost use Rattle.dpkg_words.specs.Reading.{administration_of, attached, by_sense, by_thing, faulty, front_of, given, in_place, is_taken, read_all, read_word, start, with_action, with_admindir, with_cut, with_debug, with_downgrade, with_flag, with_instdir, with_letter, with_long, with_option, with_other, with_root, with_short, with_thing, with_things, with_value, with_word};
 
 use crate::forces::{Forced, Thing, thing_of, things_in};
 use crate::options::{Action, Flag, Sense, Valued, letter_sense, long_sense};
+use crate::picking::Picking;
 use crate::refusals::Why;
+use crate::status_fds::is_descriptor;
 use crate::words::{behind, cut_at_equals};
 use std::alloc::{AllocError, Global};
 use texts::{Text, Texts};
@@ -25,6 +28,10 @@ pub(crate) struct Options {
     pub(crate) recursive: bool,
     /// Triggers that are pending behind the action are processed.
     pub(crate) triggers: bool,
+    /// The descriptors on which a caller reads what is done.
+    pub(crate) status_fds: Texts,
+    pub(crate) log: Option<Text>,
+    pub(crate) picking: Picking,
     pub(crate) forced: Forced,
 }
 
@@ -61,6 +68,9 @@ fn start(alloc: Global) -> Result<Reading, AllocError>
         robot: false,
         recursive: false,
         triggers: true,
+        status_fds: Texts::new(alloc),
+        log: None,
+        picking: Picking::none(),
         forced: Forced::none(),
     };
     Ok(Reading {
@@ -100,6 +110,26 @@ fn with_action(
     Ok(Reading { options, ..reading })
 }
 
+fn with_skipping(options: Options) -> Options
+    ensures { result ≡ with_flag Flag.SkipSame options }
+{
+    let picking = Picking {
+        skip_same: true,
+        ..options.picking
+    };
+    Options { picking, ..options }
+}
+
+fn with_selected(options: Options) -> Options
+    ensures { result ≡ with_flag Flag.SelectedOnly options }
+{
+    let picking = Picking {
+        selected_only: true,
+        ..options.picking
+    };
+    Options { picking, ..options }
+}
+
 fn with_flag(flag: Flag, options: Options) -> Options
     ensures { result ≡ with_flag flag options }
 {
@@ -132,6 +162,9 @@ fn with_flag(flag: Flag, options: Options) -> Options
             triggers: false,
             ..options
         },
+        Flag::SkipSame => with_skipping(options),
+        Flag::RefuseDowngrade => with_downgrade(false, options),
+        Flag::SelectedOnly => with_selected(options),
         Flag::Idle => options,
     }
 }
@@ -213,6 +246,24 @@ fn with_admindir(alloc: Global, admindir: &str, options: Options) -> Result<Opti
     })
 }
 
+fn with_status_fd(alloc: Global, number: &str, options: Options) -> Result<Options, AllocError>
+    ensures { IfOk result (λ o. o ≡ given valued.StatusFd number.now options) }
+{
+    let mut status_fds = options.status_fds;
+    status_fds.push(Text::from_str(alloc, number)?)?;
+    Ok(Options {
+        status_fds,
+        ..options
+    })
+}
+
+fn with_log(alloc: Global, file: &str, options: Options) -> Result<Options, AllocError>
+    ensures { IfOk result (λ o. o ≡ given valued.Log file.now options) }
+{
+    let log = Some(Text::from_str(alloc, file)?);
+    Ok(Options { log, ..options })
+}
+
 fn given(
     alloc: Global,
     valued: Valued,
@@ -225,7 +276,18 @@ fn given(
         Valued::Root => with_root(alloc, value, options),
         Valued::Instdir => with_instdir(alloc, value, options),
         Valued::Admindir => with_admindir(alloc, value, options),
+        Valued::StatusFd => with_status_fd(alloc, value, options),
+        Valued::Log => with_log(alloc, value, options),
         Valued::Idle => Ok(options),
+    }
+}
+
+fn is_taken(valued: Valued, value: &str) -> bool
+    ensures { result ≡ is_taken valued value.now }
+{
+    match valued {
+        Valued::StatusFd => is_descriptor(value),
+        _ => true,
     }
 }
 
@@ -238,6 +300,9 @@ fn with_value(
 ) -> Result<Reading, AllocError>
     ensures { IfOk result (λ r. r ≡ with_value valued value.now reading) }
 {
+    if !is_taken(valued, value) {
+        return faulty(alloc, Why::Number, value, reading);
+    }
     let options = given(alloc, valued, value, reading.options)?;
     Ok(Reading {
         options,
@@ -246,7 +311,17 @@ fn with_value(
     })
 }
 
-// A thing that is forced or refused. Nothing here looks at which of two versions is the older one.
+fn with_downgrade(on: bool, options: Options) -> Options
+    ensures { result ≡ with_downgrade on options }
+{
+    let picking = Picking {
+        refuse_downgrade: !on,
+        ..options.picking
+    };
+    Options { picking, ..options }
+}
+
+// A thing that is forced or refused.
 fn by_thing(
     alloc: Global,
     word: &str,
@@ -257,7 +332,10 @@ fn by_thing(
     ensures { IfOk result (λ r. r ≡ by_thing word.now on thing reading) }
 {
     match thing {
-        Some(Thing::Downgrade) if !on => faulty(alloc, Why::Unknown, word, reading),
+        Some(Thing::Downgrade) => Ok(Reading {
+            options: with_downgrade(on, reading.options),
+            ..reading
+        }),
         Some(thing) => {
             let forced = reading.options.forced.with(thing, on);
             let options = Options {

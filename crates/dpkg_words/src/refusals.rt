@@ -24,6 +24,7 @@ pub(crate) enum Why {
     ThreeWords,
     Words,
     Pattern,
+    Number,
 }
 
 fn why_text(why: Why) -> &'static str
@@ -42,7 +43,8 @@ fn why_text(why: Why) -> &'static str
         Why::OneWord => "one word is taken behind ",
         Why::ThreeWords => "VERSION OPERATOR VERSION are wanted behind ",
         Why::Words => "no word is taken behind ",
-        Why::Pattern => "only an absolute path can be searched for, and not ",
+        Why::Pattern => "only a path or a pattern of * and ? can be searched for, and not ",
+        Why::Number => "invalid integer for --status-fd: ",
     }
 }
 

@@ -9,8 +9,10 @@ const HELP: &str = "dpkg's words, carried out by coizkerra. Usage: [OPTION ..] A
   --triggers-only PKG..   --triggers-only -a     the triggers that are pending, of all packages
   -r, --remove PKG..      -P, --purge PKG..      -r -a, -P -a: what is selected to go
   -s, --status PKG        -L, --listfiles PKG    -S, --search PATH
+  -l, --list [PATTERN..]                         the packages, as dpkg's table
   -C, --audit             -V, --verify [PKG..]   --compare-versions A OP B
   --set-selections        --get-selections       what is wanted of packages: PKG WANT
+  --clear-selections      all that are not essential are to go
   --print-architecture    --print-foreign-architectures    --assert-FEATURE
   -h, --help              --version
 
@@ -19,10 +21,14 @@ const HELP: &str = "dpkg's words, carried out by coizkerra. Usage: [OPTION ..] A
   --no-act, --dry-run, --simulate
                           the lines are told as if it were done, and nothing is changed
   --no-triggers           triggers stay pending and aren't processed then; not so with --triggers
-  --status-fd=N           the state of each package is told on this descriptor as it is noted
+  --status-fd=N           what is done with each package is told on this descriptor, and its states
+  --log=FILE              the same is added to FILE, with the time
+  -E, --skip-same-version, -G, --refuse-downgrade, -O, --selected-only
+                          what of FILE.. is passed over
   --force-confold, --force-confdef, --force-confnew, --force-confmiss
+  --force-depends         Depends and Pre-Depends are ignored where they can't be kept
 
-Taken, and without effect: other --force-X and --refuse-X, --no-pager, --no-debsig, --log,
+Taken, and without effect: other --force-X and --refuse-X, --no-pager, --no-debsig,
 --status-logger, --abort-after, -D.
 What is printed are coizkerra's own lines: coizkerra help.
 ";

@@ -1,30 +1,24 @@
 // The descriptor on which a caller of dpkg reads the states of packages.
-ghost use Rattle.std.specs.Prelude.{◌≡◌, map, option_map, string_bytes};
-ghost use Rattle.dpkg_words.specs.StatusFd.{first_of, status_fd};
+ghost use Rattle.std.specs.Prelude.{◌≡◌};
+ghost use Rattle.std.specs.Char.{is_ascii_digit};
+ghost use Rattle.std.specs.List.{list_all};
+ghost use Rattle.dpkg_words.specs.StatusFd.{is_descriptor, is_plain_number};
 
-use crate::words::behind;
-
-fn first_of(words: &[String]) -> Option<&str>
-    ensures { option_map (λ s. s.now) result ≡ first_of (map string_bytes words.entry.now) }
+fn are_digits(text: &str) -> bool
+    ensures { result ≡ list_all is_ascii_digit text.now }
 {
-    match words.first() {
-        Some(word) => Some(word.as_str()),
-        None => None,
-    }
+    text.as_bytes().iter().all(u8::is_ascii_digit)
 }
 
-/// What `--status-fd` names among dpkg's words, if it stands there: a number, as a rule.
-pub fn status_fd(words: &[String]) -> Option<&str>
-    ensures { option_map (λ s. s.now) result ≡ status_fd (map string_bytes words.entry.now) }
+fn is_plain_number(text: &str) -> bool
+    ensures { result ≡ is_plain_number text.now }
 {
-    let Some((word, rest)) = words.split_first() else {
-        return None;
-    };
-    if word.as_str() == "--status-fd" {
-        return first_of(rest);
-    }
-    match behind("--status-fd=", word.as_str()) {
-        Some(number) => Some(number),
-        None => status_fd(rest),
-    }
+    text == "0" || !text.starts_with("0")
+}
+
+/// Whether a text is the number of a descriptor.
+pub(crate) fn is_descriptor(text: &str) -> bool
+    ensures { result ≡ is_descriptor text.now }
+{
+    are_digits(text) && is_plain_number(text) && 0 < text.len() && text.len() <= 9
 }

@@ -1,13 +1,14 @@
 // What dpkg's words come to.
-ghost use Rattle.std.specs.Prelude.{◌≡◌, IfOk, map, string_bytes};
-ghost use Rattle.dpkg_words.specs.Translated.{asked_one, audited, behind_program, compared, configured, done, ended_by, is_pattern, is_rooted, is_searchable, is_sign, over_files, printed, refusal, removed, removed_selected, rooted, searched, selecting, selections, status_for, told, translated, translated_from, trees, triggered, under_root, verified};
+ghost use Rattle.std.specs.Prelude.{◌≡◌, IfOk, map, option_map, string_bytes};
+ghost use Rattle.dpkg_words.specs.Translated.{asked_one, audited, behind_program, clear_selections, compared, compared_with_empty, comparison, configured, done, ended_by, has_signs, is_equality, is_rooted, is_searchable, is_sign, is_whole, late_operator, listed, over_files, printed, refusal, removed, removed_selected, rooted, searched, selecting, selections, sought, status_for, told, translated, translated_from, trees, triggered, under_root, validated, verified};
 
 use crate::arguments::{
-    asking_words, changing_words, configuring_words, plain_names, removing_words, tree_front,
-    triggering_words,
+    asking_words, changing_words, configuring_words, listing_words, plain_names, removing_words,
+    root_of, tree_front, triggering_words,
 };
 use crate::options::{Action, name_of};
 use crate::own_words::OwnWords;
+use crate::picking::Picking;
 use crate::reading::{Options, Outcome, Reading, administration_of, read_all};
 use crate::refusals::{Why, fault_line};
 use crate::screens::{help_screen, version_of};
@@ -21,11 +22,22 @@ pub struct Printed {
     pub status: u8,
 }
 
-/// The program's own words before files, and the directories below which these stand.
+/// The program's own words before files, which are still to be found.
 #[derive(Drop)]
 pub struct Gathered {
     pub front: OwnWords,
-    pub directories: Texts,
+    pub root: Text,
+    /// The files, or the directories below which all archives are taken.
+    pub files: Texts,
+    pub recursive: bool,
+    pub picking: Picking,
+}
+
+/// The program's own words before what is wanted of packages, of which nothing is to be wanted any more.
+#[derive(Drop)]
+pub struct Clearing {
+    pub front: OwnWords,
+    pub root: Text,
 }
 
 /// What dpkg's words come to.
@@ -33,11 +45,13 @@ pub struct Gathered {
 pub enum Translated {
     /// The program's own words, which are carried out.
     Ours(OwnWords),
-    /// The same, behind which all archives below some directories come.
+    /// The same, behind which archives come that are to be found.
     Gathers(Gathered),
     Prints(Printed),
     /// The same, behind which what standard input selects comes.
     Selects(OwnWords),
+    /// The same, behind which all packages come that aren't essential.
+    Clears(Clearing),
     /// A line for standard error; the status is 2.
     Refused(Text),
 }
@@ -95,15 +109,22 @@ fn copied(alloc: Global, words: &[Text]) -> Result<Texts, AllocError>
 
 fn over_files(
     alloc: Global,
-    recursive: bool,
+    options: &Options,
     front: OwnWords,
     files: &[Text],
 ) -> Result<Translated, AllocError>
-    ensures { IfOk result (λ t. t ≡ over_files recursive front files.now) }
+    ensures { IfOk result (λ t. t ≡ over_files options.now front files.now) }
 {
-    if recursive {
-        let directories = copied(alloc, files)?;
-        return Ok(Translated::Gathers(Gathered { front, directories }));
+    if options.recursive || options.picking.picks() {
+        let root = Text::from_str(alloc, root_of(options.instdir.as_str()))?;
+        let files = copied(alloc, files)?;
+        return Ok(Translated::Gathers(Gathered {
+            front,
+            root,
+            files,
+            recursive: options.recursive,
+            picking: options.picking,
+        }));
     }
     Ok(Translated::Ours(front.copy_with(files)?))
 }
@@ -122,7 +143,7 @@ fn trees(
         return refusal(alloc, Why::NoWords, name_of(action));
     }
     let front = tree_front(alloc, name, as_given, options)?;
-    let come = over_files(alloc, options.recursive, front, words)?;
+    let come = over_files(alloc, options, front, words)?;
     rooted(alloc, options, come)
 }
 
@@ -195,13 +216,34 @@ fn selecting(alloc: Global, options: &Options, words: &[Text]) -> Result<Transla
     rooted(alloc, options, Translated::Selects(front))
 }
 
+fn clear_selections(
+    alloc: Global,
+    options: &Options,
+    words: &[Text],
+) -> Result<Translated, AllocError>
+    ensures { IfOk result (λ t. t ≡ clear_selections options.now words.now) }
+{
+    if !words.is_empty() {
+        return refusal(alloc, Why::Words, "--clear-selections");
+    }
+    let front = changing_words(alloc, "select", options)?;
+    let root = Text::from_str(alloc, root_of(options.instdir.as_str()))?;
+    rooted(alloc, options, Translated::Clears(Clearing { front, root }))
+}
+
 fn selections(alloc: Global, options: &Options, words: &[Text]) -> Result<Translated, AllocError>
     ensures { IfOk result (λ t. t ≡ selections options.now words.now) }
 {
-    if !words.is_empty() {
-        return refusal(alloc, Why::Words, "--get-selections");
-    }
-    let asked = asking_words(alloc, "selections", options, words)?;
+    let plain = plain_names(alloc, words)?;
+    let asked = asking_words(alloc, "selections", options, plain.as_slice())?;
+    under_root(alloc, options, asked)
+}
+
+fn listed(alloc: Global, options: &Options, words: &[Text]) -> Result<Translated, AllocError>
+    ensures { IfOk result (λ t. t ≡ listed options.now words.now) }
+{
+    let plain = plain_names(alloc, words)?;
+    let asked = listing_words(alloc, options, plain.as_slice())?;
     under_root(alloc, options, asked)
 }
 
@@ -226,20 +268,41 @@ fn asked_one(
 fn is_sign(byte: u8) -> bool
     ensures { result ≡ is_sign byte }
 {
-    byte == b'*' || byte == b'?' || byte == b'[' || byte == b'\\'
+    byte == b'[' || byte == b'\\'
 }
 
-fn is_pattern(word: &str) -> bool
-    ensures { result ≡ is_pattern word.now }
+fn has_signs(word: &str) -> bool
+    ensures { result ≡ has_signs word.now }
 {
     word.as_bytes().iter().any(|byte| is_sign(*byte))
 }
 
-// An absolute path, and no pattern.
+// Some text, and no signs of patterns but for `*` and `?`.
 fn is_searchable(word: &str) -> bool
     ensures { result ≡ is_searchable word.now }
 {
-    !word.is_empty() && word.as_bytes()[0] == b'/' && !is_pattern(word)
+    !word.is_empty() && !has_signs(word)
+}
+
+// A path, or a pattern for paths.
+fn is_whole(word: &str) -> bool
+    ensures { result ≡ is_whole word.now }
+{
+    !word.is_empty()
+        && (word.as_bytes()[0] == b'/' || word.as_bytes()[0] == b'*' || word.as_bytes()[0] == b'?')
+}
+
+// A word that is neither is a part of a path.
+fn sought(alloc: Global, word: &str) -> Result<Text, AllocError>
+    ensures { IfOk result (λ sought_text. sought_text ≡ sought word.now) }
+{
+    if is_whole(word) {
+        return Text::from_str(alloc, word);
+    }
+    let mut text = String::from_str(alloc, "*")?;
+    text.push_str(word)?;
+    text.push_str("*")?;
+    Ok(Text::new(text))
 }
 
 fn searched(alloc: Global, options: &Options, words: &[Text]) -> Result<Translated, AllocError>
@@ -252,7 +315,9 @@ fn searched(alloc: Global, options: &Options, words: &[Text]) -> Result<Translat
     if !is_searchable(word) {
         return refusal(alloc, Why::Pattern, word);
     }
-    let asked = asking_words(alloc, "search", options, words)?;
+    let mut asked = Texts::new(alloc);
+    asked.push(sought(alloc, word)?)?;
+    let asked = asking_words(alloc, "search", options, asked.as_slice())?;
     under_root(alloc, options, asked)
 }
 
@@ -274,16 +339,90 @@ fn verified(alloc: Global, options: &Options, words: &[Text]) -> Result<Translat
     under_root(alloc, options, asked)
 }
 
+// The operator for which an empty version is later than any, for one for which dpkg takes it as earlier.
+fn late_operator(operator: &str) -> Option<&'static str>
+    ensures { option_map (λ late. late.now) result ≡ late_operator operator.now }
+{
+    match operator {
+        "lt" => Some("lt-nl"),
+        "<<" => Some("lt-nl"),
+        "le" => Some("le-nl"),
+        "<=" => Some("le-nl"),
+        "<" => Some("le-nl"),
+        "ge" => Some("ge-nl"),
+        ">=" => Some("ge-nl"),
+        ">" => Some("ge-nl"),
+        "gt" => Some("gt-nl"),
+        ">>" => Some("gt-nl"),
+        _ => None,
+    }
+}
+
+fn comparison(alloc: Global, a: &str, operator: &str, b: &str) -> Result<Translated, AllocError>
+    ensures { IfOk result (λ t. t ≡ comparison a.now operator.now b.now) }
+{
+    let mut own = OwnWords::new(alloc);
+    own.push("coizkerra")?;
+    own.push("compare-versions")?;
+    own.push("--")?;
+    own.push(a)?;
+    own.push(operator)?;
+    own.push(b)?;
+    Ok(Translated::Ours(own))
+}
+
+fn is_equality(operator: &str) -> bool
+    ensures { result ≡ is_equality operator.now }
+{
+    operator == "eq" || operator == "="
+}
+
+// Where a version may be empty: it equals an empty one alone.
+fn compared_with_empty(
+    alloc: Global,
+    a: &str,
+    operator: &str,
+    b: &str,
+) -> Result<Translated, AllocError>
+    ensures { IfOk result (λ t. t ≡ compared_with_empty a.now operator.now b.now) }
+{
+    if is_equality(operator) {
+        return telling(alloc, "", status_for(a == b));
+    }
+    if operator == "ne" {
+        return telling(alloc, "", status_for(a != b));
+    }
+    match late_operator(operator) {
+        Some(late) => comparison(alloc, b, late, a),
+        None => comparison(alloc, a, operator, b),
+    }
+}
+
 fn compared(alloc: Global, words: &[Text]) -> Result<Translated, AllocError>
     ensures { IfOk result (λ t. t ≡ compared words.now) }
 {
     if words.len() != 3 {
         return refusal(alloc, Why::ThreeWords, "--compare-versions");
     }
+    let (a, operator, b) = (words[0].as_str(), words[1].as_str(), words[2].as_str());
+    if a == "" || b == "" {
+        return compared_with_empty(alloc, a, operator, b);
+    }
+    comparison(alloc, a, operator, b)
+}
+
+fn validated(alloc: Global, words: &[Text]) -> Result<Translated, AllocError>
+    ensures { IfOk result (λ t. t ≡ validated words.now) }
+{
+    if words.len() != 1 {
+        return refusal(alloc, Why::OneWord, "--validate-version");
+    }
     let mut own = OwnWords::new(alloc);
     own.push("coizkerra")?;
     own.push("compare-versions")?;
     own.push("--")?;
+    own.push_all(words)?;
+    own.push("eq")?;
     own.push_all(words)?;
     Ok(Translated::Ours(own))
 }
@@ -326,13 +465,16 @@ fn done(
         Action::Remove => removed(alloc, action, "remove", options, words),
         Action::Purge => removed(alloc, action, "purge", options, words),
         Action::SetSelections => selecting(alloc, options, words),
+        Action::ClearSelections => clear_selections(alloc, options, words),
         Action::GetSelections => selections(alloc, options, words),
         Action::Status => asked_one(alloc, action, "status", options, words),
+        Action::List => listed(alloc, options, words),
         Action::ListFiles => asked_one(alloc, action, "listfiles", options, words),
         Action::Search => searched(alloc, options, words),
         Action::Audit => audited(alloc, options, words),
         Action::Verify => verified(alloc, options, words),
         Action::CompareVersions => compared(alloc, words),
+        Action::ValidateVersion => validated(alloc, words),
         Action::PrintArchitecture => told(alloc, action, "amd64\n", 0, words),
         Action::PrintForeignArchitectures => told(alloc, action, "", 0, words),
         Action::Assert(holds) => told(alloc, action, "", status_for(holds), words),

@@ -1,7 +1,7 @@
 -- What is judged of one entry.
-use Rattle.std.proofs.Common.{◌≡◌, ◌≢◌, ◌↔◌, inl, inr, ℕ, Bool, true, false, cond, List, [], ◌++◌, Option, Some, None, IsSome, IsTrue, is_some, get_or, refl, sym, ap, subst, ◌∙◌, Contains}
+use Rattle.std.proofs.Common.{◌≡◌, ◌≢◌, ◌↔◌, inl, inr, ℕ, Bool, true, false, cond, List, [], ◌++◌, Option, Some, None, IsTrue, is_some, get_or, refl, sym, ap, subst, ◌∙◌, Contains}
 use Rattle.std.specs.Prelude.{MatchOption, MatchBool, IfSome, IfNone, codes}
-use Rattle.std.specs.List.{list_any, AllByRecursion}
+use Rattle.std.specs.List.{list_any}
 use Rattle.std.specs.Str.{bytes_eq}
 use Rattle.std.proofs.lemmas.Bool.{true≢false, false≢true}
 use Rattle.std.proofs.lemmas.List.{append_cancel_right}
@@ -12,17 +12,15 @@ use denote.Ref.{Bor}
 use Rattle.host_core.specs.Paths.{Path}
 use Rattle.host_core.specs.World.{World, kind_of}
 use Rattle.host_core.specs.declared.node.Access.{Access}
-use Rattle.host_core.specs.declared.node.Kind.{Kind}
 use Rattle.host_core.specs.declared.node.Kind.TheVariants as kinds
 use Rattle.host_core.specs.declared.node.Node.{Node}
 use Rattle.host_core.specs.declared.node.Node.TheVariants.{File, Dir, Link}
 use Rattle.administration.specs.Places.{list_name}
 use Rattle.administration.specs.declared.fault.AdministrationFault.{AdministrationFault}
 use Rattle.administration.specs.declared.fault.AdministrationFault.TheVariants.{Damaged, Device, NoMemory, Declined}
-use Rattle.diversions.specs.Lines.{lines_in}
 use Rattle.file_lists.specs.declared.paths.PackageList.{PackageList}
 use Rattle.file_lists.specs.Lists.{IsReadable, IsWhole, Lists}
-use Rattle.file_lists.specs.Info.{entry_path, is_foreign, IsOneOf, IsListOf, IsScriptOf, IsSound, IsFaultyWhole, HasFault}
+use Rattle.file_lists.specs.Info.{entry_path, IsOneOf, IsListOf, IsScriptOf, IsSound, IsFaultyWhole, HasFault}
 use Rattle.file_lists.specs.Owners.{names_of, paths_of}
 use Rattle.file_lists.specs.Table.{IsAt, IsSet}
 use Rattle.file_lists.specs.Reading.{IsLinesFault, IsBadList, IsListFault, IsListFaultAt, IsFaultAt, IsListAt, HasTaken}
@@ -68,23 +66,20 @@ list_missing lists entry front (Some at) is none = tt
 
 pub sound_nothing : (names : List (List ℕ)) (entry : Path) → IsSound names entry None
 sound_nothing names entry = record {
-  colon = λ some. absurd (false≢true some);
   loose = λ d. absurd (let e : None ≡ Some (Dir d.0) = d.1 in cc);
   list = λ of. tt;
   script = λ of link. absurd (let e : None ≡ Some (Link link.0) = link.1 in cc);
 }
 
-pub sound_link : (names : List (List ℕ)) (entry : Path) (target : List ℕ) → is_foreign entry ≡ false → (IsListOf names entry → ⊥) → (IsScriptOf names entry → ⊥) → IsSound names entry (Some (Link target))
-sound_link names entry target colon apart_list apart_script = record {
-  colon = λ some. colon;
+pub sound_link : (names : List (List ℕ)) (entry : Path) (target : List ℕ) → (IsListOf names entry → ⊥) → (IsScriptOf names entry → ⊥) → IsSound names entry (Some (Link target))
+sound_link names entry target apart_list apart_script = record {
   loose = λ d. absurd (let e : Some (Link target) ≡ Some (Dir d.0) = d.1 in cc);
   list = λ of. absurd (apart_list of);
   script = λ of link. apart_script of;
 }
 
-pub sound_file : (names : List (List ℕ)) (entry : Path) (bytes : List ℕ) (access : Access) → is_foreign entry ≡ false → (IsListOf names entry → IsWhole bytes) → IsSound names entry (Some (File bytes access))
-sound_file names entry bytes access colon good = record {
-  colon = λ some. colon;
+pub sound_file : (names : List (List ℕ)) (entry : Path) (bytes : List ℕ) (access : Access) → (IsListOf names entry → IsWhole bytes) → IsSound names entry (Some (File bytes access))
+sound_file names entry bytes access good = record {
   loose = λ d. absurd (let e : Some (File bytes access) ≡ Some (Dir d.0) = d.1 in cc);
   list = good;
   script = λ of link. absurd (let e : Some (File bytes access) ≡ Some (Link link.0) = link.1 in cc);
@@ -98,31 +93,24 @@ kind_none names entry (Some (File bytes access)) is = absurd cc
 kind_none names entry (Some (Dir access)) is = absurd cc
 kind_none names entry (Some (Link target)) is = absurd cc
 
-kind_some : (k : Kind) (node : Option Node) → Some k ≡ kind_of node → IsSome node
-kind_some k None is = absurd cc
-kind_some k (Some node) is = refl
-
-pub kind_foreign : (names : List (List ℕ)) (entry : Path) (k : Kind) (node : Option Node) → Some k ≡ kind_of node → is_foreign entry ≡ true → IsFaultyWhole names entry node
-kind_foreign names entry k node is colon = inl (kind_some k node is, colon)
-
 pub kind_directory : (names : List (List ℕ)) (entry : Path) (node : Option Node) → Some kinds.Directory ≡ kind_of node → IsFaultyWhole names entry node
 kind_directory names entry None is = absurd cc
 kind_directory names entry (Some (File bytes access)) is = absurd cc
-kind_directory names entry (Some (Dir access)) is = inr (inl (access, refl))
+kind_directory names entry (Some (Dir access)) is = inl (access, refl)
 kind_directory names entry (Some (Link target)) is = absurd cc
 
-pub kind_link : (names : List (List ℕ)) (entry : Path) (b : Bool) (node : Option Node) → Some kinds.SymbolicLink ≡ kind_of node → is_foreign entry ≡ false → (IsListOf names entry → ⊥) → IsTrue b ↔ IsScriptOf names entry → MatchBool b (IsFaultyWhole names entry node) (IsSound names entry node)
-kind_link names entry b None is colon other told = absurd cc
-kind_link names entry b (Some (File bytes access)) is colon other told = absurd cc
-kind_link names entry b (Some (Dir access)) is colon other told = absurd cc
-kind_link names entry true (Some (Link target)) is colon other told = inr (inr (inr (told.0 refl), (target, refl)))
-kind_link names entry false (Some (Link target)) is colon other told = sound_link names entry target colon other (λ of. false≢true (told.1 of))
+pub kind_link : (names : List (List ℕ)) (entry : Path) (b : Bool) (node : Option Node) → Some kinds.SymbolicLink ≡ kind_of node → (IsListOf names entry → ⊥) → IsTrue b ↔ IsScriptOf names entry → MatchBool b (IsFaultyWhole names entry node) (IsSound names entry node)
+kind_link names entry b None is other told = absurd cc
+kind_link names entry b (Some (File bytes access)) is other told = absurd cc
+kind_link names entry b (Some (Dir access)) is other told = absurd cc
+kind_link names entry true (Some (Link target)) is other told = inr (inr (told.0 refl), (target, refl))
+kind_link names entry false (Some (Link target)) is other told = sound_link names entry target other (λ of. false≢true (told.1 of))
 
-pub kind_file : (names : List (List ℕ)) (entry : Path) (node : Option Node) → Some kinds.File ≡ kind_of node → is_foreign entry ≡ false → (IsListOf names entry → ⊥) → IsSound names entry node
-kind_file names entry None is colon other = absurd cc
-kind_file names entry (Some (File bytes access)) is colon other = sound_file names entry bytes access colon (λ of. absurd (other of))
-kind_file names entry (Some (Dir access)) is colon other = absurd cc
-kind_file names entry (Some (Link target)) is colon other = absurd cc
+pub kind_file : (names : List (List ℕ)) (entry : Path) (node : Option Node) → Some kinds.File ≡ kind_of node → (IsListOf names entry → ⊥) → IsSound names entry node
+kind_file names entry None is other = absurd cc
+kind_file names entry (Some (File bytes access)) is other = sound_file names entry bytes access (λ of. absurd (other of))
+kind_file names entry (Some (Dir access)) is other = absurd cc
+kind_file names entry (Some (Link target)) is other = absurd cc
 
 -- what was judged faulty, or sound, of the node that stands there
 pub judged_faulty : (names : List (List ℕ)) (entry : Path) (b : Bool) (node : Option Node) → b ≡ true → MatchBool b (IsFaultyWhole names entry node) (IsSound names entry node) → HasFault names entry node 0
@@ -135,34 +123,33 @@ judged_sound names entry false node is told = told
 
 -- What stands at a list's place.
 
-pub sound_list : (names : List (List ℕ)) (entry : Path) (node : Option Node) → IsReadable node → (IsSome node → is_foreign entry ≡ false) → IsSound names entry node
-sound_list names entry None readable apart = sound_nothing names entry
-sound_list names entry (Some (File bytes access)) readable apart = sound_file names entry bytes access (apart refl) (λ of. readable)
-sound_list names entry (Some (Dir access)) readable apart = absurd readable
-sound_list names entry (Some (Link target)) readable apart = absurd readable
+pub sound_list : (names : List (List ℕ)) (entry : Path) (node : Option Node) → IsReadable node → IsSound names entry node
+sound_list names entry None readable = sound_nothing names entry
+sound_list names entry (Some (File bytes access)) readable = sound_file names entry bytes access (λ of. readable)
+sound_list names entry (Some (Dir access)) readable = absurd readable
+sound_list names entry (Some (Link target)) readable = absurd readable
 
-pub lines_fault : (entry : Path) (bytes : List ℕ) (access : Access) (fault : EntryFault) → is_foreign entry ≡ false → IsLinesFault bytes fault → IsListFault entry (Some (File bytes access)) fault
-lines_fault entry bytes access (kind.Line number) colon is = inr (
+pub lines_fault : (bytes : List ℕ) (access : Access) (fault : EntryFault) → IsLinesFault bytes fault → IsListFault (Some (File bytes access)) fault
+lines_fault bytes access (kind.Line number) is = inr (
   λ bad. elim bad [
-    | inl c ↦ true≢false (sym c.1 ∙ colon)
-    | inr (inl d) ↦ absurd (let e : Some (File bytes access) ≡ Some (Dir d.0) = d.1 in cc)
-    | inr (inr l) ↦ absurd (let e : Some (File bytes access) ≡ Some (Link l.0) = l.1 in cc)
+    | inl d ↦ absurd (let e : Some (File bytes access) ≡ Some (Dir d.0) = d.1 in cc)
+    | inr l ↦ absurd (let e : Some (File bytes access) ≡ Some (Link l.0) = l.1 in cc)
   ],
   is,
 )
-lines_fault entry bytes access kind.NoMemory colon is = tt
+lines_fault bytes access kind.NoMemory is = tt
 
-pub list_fault : (names : List (List ℕ)) (entry : Path) (node : Option Node) (line : ℕ) → IsListOf names entry → IsListFault entry node (kind.Line line) → HasFault names entry node line
+pub list_fault : (names : List (List ℕ)) (entry : Path) (node : Option Node) (line : ℕ) → IsListOf names entry → IsListFault node (kind.Line line) → HasFault names entry node line
 list_fault names entry node line of fault = elim fault [
   | inl whole ↦ inl (faulty whole.0, whole.1)
   | inr bad ↦ inr (λ whole. bad.0 (back whole), of, bad.1)
 ]
   where
-    faulty : IsBadList entry node → IsFaultyWhole names entry node
-    faulty is = elim is [ inl c ↦ inl c | inr (inl d) ↦ inr (inl d) | inr (inr l) ↦ inr (inr (inl of, l)) ]
+    faulty : IsBadList node → IsFaultyWhole names entry node
+    faulty is = elim is [ inl d ↦ inl d | inr l ↦ inr (inl of, l) ]
 
-    back : IsFaultyWhole names entry node → IsBadList entry node
-    back is = elim is [ inl c ↦ inl c | inr (inl d) ↦ inr (inl d) | inr (inr l) ↦ inr (inr l.1) ]
+    back : IsFaultyWhole names entry node → IsBadList node
+    back is = elim is [ inl d ↦ inl d | inr l ↦ inr l.1 ]
 
 pub list_at_is : (lists : List PackageList) (entry : Path) (at : ℕ) → IsListAt lists entry at → IsListOf (names_of lists) entry
 list_at_is lists entry at is = (let lt = within_names lists at is.within in (get_or (names_of lists) at [], (at, lt, get_or_any (names_of lists) at (get_or (names_of lists) at []) [] lt), is.is))

@@ -97,6 +97,13 @@ no_slot [] s past = none s
 no_slot (l ∷ lists) zero past = absurd (omega (arith, past))
 no_slot (l ∷ lists) (suc s) past = no_slot lists s (omega (arith, past))
 
+-- a list that has a path is there
+pub slot_within : (lists : List PackageList) (s number : ℕ) (path : Path) → StandsAt lists s number path → s < length lists
+slot_within lists s number path stands = elim (cases_lt s (length lists)) [
+  | inl less ↦ less
+  | inr ge ↦ absurd (let none = subst (λ (l : List Path). IsNumbered l number path) (no_slot lists s ge) stands in omega (arith, none.0))
+]
+
 -- all lists were entered
 pub complete_all : (lists : List PackageList) (slot : ℕ) (index : Keyed) → length lists ≤ slot → ((s number : ℕ) (path : Path) → s < slot → StandsAt lists s number path → Contains (row_for index path) (spot_of s number)) → IsComplete index lists
 complete_all lists slot index past all s number path stands = elim (cases_lt s (length lists)) [

@@ -64,7 +64,6 @@ script_of_same a b entry to of = (of.0, of.1, to of.1 of.2, of.3)
 
 sound_same : (a b : List (List ℕ)) (entry : Path) (node : Option Node) → AreSame a b → IsSound a entry node → IsSound b entry node
 sound_same a b entry node same is = record {
-  colon = is.colon;
   loose = is.loose;
   list = λ of. is.list (list_of_same b a entry (λ n. (same n).1) of);
   script = λ of link. is.script (script_of_same b a entry (λ n. (same n).1) of) link;
@@ -72,10 +71,9 @@ sound_same a b entry node same is = record {
 
 faulty_same : (a b : List (List ℕ)) (entry : Path) (node : Option Node) → ((n : List ℕ) → Contains a n → Contains b n) → IsFaultyWhole a entry node → IsFaultyWhole b entry node
 faulty_same a b entry node to is = elim is [
-  | inl c ↦ inl c
-  | inr (inl d) ↦ inr (inl d)
-  | inr (inr (inl of, l)) ↦ inr (inr (inl (list_of_same a b entry to of), l))
-  | inr (inr (inr of, l)) ↦ inr (inr (inr (script_of_same a b entry to of), l))
+  | inl d ↦ inl d
+  | inr (inl of, l) ↦ inr (inl (list_of_same a b entry to of), l)
+  | inr (inr of, l) ↦ inr (inr (script_of_same a b entry to of), l)
 ]
 
 fault_same : (a b : List (List ℕ)) (entry : Path) (node : Option Node) (line : ℕ) → AreSame a b → HasFault a entry node line → HasFault b entry node line

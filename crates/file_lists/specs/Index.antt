@@ -1,6 +1,6 @@
 -- The index by the keys of places: each listed path stands in the row of its key. A row may have more.
-use Rattle.std.specs.Prelude.{◌≡◌, ◌⊎◌, ◌+◌, ◌*◌, ◌%◌, ◌<◌, ◌≤◌, ◌++◌, ◌∷◌, ℕ, List, [], map, cond, Option, Some, None, Contains, length, get_or, take}
-use Rattle.std.specs.List.{fold, flat_map}
+use Rattle.std.specs.Prelude.{◌≡◌, ◌⊎◌, ◌||◌, ◌+◌, ◌*◌, ◌%◌, ◌<◌, ◌≤◌, ◌++◌, ◌∷◌, ℕ, List, [], map, cond, if◌then◌else◌, nat_lt, nat_le, Option, Some, None, Contains, length, get_or, take}
+use Rattle.std.specs.List.{fold, flat_map, insert}
 use Rattle.std.specs.Str.{bytes_eq}
 use Rattle.host_core.specs.Paths.{Path}
 use Rattle.aliases.specs.Aliases.{Alias, resolved}
@@ -50,6 +50,32 @@ IsComplete index lists = (slot number : ℕ) (path : Path) → StandsAt lists sl
 pub record KeepsRows (old new : Keyed) : Type 0 where
   pub aliases : new.aliases ≡ old.aliases
   pub rows : (key : Path) (spot : Spot) → Contains (row_of old.rows key) spot → Contains (row_of new.rows key) spot
+
+-- the number of a list once another has come to this place; there were so many lists
+abbrev pub list_moved : ℕ → ℕ → ℕ → ℕ
+list_moved at count list = if nat_lt list at || nat_le count list then list else list + 1
+
+abbrev pub spot_moved : ℕ → ℕ → Spot → Spot
+spot_moved at count spot = spot_of (list_moved at count spot.list) spot.path
+
+-- each spot is that of its list once another has come to this place
+pub record HasRoom (at count : ℕ) (old new : Keyed) : Type 0 where
+  pub aliases : new.aliases ≡ old.aliases
+  pub rows : new.rows ≡ map (map (spot_moved at count)) old.rows
+
+-- so it is in the index, if there is one
+abbrev pub HaveRoom : ℕ → ℕ → Option Keyed → Option Keyed → Type 0
+HaveRoom at count None None = Unit {0}
+HaveRoom at count None (Some new) = ⊥
+HaveRoom at count (Some old) None = ⊥
+HaveRoom at count (Some old) (Some new) = HasRoom at count old new
+
+-- a list came to this place among so many
+pub record HasComeIn (at count : ℕ) (old new : List PackageList) : Type 0 where
+  pub list : PackageList
+  pub within : at ≤ length old
+  pub counted : count ≡ length old
+  pub is : new ≡ insert old at list
 
 -- the index, if there is one, is that of these lists
 abbrev pub IsIndexed : Option Keyed → List PackageList → Type 0

@@ -1,9 +1,9 @@
 // The index by the keys of places: where paths stand that may have one.
-ghost use Rattle.std.specs.Prelude.{◌≡◌, ◌<◌, ◌%◌, ℕ, List, IfOk, OnOk, Contains, length};
+ghost use Rattle.std.specs.Prelude.{◌≡◌, ◌<◌, ◌%◌, ℕ, List, IfOk, OnOk, Contains, length, map};
 ghost use Rattle.host_core.specs.Paths.{Path};
 ghost use Rattle.aliases.specs.Aliases.{resolved};
 ghost use Rattle.file_lists.specs.declared.spot.Spot.{Spot as ASpot};
-ghost use Rattle.file_lists.specs.Index.{path_number, row_of, row_for, spot_of, IsNumbered, KeepsRows, IsComplete};
+ghost use Rattle.file_lists.specs.Index.{path_number, row_of, row_for, spot_of, spot_moved, HasRoom, IsNumbered, KeepsRows, IsComplete};
 
 use crate::paths::PackageList;
 use crate::spot::Spot;
@@ -43,7 +43,21 @@ impl Model for Index {
     ghost invariant = { λ i. 0 < length i.rows.items };
 }
 
+fn move_spots(spots: &mut Vec<Spot>, at: usize, count: usize)
+    ensures { spots.new.items ≡ map (spot_moved at count) spots.old.items }
+{
+    for spot in spots.iter_mut() {
+        *spot = spot.moved(at, count);
+    }
+}
+
 impl Row {
+    fn make_room(&mut self, at: usize, count: usize)
+        ensures { self.new ≡ map (spot_moved at count) self.old }
+    {
+        move_spots(&mut self.spots, at, count);
+    }
+
     // Takes a spot once, where spots are taken in their order.
     fn take(&mut self, spot: Spot) -> Result<(), AllocError>
         ensures kept { (s : ASpot) → Contains self.old s → Contains self.new s }
@@ -79,6 +93,23 @@ fn empty_rows(alloc: Global, count: usize) -> Result<Vec<Row>, AllocError>
         })?;
     }
     Ok(rows)
+}
+
+fn make_room(rows: &mut Vec<Row>, at: usize, count: usize)
+    ensures { rows.new.items ≡ map (map (spot_moved at count)) rows.old.items }
+{
+    for row in rows.iter_mut() {
+        row.make_room(at, count);
+    }
+}
+
+// How many spots stand in these rows.
+fn count_spots(rows: &[Row]) -> usize {
+    let mut count: usize = 0;
+    for row in rows {
+        count = count.saturating_add(row.spots.len());
+    }
+    count
 }
 
 // How many paths are listed.
@@ -137,6 +168,13 @@ impl Index {
         Ok(())
     }
 
+    /// The lists from a place on stand one higher; there were so many lists.
+    pub(crate) fn make_room(&mut self, at: usize, count: usize)
+        ensures { HasRoom at count self.old self.new }
+    {
+        make_room(&mut self.rows, at, count);
+    }
+
     /// The index of these lists.
     pub(crate) fn of_lists(
         alloc: Global,
@@ -154,6 +192,11 @@ impl Index {
             index.enter_all(lists[slot].paths.as_slice(), slot)?;
         }
         Ok(index)
+    }
+
+    /// Whether so many spots stand in a row that another index of the same lists is worth its time.
+    pub(crate) fn is_crowded(&self) -> bool {
+        count_spots(self.rows.as_slice()) / 8 > self.rows.len()
     }
 
     /// The aliases by which its keys were made.

@@ -1,5 +1,5 @@
 // The directory of the lists, entry by entry.
-ghost use Rattle.std.specs.Prelude.{◌≡◌, ◌++◌, ◌≢◌, Contains, ◌↔◌, ℕ, List, Option, OnOk, IfOk, IfErr, IfSome, IfNone, IsTrue, IsSome, MatchBool, MatchOption, true, false};
+ghost use Rattle.std.specs.Prelude.{◌≡◌, ◌++◌, ◌≢◌, Contains, ◌↔◌, ℕ, List, Option, OnOk, IfOk, IfErr, IfSome, IfNone, IsTrue, MatchBool, MatchOption, true, false};
 ghost use Rattle.std.specs.BTreeSet.{contains_text};
 ghost use Rattle.host_core.specs.Host.{Needs, Reads, Silent, Tells};
 ghost use Rattle.host_core.specs.Paths.{is_path};
@@ -10,7 +10,7 @@ ghost use Rattle.administration.specs.Directories.{HasBadName};
 ghost use Rattle.administration.specs.Fault.{CountsAdministration};
 ghost use Rattle.administration.specs.Places.{info_path};
 ghost use Rattle.file_lists.specs.Lists.{Lists, IsReadable, HasLists};
-ghost use Rattle.file_lists.specs.Info.{entry_path, is_foreign, IsOneOf, IsListOf, IsScriptOf, IsSound, IsFaultyWhole, AreSound, IsInfoDamage};
+ghost use Rattle.file_lists.specs.Info.{entry_path, IsOneOf, IsListOf, IsScriptOf, IsSound, IsFaultyWhole, AreSound, IsInfoDamage};
 ghost use Rattle.file_lists.specs.Owners.{names_of, AreListPaths};
 ghost use Rattle.file_lists.specs.Reading.{IsListFault, IsListAt, HasTaken, IsFaultAt, AreSoundAmong, HaveTaken, IsFaultAmong, IsListFaultAt, MakeEntryPaths, AreEntries, IsNameFault};
 
@@ -25,13 +25,6 @@ use host_overlay::SeenNames;
 use std::alloc::{AllocError, Global};
 use std::collections::BTreeSet;
 use texts::Text;
-
-// Whether it belongs to a package of another architecture.
-fn is_foreign(entry: &[u8]) -> bool
-    ensures { result ≡ is_foreign entry.now }
-{
-    entry.contains(&b':') && !entry.ends_with(b".dpkg-inst")
-}
 
 // What stands before an ending.
 fn front_of<'a>(entry: &'a [u8], ending: &str) -> Option<&'a [u8]>
@@ -78,35 +71,26 @@ fn is_faulty(table: &Table, entry: &[u8], kind: Option<Kind>) -> bool
         → MatchBool result (IsFaultyWhole (names_of table.now) entry.now node)
         (IsSound (names_of table.now) entry.now node) }
 {
-    let Some(kind) = kind else {
-        return false;
-    };
-    if is_foreign(entry) {
-        return true;
-    }
     match kind {
-        Kind::Directory => true,
-        Kind::SymbolicLink => is_script_of(table, entry),
-        Kind::File => false,
+        Some(Kind::Directory) => true,
+        Some(Kind::SymbolicLink) => is_script_of(table, entry),
+        Some(Kind::File) => false,
+        None => false,
     }
 }
 
 // The paths of what stands at a list's place.
-fn read_node(alloc: Global, entry: &[u8], node: &Option<Node>) -> Result<Paths, EntryFault>
+fn read_node(alloc: Global, node: &Option<Node>) -> Result<Paths, EntryFault>
     ensures readable { OnOk result (IsReadable node.now) }
-    ensures apart { OnOk result (IsSome node.now → is_foreign entry.now ≡ false) }
     ensures paths { IfOk result AreListPaths }
     ensures lists { IfOk result (λ paths. (q : List ℕ) → Contains paths q ↔ Lists node.now q) }
-    ensures fault { IfErr result (IsListFault entry.now node.now) }
+    ensures fault { IfErr result (IsListFault node.now) }
 {
     let Some(node) = node else {
         return Ok(Paths {
             items: Vec::new(alloc),
         });
     };
-    if is_foreign(entry) {
-        return Err(EntryFault::Line(0));
-    }
     match node {
         Node::File { bytes, .. } => read_list(alloc, bytes.as_slice()),
         Node::Dir { .. } => Err(EntryFault::Line(0)),
@@ -162,9 +146,6 @@ fn read_at<H: Host>(
     requires { file ≡ entry_path entry.now }
     ensures readable { Tells result (λ paths w. IsReadable (seen shown.now w (entry_path entry.now)))
         (H.state host.old) (H.state host.new) }
-    ensures apart { Tells result
-        (λ paths w. IsSome (seen shown.now w (entry_path entry.now)) → is_foreign entry.now ≡ false)
-        (H.state host.old) (H.state host.new) }
     ensures paths { IfOk result AreListPaths }
     ensures lists { Tells result
         (λ paths w. (q : List ℕ) → Contains paths q ↔ Lists (seen shown.now w (entry_path entry.now)) q)
@@ -176,7 +157,7 @@ fn read_at<H: Host>(
     ensures counts { CountsAdministration (H.state host.old) (H.state host.new) result }
 {
     let node = shown.node(host, &file)?;
-    match read_node(alloc, entry.as_bytes(), &node) {
+    match read_node(alloc, &node) {
         Ok(paths) => {
             return Ok(paths);
         }

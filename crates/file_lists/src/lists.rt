@@ -59,9 +59,9 @@ impl Model for FileLists {
 }
 
 impl FileLists {
-    /// Reads the lists of the packages of these names. A list or stored script that is a link, a
-    /// directory, and a colon in a name that doesn't end in `.dpkg-inst` are damage, told of the
-    /// first such entry in the order of their names' bytes.
+    /// Reads the lists of the packages of these names. A list or stored script that is a link, and a
+    /// directory at any name, are damage, told of the first such entry in the order of their names'
+    /// bytes.
     pub fn open<H: Host>(
         alloc: Global,
         host: &mut H,

@@ -1,10 +1,11 @@
 // The table of the lists.
-ghost use Rattle.std.specs.Prelude.{◌≡◌, ◌++◌, [], List, ℕ, IfOk, OnOk, OnErr, IfSome, IfNone, ◌<◌, length, Contains, ◌↔◌, map};
+ghost use Rattle.std.specs.Prelude.{◌≡◌, ◌++◌, [], List, ℕ, IfOk, OnOk, OnErr, IfSome, IfNone, ◌<◌, ◌≤◌, length, Contains, ◌↔◌, map};
+ghost use Rattle.std.specs.List.{insert};
 ghost use Rattle.file_lists.specs.declared.paths.PackageList.{PackageList as AList};
 ghost use Rattle.file_lists.specs.Owners.{AreLists, AreListPaths, names_of, paths_of, places_in};
 ghost use Rattle.diversions.specs.Ways.{place};
 ghost use Rattle.file_lists.specs.Table.{IsAt, IsSet};
-ghost use Rattle.file_lists.specs.Writing.{with_list, with_paths_at};
+ghost use Rattle.file_lists.specs.Writing.{package_list, with_list, with_paths_at};
 
 use crate::ordering::sorted;
 use crate::paths::{PackageList, Paths};
@@ -90,16 +91,19 @@ impl Table {
         self.lists[at].paths = paths;
     }
 
-    /// Takes a list of a package that had none.
-    pub(crate) fn insert(&mut self, name: Text, paths: Paths) -> Result<(), AllocError>
+    /// Takes a list of a package that had none, and tells where it stands.
+    pub(crate) fn insert(&mut self, name: Text, paths: Paths) -> Result<usize, AllocError>
         requires other { Contains (names_of self.old) name → ⊥ }
         requires paths { AreListPaths paths }
         ensures ok { OnOk result (self.new ≡ with_list name paths self.old) }
+        ensures place { IfOk result (λ at. at ≤ length self.old) }
+        ensures there { IfOk result
+            (λ at. self.new ≡ insert self.old at (package_list name paths)) }
         ensures err { OnErr result (self.new ≡ self.old) }
     {
         let at = place_of(self.lists.as_slice(), &name);
         self.lists.insert(at, PackageList { name, paths })?;
-        Ok(())
+        Ok(at)
     }
 
     pub(crate) fn list_of(&self, name: &Text) -> &[RootPath]

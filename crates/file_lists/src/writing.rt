@@ -1,11 +1,12 @@
 // Writing a list.
-ghost use Rattle.std.specs.Prelude.{◌≡◌, ◌++◌, ◌∷◌, [], IfOk, OnOk, OnErr, true};
+ghost use Rattle.std.specs.Prelude.{◌≡◌, ◌<◌, ◌++◌, ◌∷◌, [], List, IfOk, OnOk, OnErr, length, true};
 ghost use Rattle.host_core.specs.Host.{AtEachMoment, Counts, Leaves, Needs, Silent};
 ghost use Rattle.texts.specs.PackageNames.{is_package_name};
 ghost use Rattle.administration.specs.Files.{IsReplaced, IsReplacing};
 ghost use Rattle.administration.specs.Places.{list_path};
-ghost use Rattle.file_lists.specs.Index.{IsIndexed};
+ghost use Rattle.file_lists.specs.Index.{HasComeIn, HaveRoom, IsIndexed};
 ghost use Rattle.file_lists.specs.Owners.{AreListPaths};
+ghost use Rattle.file_lists.specs.declared.paths.PackageList.{PackageList as AList};
 ghost use Rattle.file_lists.specs.Writing.{line_of, list_text, list_file, with_list, IsListReady, IsEntered};
 
 use crate::index::Index;
@@ -88,6 +89,15 @@ fn enter(index: &mut Option<Index>, paths: &[RootPath], slot: usize)
     }
 }
 
+// The lists from a place on stand one higher in the index; there were so many lists.
+fn make_room(index: &mut Option<Index>, at: usize, count: usize)
+    ensures { HaveRoom at count index.old index.new }
+{
+    if let Some(rows) = index {
+        rows.make_room(at, count);
+    }
+}
+
 // The index of the lists, if there was one and there is memory for it.
 fn rebuilt(alloc: Global, table: &Table, index: &Option<Index>) -> Option<Index>
     ensures { IsIndexed result table.now }
@@ -99,6 +109,28 @@ fn rebuilt(alloc: Global, table: &Table, index: &Option<Index>) -> Option<Index>
         Ok(new) => Some(new),
         Err(_) => None,
     }
+}
+
+fn is_crowded(index: &Option<Index>) -> bool {
+    match index {
+        Some(rows) => rows.is_crowded(),
+        None => false,
+    }
+}
+
+// Enters a list that came to a place among so many. The index is built anew where it has outgrown
+// its rows, so that they stay short; else no other path is looked at.
+fn enter_new(alloc: Global, table: &Table, index: &mut Option<Index>, at: usize, count: usize)
+    requires { at < length table.now }
+    ensures { (lists : List AList) → HasComeIn at count lists table.now → IsIndexed index.old lists
+        → IsIndexed index.new table.now }
+{
+    if is_crowded(&*index) {
+        *index = rebuilt(alloc, table, &*index);
+        return;
+    }
+    make_room(index, at, count);
+    enter(index, table.as_slice()[at].paths.as_slice(), at);
 }
 
 // Gives a package a list.
@@ -123,8 +155,9 @@ fn put(
             return Ok(());
         }
         None => {
-            table.insert(name.copy()?, paths)?;
-            *index = rebuilt(alloc, table, &*index);
+            let count = table.as_slice().len();
+            let at = table.insert(name.copy()?, paths)?;
+            enter_new(alloc, table, index, at, count);
             return Ok(());
         }
     }

@@ -7,9 +7,10 @@ use Rattle.std.proofs.lemmas.Slice.Eq.{bytes_eq-Decides}
 use Rattle.host_core.specs.declared.node.Access.{Access}
 use Rattle.host_core.specs.declared.node.Node.{Node}
 use Rattle.host_core.specs.declared.node.Node.TheVariants.{File, Dir, Link}
+use Rattle.host_core.specs.World.{IsLoose}
 use Rattle.administration.specs.Files.{NoDirectory}
-use Rattle.info_format.specs.Format.{IsFit}
-use Rattle.info_format.specs.Tests.{is_fit, is_no_directory, same_access, same_node}
+use Rattle.info_format.specs.Format.{AreAlike, IsFit}
+use Rattle.info_format.specs.Tests.{is_double, is_fit, is_no_directory, same_access, same_node}
 
 abbrev access_of : ℕ → ℕ → ℕ → Access
 access_of mode user group = record { mode = mode; user = user; group = group }
@@ -87,3 +88,40 @@ unfit_not long short is fit = true≢false (sym (is_fit_of long short fit.loose 
 pub unfit_stands : (long short : Option Node) → is_fit long short ≡ false → IsSome long
 unfit_stands None short is = absurd (true≢false (sym (none_fits short) ∙ is))
 unfit_stands (Some node) short is = refl
+
+-- the same of format 0
+
+pub alike_is : (long short : Option Node) → is_double long short ≡ true → IsSome long → IsSome short → AreAlike long short
+alike_is None short is some there = absurd (false≢true some)
+alike_is (Some node) None is some there = absurd (false≢true there)
+alike_is (Some (File bytes access)) (Some (File others owned)) is some there = inl (bytes, access, owned, refl, ap (λ (b : List ℕ). Some (File b owned)) (sym ((bytes_eq-Decides bytes others).0 is)))
+alike_is (Some (File bytes access)) (Some (Dir owned)) is some there = absurd (false≢true is)
+alike_is (Some (File bytes access)) (Some (Link target)) is some there = absurd (false≢true is)
+alike_is (Some (Dir access)) (Some (File others owned)) is some there = absurd (false≢true is)
+alike_is (Some (Dir access)) (Some (Dir owned)) is some there = absurd (false≢true is)
+alike_is (Some (Dir access)) (Some (Link target)) is some there = absurd (false≢true is)
+alike_is (Some (Link target)) (Some (File others owned)) is some there = absurd (false≢true is)
+alike_is (Some (Link target)) (Some (Dir owned)) is some there = absurd (false≢true is)
+alike_is (Some (Link target)) (Some (Link aimed)) is some there = inr (target, refl, ap (λ (t : List ℕ). Some (Link t)) (sym ((bytes_eq-Decides target aimed).0 is)))
+
+pub unalike_not : (long short : Option Node) → is_double long short ≡ false → AreAlike long short → ⊥
+unalike_not long short is (inl (bytes, access, owned, first, second)) =
+    true≢false (sym (ap (λ (n : Option Node). is_double n short) first ∙ ap (λ (n : Option Node). is_double (Some (File bytes access)) n) second ∙ (bytes_eq-Decides bytes bytes).1 refl) ∙ is)
+unalike_not long short is (inr (target, first, second)) =
+    true≢false (sym (ap (λ (n : Option Node). is_double n short) first ∙ ap (λ (n : Option Node). is_double (Some (Link target)) n) second ∙ (bytes_eq-Decides target target).1 refl) ∙ is)
+
+pub unalike_stand : (long short : Option Node) → is_double long short ≡ false → IsSome long × IsSome short
+unalike_stand None None is = absurd (true≢false is)
+unalike_stand None (Some there) is = absurd (true≢false is)
+unalike_stand (Some node) None is = absurd (true≢false is)
+unalike_stand (Some node) (Some there) is = (refl, refl)
+
+pub alike_itself : (node : Option Node) → IsLoose node → AreAlike node node
+alike_itself None loose = absurd (false≢true loose.0)
+alike_itself (Some (File bytes access)) loose = inl (bytes, access, access, refl, refl)
+alike_itself (Some (Dir access)) loose = absurd (loose.1 (access, refl))
+alike_itself (Some (Link target)) loose = inr (target, refl, refl)
+
+pub alike_loose : (long short : Option Node) → AreAlike long short → IsLoose long
+alike_loose long short (inl (bytes, access, owned, first, second)) = subst IsLoose (sym first) (refl, loose_file bytes access)
+alike_loose long short (inr (target, first, second)) = subst IsLoose (sym first) (refl, loose_link target)

@@ -12,6 +12,7 @@ use Rattle.host_core.proofs.Moments.{since_barrier, since_does, since_now, since
 use Rattle.info_format.specs.Format.{format_path}
 use Rattle.info_format.specs.Steps.{AreApart, AreGiven, AreGiving, AreTaken, AreTaking, IsBringing, IsBrought}
 use Rattle.info_format.specs.declared.pairs.Pair.{Pair}
+use Rattle.info_format.proofs.Copies.{no_spare}
 use Rattle.info_format.proofs.Steps.{taking_start}
 
 abbrev done : Result (Unit {0}) HostFault
@@ -66,7 +67,8 @@ module _ (pairs : List Pair) where
   pub format_loose : (old now : World) → AreApart pairs → AreGiving pairs old now → IsLoose (old format_path) → IsLoose (now format_path)
   format_loose old now apart giving is = elim (giving format_path) [
     | inl same ↦ subst IsLoose (sym same) is
-    | inr given ↦ absurd ((apart.aside given.0 given.1).1 (sym given.2))
+    | inr (inl given) ↦ absurd ((apart.aside given.0 given.1).1 (sym given.2))
+    | inr (inr aside) ↦ absurd (no_spare format_path aside.0.short refl aside.2)
   ]
 
   module _ (format : Path) where

@@ -1,5 +1,6 @@
 pub mod Packages
 pub mod Two
+pub mod Copies
 pub mod Steps
 pub mod Formats
 pub mod Fits
@@ -7,3 +8,4 @@ pub mod Conversion
 pub mod Stages
 pub mod Seeings
 pub mod Showings
+pub mod Doubles

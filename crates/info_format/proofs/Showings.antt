@@ -15,9 +15,9 @@ use Rattle.info_format.specs.Format.{format_path, is_one}
 use Rattle.info_format.specs.Names.{Architectures, architectures}
 use Rattle.info_format.specs.Seeing.{IsSeenThrough, Shows}
 use Rattle.info_format.specs.Stage.{IsIdle}
-use Rattle.info_format.specs.Steps.{AreAllPairs, AreApart, AreGiven, AreTaken, IsBrought}
+use Rattle.info_format.specs.Steps.{AreApart, AreGiven, AreTaken, IsBrought}
 use Rattle.info_format.specs.declared.pairs.Pair.{Pair}
-use Rattle.info_format.proofs.Conversion.{cleared, one_loose}
+use Rattle.info_format.proofs.Conversion.{one_loose}
 use Rattle.info_format.proofs.Formats.{format_loose}
 
 -- through no names, where nothing is to be done
@@ -28,12 +28,8 @@ pub none_idle : (names : SeenNames) (w : World) → seen_by names ≡ (λ _. Non
 none_idle names w none tree idle = record { shows = inl (seen_none names w none, idle); sources = sources_none names w none tree }
 
 -- in format 0
-pub short_shows : (arches : Architectures) (pairs : List Pair) (none names : SeenNames) (w : World) → AreAllPairs arches pairs w → seen_by none ≡ (λ _. None) → IsTree w → w format_path ≡ None
-    → AreTaken pairs (seen none w) (seen names w) → (AreSources none w → AreSources names w) → Shows (IsConverted arches) w names
-short_shows arches pairs none names w all is tree plain taken there = record {
-  shows = cleared arches pairs w all (seen names w) plain (subst (λ (v : World). AreTaken pairs v (seen names w)) (seen_none none w is) taken);
-  sources = there (sources_none none w is tree);
-}
+pub taken_shows : (pairs : List Pair) (none names : SeenNames) (w : World) → seen_by none ≡ (λ _. None) → IsTree w → AreTaken pairs (seen none w) (seen names w) → (AreSources none w → AreSources names w) → Shows (AreTaken pairs) w names
+taken_shows pairs none names w is tree taken there = record { shows = subst (λ (v : World). AreTaken pairs v (seen names w)) (seen_none none w is) taken; sources = there (sources_none none w is tree) }
 
 -- from format 1
 module _ (pairs : List Pair) (apart : AreApart pairs) (none given told names : SeenNames) (w : World) where

@@ -26,6 +26,7 @@ use Rattle.info_format.specs.Format.{format_path, says_one}
 use Rattle.info_format.specs.Names.{Architectures, AreTwo, architectures, long_front}
 use Rattle.info_format.specs.Stage.{AreDamaged, AreDone, IsIdle, IsNaming, IsPlain, is_named, is_plain_name, is_format}
 use Rattle.info_format.proofs.Conversion.{converting_start, entry_there}
+use Rattle.info_format.proofs.Copies.{aside_start}
 use Rattle.info_format.proofs.Two.{has_colon, long_plain}
 
 each_plain : (names : List Path) (k : ℕ) (entry : Path) → list_all is_plain_name names ≡ true → k < length names → get_or names k entry ≡ entry → is_plain_name entry ≡ true
@@ -57,6 +58,7 @@ no_format w names listing none some = none_named names (codes "format") none (en
 pub plain_done : (w : World) → IsPlain w → (arches : Architectures) → IsConverted arches w w
 plain_done w (names, listing, none) arches = record {
   converting = converting_start arches w;
+  aside = aside_start w;
   plain = ap says_one (some_or_none (w format_path) (no_format w names listing none));
   known = λ told stands. no_format w names listing none told;
   gone = λ long short two there stands.

@@ -12,9 +12,9 @@ use Rattle.texts.proofs.PackageNames.{signs_of_name}
 use Rattle.std.proofs.lemmas.Bool.{and_parts, eqb-true, false≢true, true≢false}
 use Rattle.std.proofs.lemmas.List.Elements.{Contains-append_left, Contains-push, Contains-push_cases}
 use Rattle.host_core.specs.Paths.{Path, is_path}
-use Rattle.file_lists.specs.Info.{entry_path, is_foreign}
+use Rattle.file_lists.specs.Info.{entry_path}
 use Rattle.host_core.specs.World.{World}
-use Rattle.info_format.specs.Stage.{AreShort}
+use Rattle.info_format.specs.Stage.{AreShort, HaveShortNames, is_long}
 use Rattle.info_format.specs.Names.{Architectures, AreTwo, are_ending_signs, is_ending, is_ending_sign, long_front}
 use Rattle.info_format.specs.Naming.{ArePairs, AreQualified, HasPairs, IsEntryOf, IsPairAt, IsPairIn, IsPairOf, IsQualified}
 use Rattle.info_format.specs.declared.naming.Qualified.{Qualified}
@@ -203,6 +203,9 @@ module _ (arches : Architectures) where
   pub two_proper : (l s : Path) → AreTwo arches l s → is_temporary l ≡ false
   two_proper l s two = ap is_temporary two.long_is ∙ ending_kept (long_front two.name two.architecture) two.ending two.plain (is_temporary (entry_path (long_front two.name two.architecture ++ 46 ∷ two.ending))) refl
 
+  pub two_whole : (l s : Path) → AreTwo arches l s → is_temporary s ≡ false
+  two_whole l s two = ap is_temporary two.short_is ∙ ending_kept two.name two.ending two.plain (is_temporary (entry_path (two.name ++ 46 ∷ two.ending))) refl
+
   no_format : (front ending : Path) → entry_path (front ++ 46 ∷ ending) ≢ entry_path (codes "format")
   no_format front ending e = true≢false (sym (ap are_ending_signs (same_entry (front ++ 46 ∷ ending) (codes "format") e)) ∙ has_dot front ending)
 
@@ -225,7 +228,7 @@ module _ (arches : Architectures) where
       let same = last_dot (long_front two.name two.architecture) name two.ending ending (signs two.ending two.plain) plain (same_entry (long_front two.name two.architecture ++ 46 ∷ two.ending) (name ++ 46 ∷ ending) (sym two.long_is ∙ e)) in
       true≢false (sym (has_colon two.name two.architecture) ∙ ap (list_any (λ b. nat_eq b 58)) same.0 ∙ name_free name named 58 refl)
 
-  -- no opening reads the lists of a name with the architecture
+  -- a colon stands in a name with the architecture, and no file is written under it
   ending_plain : (front ending : Path) → is_ending ending ≡ true → (b : Bool) → ends_with nat_eq (front ++ 46 ∷ ending) (codes ".dpkg-inst") ≡ b → b ≡ false
   ending_plain front ending plain false e = refl
   ending_plain front ending plain true e =
@@ -236,8 +239,8 @@ module _ (arches : Architectures) where
   colon_front : (name architecture rest : Path) → list_any (λ b. nat_eq b 58) (long_front name architecture ++ rest) ≡ true
   colon_front name architecture rest = list_any-append (λ b. nat_eq b 58) (long_front name architecture) rest ∙ ap (λ t. t || list_any (λ b. nat_eq b 58) rest) (has_colon name architecture)
 
-  pub long_foreign : (l s : Path) (two : AreTwo arches l s) → is_foreign (long_front two.name two.architecture ++ 46 ∷ two.ending) ≡ true
-  long_foreign l s two =
+  pub long_is_long : (l s : Path) (two : AreTwo arches l s) → is_long (long_front two.name two.architecture ++ 46 ∷ two.ending) ≡ true
+  long_is_long l s two =
       let entry = long_front two.name two.architecture ++ 46 ∷ two.ending in
       ap (λ t. t && not (ends_with nat_eq entry (codes ".dpkg-inst"))) (colon_front two.name two.architecture (46 ∷ two.ending))
       ∙ ap not (ending_plain (long_front two.name two.architecture) two.ending two.plain (ends_with nat_eq entry (codes ".dpkg-inst")) refl)
@@ -246,4 +249,7 @@ module _ (arches : Architectures) where
   pub short_none : (w : World) → AreShort w → (l s : Path) → AreTwo arches l s → IsSome (w l) → ⊥
   short_none w short l s two some =
       let entry = long_front two.name two.architecture ++ 46 ∷ two.ending in
-      true≢false (sym (long_foreign l s two) ∙ short entry (long_plain l s two) (subst (λ (q : Path). IsSome (w q)) two.long_is some))
+      true≢false (sym (long_is_long l s two) ∙ short entry (long_plain l s two) (subst (λ (q : Path). IsSome (w q)) two.long_is some))
+
+pub short_names : (w : World) → AreShort w → HaveShortNames w
+short_names w short arches (l, s, two, some) = short_none arches w short l s two some

@@ -3,6 +3,7 @@ use Rattle.std.specs.Prelude.{◌≡◌, ◌⊎◌, ℕ, Bool, true, false, List
 use Rattle.std.specs.Str.{bytes_eq}
 use Rattle.host_core.specs.Paths.{Path}
 use Rattle.host_core.specs.World.{World}
+use Rattle.host_core.specs.declared.node.Access.{Access}
 use Rattle.host_core.specs.declared.node.Node.{Node}
 use Rattle.host_core.specs.declared.node.Node.TheVariants.{File, Dir, Link}
 use Rattle.administration.specs.Files.{NoDirectory}
@@ -39,21 +40,39 @@ pub record IsFit (long short : Option Node) : Type 0 where
   pub loose : NoDirectory long
   pub same : IsSome long → (short ≡ None) ⊎ (short ≡ long)
 
+-- files with the same bytes, or links with the same target; in format 0 dpkg reads the second alone, so the access of the first is none of its
+abbrev pub HaveSameBytes : Option Node → Option Node → Type 0
+HaveSameBytes long short = (bytes : List ℕ) × (access owned : Access) × (long ≡ Some (File bytes access)) × (short ≡ Some (File bytes owned))
+
+abbrev pub HaveSameTarget : Option Node → Option Node → Type 0
+HaveSameTarget long short = (target : Path) × (long ≡ Some (Link target)) × (short ≡ Some (Link target))
+
+abbrev pub AreAlike : Option Node → Option Node → Type 0
+AreAlike long short = HaveSameBytes long short ⊎ HaveSameTarget long short
+
+-- where both names of a control file stand they are alike
+abbrev pub AreDoubles : Architectures → World → Type 0
+AreDoubles arches w = (long short : Path) → AreTwo arches long short → IsSome (w long) → IsSome (w short) → AreAlike (w long) (w short)
+
 -- a name with the architecture stands
 abbrev pub HasLong : Architectures → World → Type 0
 HasLong arches w = (long short : Path) × AreTwo arches long short × IsSome (w long)
 
--- where such names stand the format is known, and in format 1 the two names of each control file of such a package fit
+-- where such names stand the format is known; in format 1 the two names of each control file of such a package fit, in format 0 they are alike
 pub record IsConvertible (arches : Architectures) (w : World) : Type 0 where
   pub known : HasLong arches w → IsSome (w format_path) → is_one w ≡ true
   pub fit : is_one w ≡ true → (long short : Path) → AreTwo arches long short → IsFit (w long) (w short)
+  pub alike : w format_path ≡ None → AreDoubles arches w
 
--- why names can't be brought to format 0: a format that isn't known, or another file at a name without the architecture
+-- why names can't be brought to format 0: a format that isn't known, or another file at a name without the architecture, in format 1 or 0
 abbrev pub IsOddFormat : Architectures → World → Path → Type 0
 IsOddFormat arches w file = (file ≡ format_path) × IsSome (w format_path) × (is_one w ≡ false) × HasLong arches w
 
 abbrev pub IsClash : Architectures → World → Path → Type 0
 IsClash arches w file = (is_one w ≡ true) × ((short : Path) × AreTwo arches file short × IsSome (w file) × (IsFit (w file) (w short) → ⊥))
 
+abbrev pub IsOther : Architectures → World → Path → Type 0
+IsOther arches w file = (w format_path ≡ None) × ((short : Path) × AreTwo arches file short × IsSome (w file) × IsSome (w short) × (AreAlike (w file) (w short) → ⊥))
+
 abbrev pub IsNamesFault : Architectures → World → Path → Type 0
-IsNamesFault arches w file = IsOddFormat arches w file ⊎ IsClash arches w file
+IsNamesFault arches w file = IsOddFormat arches w file ⊎ (IsClash arches w file ⊎ IsOther arches w file)

@@ -9,12 +9,13 @@ use Rattle.file_lists.specs.Info.{entry_path}
 use Rattle.status_records.specs.Paragraphs.{field_in}
 use Rattle.status_records.specs.Records.{record_in}
 use Rattle.status_records.specs.declared.record.Record.{Record}
+use Rattle.control_fields.specs.Names.{trim_end}
 use Rattle.control_fields.specs.declared.field.Field.{Field}
 
--- the value on a field's line
+-- the value on a field's line, without the blanks at its end
 abbrev pub line_of : Option Field → List ℕ
 line_of None = []
-line_of (Some field) = field.first
+line_of (Some field) = trim_end field.first
 
 abbrev pub value_in : List ℕ → Record → List ℕ
 value_in text r = line_of (field_in text r.fields)

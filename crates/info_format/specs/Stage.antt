@@ -1,6 +1,6 @@
 -- What an opening does about names with an architecture, before all else.
-use Rattle.std.specs.Prelude.{◌≡◌, ◌⊎◌, ◌||◌, not, ℕ, Bool, false, true, List, IsSome, codes, nat_eq}
-use Rattle.std.specs.List.{list_all, list_any}
+use Rattle.std.specs.Prelude.{◌≡◌, ◌⊎◌, ◌||◌, ◌&&◌, not, ℕ, Bool, false, true, List, None, IsSome, codes, nat_eq}
+use Rattle.std.specs.List.{ends_with, list_all, list_any}
 use Rattle.std.specs.Str.{bytes_eq}
 use Rattle.host_core.specs.Paths.{Path}
 use Rattle.host_core.specs.World.{World}
@@ -10,11 +10,12 @@ use Rattle.administration.specs.Files.{NoDirectory}
 use Rattle.administration.specs.Places.{info_path}
 use Rattle.administration.specs.declared.fault.AdministrationFault.{AdministrationFault}
 use Rattle.administration.specs.declared.fault.AdministrationFault.TheVariants.{Damaged, Device, NoMemory, Declined}
-use Rattle.file_lists.specs.Info.{entry_path, is_foreign}
+use Rattle.file_lists.specs.Info.{entry_path}
 use Rattle.status_db.specs.Held.{HasRecords}
 use Rattle.status_db.specs.NoteDamage.{AreRecordsDamaged}
 use Rattle.status_records.specs.declared.record.Record.{Record}
 use Rattle.info_format.specs.Converting.{IsConverted, IsConverting, IsNamesDamage}
+use Rattle.info_format.specs.Format.{AreDoubles, HasLong, format_path}
 use Rattle.info_format.specs.Names.{Architectures, architectures}
 
 abbrev pub is_format : Path → Bool
@@ -46,9 +47,22 @@ AreDamaged w Device = Unit {0}
 AreDamaged w NoMemory = Unit {0}
 AreDamaged w Declined = Unit {0}
 
+-- a colon stands in the name, as before an architecture; one under which a file is written isn't looked at
+abbrev pub is_long : Path → Bool
+is_long entry = list_any (λ b. nat_eq b 58) entry && not (ends_with nat_eq entry (codes ".dpkg-inst"))
+
 -- no entry's name has an architecture
 abbrev pub AreShort : World → Type 0
-AreShort w = (entry : Path) → has_slash entry ≡ false → IsSome (w (entry_path entry)) → is_foreign entry ≡ false
+AreShort w = (entry : Path) → has_slash entry ≡ false → IsSome (w (entry_path entry)) → is_long entry ≡ false
+
+-- no control file of any package has a name with an architecture
+abbrev pub HaveShortNames : World → Type 0
+HaveShortNames w = (arches : Architectures) → HasLong arches w → ⊥
+
+-- each control file is read by its name without an architecture: none has another name, or it's format 0, where such a name stands
+-- beside no other file
+abbrev pub AreReadShort : World → Type 0
+AreReadShort w = HaveShortNames w ⊎ ((w format_path ≡ None) × ((arches : Architectures) → AreDoubles arches w))
 
 -- no entry of the directory has such a name
 abbrev pub IsPlain : World → Type 0

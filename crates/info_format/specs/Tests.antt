@@ -35,3 +35,27 @@ is_fit (Some node) (Some there) = same_node node there
 abbrev pub is_loose : Option Node → Bool
 is_loose None = false
 is_loose (Some node) = is_no_directory node
+
+-- the same bytes in two files, or the same target of two links, whatever the access
+abbrev pub same_content : Node → Node → Bool
+same_content (File bytes access) (File others owned) = bytes_eq bytes others
+same_content (File bytes access) (Dir owned) = false
+same_content (File bytes access) (Link target) = false
+same_content (Dir access) (File others owned) = false
+same_content (Dir access) (Dir owned) = false
+same_content (Dir access) (Link target) = false
+same_content (Link target) (File others owned) = false
+same_content (Link target) (Dir owned) = false
+same_content (Link target) (Link aimed) = bytes_eq target aimed
+
+-- in format 0: where both names stand they are alike
+abbrev pub is_double : Option Node → Option Node → Bool
+is_double None None = true
+is_double None (Some there) = true
+is_double (Some node) None = true
+is_double (Some node) (Some there) = same_content node there
+
+-- in format 1 or in format 0
+abbrev pub fits : Bool → Option Node → Option Node → Bool
+fits true long short = is_fit long short
+fits false long short = is_double long short

@@ -53,7 +53,12 @@ fn leave_between<H: Host>(host: &mut H, format: &RootPath) -> Result<(), HostFau
 }
 
 // From format 1.
-fn bring<H: Host>(host: &mut H, pairs: &[Pair], format: &RootPath) -> Result<(), HostFault>
+fn bring<H: Host>(
+    alloc: Global,
+    host: &mut H,
+    pairs: &[Pair],
+    format: &RootPath,
+) -> Result<(), HostFault>
     requires apart { AreApart pairs.now }
     requires parents { Needs (H.state host.old) (HaveParents pairs.now) }
     requires place { format.now ≡ format_path }
@@ -64,7 +69,7 @@ fn bring<H: Host>(host: &mut H, pairs: &[Pair], format: &RootPath) -> Result<(),
     ensures silent { Silent (H.state host.old) (H.state host.new) }
     ensures counts { Counts (H.state host.old) (H.state host.new) result }
 {
-    give_all(host, pairs)?;
+    give_all(alloc, host, pairs)?;
     leave_between(host, format)?;
     take_all(host, pairs)
 }
@@ -81,27 +86,54 @@ fn clear<H: Host>(host: &mut H, pairs: &[Pair]) -> Result<(), HostFault>
     take_all(host, pairs)
 }
 
-// In format 0: no step where no name has the architecture.
-fn convert_short<H: Host>(host: &mut H, pairs: &[Pair]) -> Result<(), HostFault>
+// The same, where the two names of each control file are alike.
+fn clear_doubles<H: Host>(host: &mut H, pairs: &[Pair]) -> Result<(), AdministrationFault>
     requires apart { AreApart pairs.now }
     requires plain { Needs (H.state host.old) (λ w. w format_path ≡ None) }
     ensures converted { (arches : Architectures)
         → Needs (H.state host.old) (AreAllPairs arches pairs.now)
         → Leaves result (IsConverted arches) (H.state host.old) (H.state host.new) }
+    ensures fault { (arches : Architectures)
+        → Needs (H.state host.old) (AreAllPairs arches pairs.now)
+        → IsTrue (H.state host.new).honest
+        → IfErr result (IsNamesDamage arches (H.state host.old).world) }
     ensures any_moment { (arches : Architectures)
         → Needs (H.state host.old) (AreAllPairs arches pairs.now)
         → AtEachMoment (IsConverting arches) (H.state host.old) (H.state host.new) }
     ensures silent { Silent (H.state host.old) (H.state host.new) }
-    ensures counts { Counts (H.state host.old) (H.state host.new) result }
+    ensures counts { CountsAdministration (H.state host.old) (H.state host.new) result }
+{
+    check_all(host, false, pairs)?;
+    clear(host, pairs)?;
+    Ok(())
+}
+
+// In format 0: no step where no name has the architecture.
+fn convert_short<H: Host>(host: &mut H, pairs: &[Pair]) -> Result<(), AdministrationFault>
+    requires apart { AreApart pairs.now }
+    requires plain { Needs (H.state host.old) (λ w. w format_path ≡ None) }
+    ensures converted { (arches : Architectures)
+        → Needs (H.state host.old) (AreAllPairs arches pairs.now)
+        → Leaves result (IsConverted arches) (H.state host.old) (H.state host.new) }
+    ensures fault { (arches : Architectures)
+        → Needs (H.state host.old) (AreAllPairs arches pairs.now)
+        → IsTrue (H.state host.new).honest
+        → IfErr result (IsNamesDamage arches (H.state host.old).world) }
+    ensures any_moment { (arches : Architectures)
+        → Needs (H.state host.old) (AreAllPairs arches pairs.now)
+        → AtEachMoment (IsConverting arches) (H.state host.old) (H.state host.new) }
+    ensures silent { Silent (H.state host.old) (H.state host.new) }
+    ensures counts { CountsAdministration (H.state host.old) (H.state host.new) result }
 {
     if has_long(host, pairs)? {
-        return clear(host, pairs);
+        return clear_doubles(host, pairs);
     }
     Ok(())
 }
 
 // In format 1, where the two names of each control file fit.
 fn convert_long<H: Host>(
+    alloc: Global,
     host: &mut H,
     pairs: &[Pair],
     format: &RootPath,
@@ -123,8 +155,8 @@ fn convert_long<H: Host>(
     ensures silent { Silent (H.state host.old) (H.state host.new) }
     ensures counts { CountsAdministration (H.state host.old) (H.state host.new) result }
 {
-    check_all(host, pairs)?;
-    bring(host, pairs, format)?;
+    check_all(host, true, pairs)?;
+    bring(alloc, host, pairs, format)?;
     Ok(())
 }
 
@@ -159,6 +191,7 @@ pub(crate) fn pass_unknown<H: Host>(
 
 // By what tells the format.
 fn convert_pairs<H: Host>(
+    alloc: Global,
     host: &mut H,
     pairs: &[Pair],
     format: &RootPath,
@@ -180,11 +213,8 @@ fn convert_pairs<H: Host>(
     ensures counts { CountsAdministration (H.state host.old) (H.state host.new) result }
 {
     match read_format(host, format)? {
-        Format::Short => {
-            convert_short(host, pairs)?;
-            Ok(())
-        }
-        Format::Long => convert_long(host, pairs, format),
+        Format::Short => convert_short(host, pairs),
+        Format::Long => convert_long(alloc, host, pairs, format),
         Format::Unknown => pass_unknown(host, pairs, format),
     }
 }
@@ -217,5 +247,5 @@ pub fn convert<H: Host>(
     let packages = packages_of(alloc, database)?;
     let pairs = pairs_of(alloc, packages.as_slice(), listing.names.as_slice())?;
     let format = RootPath::from_str(alloc, FORMAT)?;
-    convert_pairs(host, pairs.as_slice(), &format)
+    convert_pairs(alloc, host, pairs.as_slice(), &format)
 }

@@ -1,34 +1,36 @@
 // Names with an architecture are brought to those without.
-ghost use Rattle.std.specs.Prelude.{◌≡◌, ◌≢◌, ◌&&◌, IfErr, IsSome, IsTrue, MatchBool, OnOk, false, is_some, not, true};
+ghost use Rattle.std.specs.Prelude.{◌≡◌, ◌≢◌, ◌&&◌, IfErr, IsTrue, MatchBool, OnOk, false, is_some, not, true};
 ghost use Rattle.host_core.specs.Host.{AtEachMoment, Counts, Leaves, Needs, Reads, Silent};
 ghost use Rattle.host_core.specs.Loss.{IsOnDisk};
 ghost use Rattle.host_core.specs.Looks.{Looks};
 ghost use Rattle.host_core.specs.Unsynced.{is_temporary};
 ghost use Rattle.host_core.specs.World.{HasParent, IsLoose};
 ghost use Rattle.administration.specs.Fault.{CountsAdministration};
-ghost use Rattle.info_format.specs.Steps.{AreApart, AreGiven, AreFit, AreGiving, AreTaken, AreTaking, HasFirst, HaveParents, IsGiven, IsTaken, IsUnfit, IsUnfitAmong, NoFirst};
-ghost use Rattle.info_format.specs.Tests.{is_fit, is_loose};
+ghost use Rattle.info_format.specs.Steps.{AreApart, AreGiven, AreFit, AreGiving, AreTaken, AreTaking, HasFirst, HasOther, HaveParents, IsGiving, IsTaken, IsUnfit, IsUnfitAmong, NoFirst};
+ghost use Rattle.info_format.specs.Tests.{fits, is_loose};
 
-use crate::format::{is_fit, is_loose_kind, is_there};
+use crate::copying::link_or_copy;
+use crate::format::{fits, is_loose_kind, is_there};
 use crate::pairs::Pair;
 use administration::AdministrationFault;
 use host_core::{Host, HostFault, Node, RootPath};
+use std::alloc::Global;
 
 // Looks at the two names of a control file.
 #[tactic(auto, using(host_core::proofs::Moments::reads_then))]
-fn check<H: Host>(host: &mut H, pair: &Pair) -> Result<(), AdministrationFault>
+fn check<H: Host>(host: &mut H, one: bool, pair: &Pair) -> Result<(), AdministrationFault>
     ensures fit { IsTrue (H.state host.new).honest → OnOk result
-        (is_fit ((H.state host.old).world pair.now.long) ((H.state host.old).world pair.now.short)
-        ≡ true) }
+        (fits one ((H.state host.old).world pair.now.long)
+        ((H.state host.old).world pair.now.short) ≡ true) }
     ensures fault { IsTrue (H.state host.new).honest
-        → IfErr result (IsUnfit (H.state host.old).world pair.now) }
+        → IfErr result (IsUnfit one (H.state host.old).world pair.now) }
     ensures reads { Reads (H.state host.old) (H.state host.new) }
     ensures silent { Silent (H.state host.old) (H.state host.new) }
     ensures counts { CountsAdministration (H.state host.old) (H.state host.new) result }
 {
     let long = host.node(&pair.long)?;
     let short = host.node(&pair.short)?;
-    if is_fit(&long, &short) {
+    if fits(one, &long, &short) {
         return Ok(());
     }
     Err(AdministrationFault::Damaged {
@@ -37,18 +39,22 @@ fn check<H: Host>(host: &mut H, pair: &Pair) -> Result<(), AdministrationFault>
     })
 }
 
-// Looks at those of all.
-pub(crate) fn check_all<H: Host>(host: &mut H, pairs: &[Pair]) -> Result<(), AdministrationFault>
+/// Looks at those of all, by whether it's format 1.
+pub(crate) fn check_all<H: Host>(
+    host: &mut H,
+    one: bool,
+    pairs: &[Pair],
+) -> Result<(), AdministrationFault>
     ensures fit { IsTrue (H.state host.new).honest → OnOk result
-        (AreFit pairs.now (H.state host.old).world) }
+        (AreFit one pairs.now (H.state host.old).world) }
     ensures fault { IsTrue (H.state host.new).honest
-        → IfErr result (IsUnfitAmong (H.state host.old).world pairs.now) }
+        → IfErr result (IsUnfitAmong one (H.state host.old).world pairs.now) }
     ensures reads { Reads (H.state host.old) (H.state host.new) }
     ensures silent { Silent (H.state host.old) (H.state host.new) }
     ensures counts { CountsAdministration (H.state host.old) (H.state host.new) result }
 {
     for pair in pairs {
-        check(host, pair)?;
+        check(host, one, pair)?;
     }
     Ok(())
 }
@@ -99,24 +105,29 @@ fn is_beside<H: Host>(host: &mut H, pair: &Pair) -> Result<bool, HostFault>
 }
 
 // Gives what has the first name the second, where nothing stands.
-fn give<H: Host>(host: &mut H, pair: &Pair) -> Result<(), HostFault>
-    requires proper { is_temporary pair.now.long ≡ false }
+fn give<H: Host>(alloc: Global, host: &mut H, pair: &Pair) -> Result<(), HostFault>
+    requires proper { (is_temporary pair.now.long ≡ false)
+        × (is_temporary pair.now.short ≡ false) }
     requires parent { Needs (H.state host.old) (λ w. HasParent w pair.now.short) }
-    ensures given { Leaves result (λ old new. IsLoose (old pair.now.long)
-        → IsSome (new pair.now.short)) (H.state host.old) (H.state host.new) }
-    ensures any_moment { AtEachMoment (IsGiven pair.now.long pair.now.short) (H.state host.old)
+    ensures given { Leaves result (HasOther pair.now.long pair.now.short) (H.state host.old)
+        (H.state host.new) }
+    ensures any_moment { AtEachMoment (IsGiving pair.now.long pair.now.short) (H.state host.old)
         (H.state host.new) }
     ensures silent { Silent (H.state host.old) (H.state host.new) }
     ensures counts { Counts (H.state host.old) (H.state host.new) result }
 {
     if lacks(host, pair)? {
-        return host.link(&pair.long, &pair.short);
+        return link_or_copy(alloc, host, pair);
     }
     Ok(())
 }
 
 // Gives each its second name.
-pub(crate) fn give_all<H: Host>(host: &mut H, pairs: &[Pair]) -> Result<(), HostFault>
+pub(crate) fn give_all<H: Host>(
+    alloc: Global,
+    host: &mut H,
+    pairs: &[Pair],
+) -> Result<(), HostFault>
     requires apart { AreApart pairs.now }
     requires parents { Needs (H.state host.old) (HaveParents pairs.now) }
     ensures given { Leaves result (AreGiven pairs.now) (H.state host.old) (H.state host.new) }
@@ -125,7 +136,7 @@ pub(crate) fn give_all<H: Host>(host: &mut H, pairs: &[Pair]) -> Result<(), Host
     ensures counts { Counts (H.state host.old) (H.state host.new) result }
 {
     for pair in pairs {
-        give(host, pair)?;
+        give(alloc, host, pair)?;
     }
     Ok(())
 }

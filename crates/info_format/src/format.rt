@@ -74,7 +74,7 @@ fn same_node(one: &Node, other: &Node) -> bool
 }
 
 // Whether at the name without the architecture nothing stands, or the same.
-pub(crate) fn is_fit(long: &Option<Node>, short: &Option<Node>) -> bool
+fn is_fit(long: &Option<Node>, short: &Option<Node>) -> bool
     ensures { result ≡ spec.is_fit long.now short.now }
 {
     match (long, short) {
@@ -83,6 +83,46 @@ pub(crate) fn is_fit(long: &Option<Node>, short: &Option<Node>) -> bool
         (Some(node), None) => !node.is_dir(),
         (Some(node), Some(there)) => same_node(node, there),
     }
+}
+
+fn same_content(one: &Node, other: &Node) -> bool
+    ensures { result ≡ spec.same_content one.now other.now }
+{
+    match (one, other) {
+        (Node::File { bytes, .. }, Node::File { bytes: others, .. }) => {
+            bytes.as_slice() == others.as_slice()
+        }
+        (Node::File { .. }, Node::Dir { .. }) => false,
+        (Node::File { .. }, Node::Link { .. }) => false,
+        (Node::Dir { .. }, Node::File { .. }) => false,
+        (Node::Dir { .. }, Node::Dir { .. }) => false,
+        (Node::Dir { .. }, Node::Link { .. }) => false,
+        (Node::Link { .. }, Node::File { .. }) => false,
+        (Node::Link { .. }, Node::Dir { .. }) => false,
+        (Node::Link { target }, Node::Link { target: aimed }) => target.is(aimed),
+    }
+}
+
+// Whether both names have the same bytes or target, where both stand.
+fn is_double(long: &Option<Node>, short: &Option<Node>) -> bool
+    ensures { result ≡ spec.is_double long.now short.now }
+{
+    match (long, short) {
+        (None, None) => true,
+        (None, Some(_)) => true,
+        (Some(_), None) => true,
+        (Some(node), Some(there)) => same_content(node, there),
+    }
+}
+
+/// Whether the two names fit in format 1, or in format 0.
+pub(crate) fn fits(one: bool, long: &Option<Node>, short: &Option<Node>) -> bool
+    ensures { result ≡ spec.fits one long.now short.now }
+{
+    if one {
+        return is_fit(long, short);
+    }
+    is_double(long, short)
 }
 
 /// Whether what is of this kind is a file or link.

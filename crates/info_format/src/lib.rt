@@ -5,13 +5,14 @@
 //! # What is proved
 //!
 //! `convert` brings `info/` to format 0 (`converted`): each name with an architecture gets the
-//! second name without it, then `format` goes, then the first names go. At each moment each control
-//! file that dpkg read it reads still, nothing else changes, and what was convertible is so
-//! (`any_moment`, specs/Converting): so a stop leaves what the next opening finishes
+//! second name without it, or a copy gets it where none can be had, then `format` goes, then the first names go. At each moment each control
+//! file that dpkg read it reads still, nothing else changes but at temporary names, and what was
+//! convertible is so (`any_moment`, specs/Converting): so a stop leaves what the next opening finishes
 //! (`a_stopped_conversion_goes_on`). It is refused before any step where another file stands at a
 //! name without the architecture, or where names have one in a format that isn't known (`fault`).
-//! In format 0 names with an architecture go that stand beside one without: dpkg doesn't read them
-//! now, and would when it goes to format 1. The barriers stand as `requires` of the steps behind
+//! In format 0 names with an architecture go that stand beside the same bytes or target without one:
+//! dpkg doesn't read them now, and would when it goes to format 1. Beside anything else they are
+//! refused too. The barriers stand as `requires` of the steps behind
 //! them: `format` goes when all else is on the disk, and names go when that is.
 //!
 //! Names of packages that aren't recorded with that architecture are left alone. `bring_names` is
@@ -23,6 +24,7 @@
 
 mod bringing;
 mod converting;
+mod copying;
 mod format;
 mod laws;
 mod naming;

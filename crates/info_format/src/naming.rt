@@ -20,7 +20,7 @@ fn value_in<'a>(record: &'a Record, field: &[u8]) -> &'a [u8]
     ensures { result.now ≡ value_in field.now record.now }
 {
     match record.fields.get(field) {
-        Some(field) => field.first.as_slice(),
+        Some(field) => field.own_line(),
         None => b"",
     }
 }

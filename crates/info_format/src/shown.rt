@@ -10,10 +10,10 @@ ghost use Rattle.info_format.specs.Format.{format_path, is_one};
 ghost use Rattle.info_format.specs.Names.{Architectures, architectures};
 ghost use Rattle.info_format.specs.Seeing.{IsSeenThrough, Shows};
 ghost use Rattle.info_format.specs.Stage.{AreDamaged};
-ghost use Rattle.info_format.specs.Steps.{AreAllPairs, AreApart, HaveParents, IsBrought};
+ghost use Rattle.info_format.specs.Steps.{AreAllPairs, AreApart, AreTaken, HaveParents, IsBrought};
 
 use crate::bringing::{FORMAT, pass_unknown};
-use crate::converting::check_all;
+use crate::converting::{check_all, has_long};
 use crate::format::{Format, read_format};
 use crate::naming::packages_of;
 use crate::pairs::{Pair, pairs_of};
@@ -26,13 +26,10 @@ use status_db::NotedDatabase;
 use std::alloc::Global;
 
 // In format 0: a name with the architecture that stands beside one without isn't seen.
-fn see_short<H: Host>(alloc: Global, host: &mut H, pairs: &[Pair]) -> Result<SeenNames, HostFault>
+fn see_cleared<H: Host>(alloc: Global, host: &mut H, pairs: &[Pair]) -> Result<SeenNames, HostFault>
     requires apart { AreApart pairs.now }
-    requires plain { Needs (H.state host.old) (λ w. w format_path ≡ None) }
-    ensures shows { (arches : Architectures)
-        → Needs (H.state host.old) (AreAllPairs arches pairs.now)
-        → Tells result (λ names w. Shows (IsConverted arches) w names) (H.state host.old)
-        (H.state host.new) }
+    ensures shows { Tells result (λ names w. Shows (AreTaken pairs.now) w names)
+        (H.state host.old) (H.state host.new) }
     ensures reads { Reads (H.state host.old) (H.state host.new) }
     ensures silent { Silent (H.state host.old) (H.state host.new) }
     ensures counts { Counts (H.state host.old) (H.state host.new) result }
@@ -40,6 +37,56 @@ fn see_short<H: Host>(alloc: Global, host: &mut H, pairs: &[Pair]) -> Result<See
     let mut names = SeenNames::none(alloc);
     lose_firsts(host, &mut names, pairs)?;
     Ok(names)
+}
+
+// The same, where the two names of each control file are alike.
+fn see_doubles<H: Host>(
+    alloc: Global,
+    host: &mut H,
+    pairs: &[Pair],
+) -> Result<SeenNames, AdministrationFault>
+    requires apart { AreApart pairs.now }
+    requires plain { Needs (H.state host.old) (λ w. w format_path ≡ None) }
+    ensures shows { (arches : Architectures)
+        → Needs (H.state host.old) (AreAllPairs arches pairs.now)
+        → Tells result (λ names w. Shows (IsConverted arches) w names) (H.state host.old)
+        (H.state host.new) }
+    ensures fault { (arches : Architectures)
+        → Needs (H.state host.old) (AreAllPairs arches pairs.now)
+        → IsTrue (H.state host.new).honest
+        → IfErr result (IsNamesDamage arches (H.state host.old).world) }
+    ensures reads { Reads (H.state host.old) (H.state host.new) }
+    ensures silent { Silent (H.state host.old) (H.state host.new) }
+    ensures counts { CountsAdministration (H.state host.old) (H.state host.new) result }
+{
+    check_all(host, false, pairs)?;
+    Ok(see_cleared(alloc, host, pairs)?)
+}
+
+// In format 0: as it stands where no name has the architecture.
+fn see_short<H: Host>(
+    alloc: Global,
+    host: &mut H,
+    pairs: &[Pair],
+) -> Result<SeenNames, AdministrationFault>
+    requires apart { AreApart pairs.now }
+    requires plain { Needs (H.state host.old) (λ w. w format_path ≡ None) }
+    ensures shows { (arches : Architectures)
+        → Needs (H.state host.old) (AreAllPairs arches pairs.now)
+        → Tells result (λ names w. Shows (IsConverted arches) w names) (H.state host.old)
+        (H.state host.new) }
+    ensures fault { (arches : Architectures)
+        → Needs (H.state host.old) (AreAllPairs arches pairs.now)
+        → IsTrue (H.state host.new).honest
+        → IfErr result (IsNamesDamage arches (H.state host.old).world) }
+    ensures reads { Reads (H.state host.old) (H.state host.new) }
+    ensures silent { Silent (H.state host.old) (H.state host.new) }
+    ensures counts { CountsAdministration (H.state host.old) (H.state host.new) result }
+{
+    if has_long(host, pairs)? {
+        return see_doubles(alloc, host, pairs);
+    }
+    Ok(SeenNames::none(alloc))
 }
 
 // From format 1.
@@ -89,7 +136,7 @@ fn see_long<H: Host>(
     ensures silent { Silent (H.state host.old) (H.state host.new) }
     ensures counts { CountsAdministration (H.state host.old) (H.state host.new) result }
 {
-    check_all(host, pairs)?;
+    check_all(host, true, pairs)?;
     Ok(see_brought(alloc, host, pairs, format)?)
 }
 
@@ -142,7 +189,7 @@ fn see_pairs<H: Host>(
     ensures counts { CountsAdministration (H.state host.old) (H.state host.new) result }
 {
     match read_format(host, format)? {
-        Format::Short => Ok(see_short(alloc, host, pairs)?),
+        Format::Short => see_short(alloc, host, pairs),
         Format::Long => see_long(alloc, host, pairs, format),
         Format::Unknown => see_unknown(alloc, host, pairs, format),
     }

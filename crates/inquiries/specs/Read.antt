@@ -20,10 +20,12 @@ use Rattle.opening.specs.Followed.{AreWhole, IsFollowed, diverted_paths}
 use Rattle.info_format.specs.Seeing.{IsSeenAs}
 use Rattle.info_format.specs.Stage.{AreDamaged}
 use Rattle.opening.specs.Parts.{Part, Root, Records, Diversions, IsDamage, IsFine, IsTable, names_of}
-use Rattle.queries.specs.Files.{files_text, search_text}
+use Rattle.record_formats.specs.declared.layouts.Layout.{Layout}
+use Rattle.queries.specs.Files.{files_text, matching_text, search_text}
 use Rattle.queries.specs.Places.{diversions_text, truename_text}
 use Rattle.queries.specs.Records.{audit_text, list_text, status_text}
 use Rattle.queries.specs.Selections.{selections_text}
+use Rattle.queries.specs.declared.asked.Told.{Told}
 use Rattle.status_db.specs.Held.{HasRecords}
 use Rattle.status_records.specs.Records.{record_in}
 use Rattle.status_records.specs.declared.record.Record.{Record}
@@ -41,11 +43,11 @@ abbrev pub Sight : Type 0
 Sight = World → World
 
 -- the answers from the records that stand on a host
-abbrev pub IsList : State → List ℕ → Type 0
-IsList s text = (table : List Record) × Needs s (λ w. HasRecords w table) × (text ≡ list_text table)
+abbrev pub IsList : Layout → List (List ℕ) → State → Told → Type 0
+IsList layout patterns s told = (table : List Record) × Needs s (λ w. HasRecords w table) × (told ≡ list_text layout patterns table)
 
-abbrev pub AreSelections : State → List ℕ → Type 0
-AreSelections s text = (table : List Record) × Needs s (λ w. HasRecords w table) × (text ≡ selections_text table)
+abbrev pub AreSelections : List (List ℕ) → State → Told → Type 0
+AreSelections patterns s told = (table : List Record) × Needs s (λ w. HasRecords w table) × (told ≡ selections_text patterns table)
 
 abbrev pub IsStatus : List ℕ → State → Option (List ℕ) → Type 0
 IsStatus name s text = (table : List Record) × Needs s (λ w. HasRecords w table) × (text ≡ status_text table name)
@@ -78,6 +80,11 @@ HasFollowed table lists ways sight w = HasAll table lists ways.entries sight w �
 abbrev pub IsSearch : Path → State → List ℕ → Type 0
 IsSearch path s text =
     (table : List Record) × (lists : List PackageList) × (ways : Ways) × (sight : Sight) × Needs s (λ w. HasFollowed table lists ways sight w × IsWhole w path ways.aliases) × (text ≡ search_text ways lists (resolved ways.aliases path))
+
+-- and each listed path that matches a pattern, as it is listed
+abbrev pub IsMatching : List ℕ → State → List ℕ → Type 0
+IsMatching pattern s text =
+    (table : List Record) × (lists : List PackageList) × (entries : List Diversion) × (sight : Sight) × Needs s (HasAll table lists entries sight) × (text ≡ matching_text pattern table lists)
 
 abbrev pub IsAudit : State → List ℕ → Type 0
 IsAudit s text =

@@ -4,7 +4,7 @@ ghost use Rattle.host_core.specs.Host.{Counts, Needs, Reads, Silent};
 ghost use Rattle.administration.specs.Fault.{CountsAdministration};
 ghost use Rattle.host_overlay.specs.Seen.{seen};
 ghost use Rattle.opening.specs.Parts.{IsTable, fault_in};
-ghost use Rattle.inquiries.specs.Read.{AreFiles, AreListsDamaged, FindsAll, HasFollowed, HasSeenLists, IsAudit, IsFilesDamage, IsSearch};
+ghost use Rattle.inquiries.specs.Read.{AreFiles, AreListsDamaged, FindsAll, HasFollowed, HasSeenLists, IsAudit, IsFilesDamage, IsMatching, IsSearch};
 
 use crate::reading::{SeenAll, read_all, read_followed, read_records, read_seen};
 use administration::AdministrationFault;
@@ -12,7 +12,7 @@ use file_lists::FileLists;
 use host_core::{Host, HostFault, RootPath};
 use host_overlay::SeenNames;
 use opening::Opened;
-use queries::{audit_text, files_text, search_text};
+use queries::{audit_text, files_text, matching_text, search_text};
 use status_db::NotedDatabase;
 use std::alloc::Global;
 use texts::{Bytes, Text, Texts};
@@ -120,5 +120,23 @@ pub fn audit<H: Host>(alloc: Global, host: &mut H) -> Result<Bytes, Administrati
 {
     let all = read_all(alloc, host)?;
     let text = audit_text(alloc, &all.opened.database)?;
+    Ok(text)
+}
+
+/// The listed paths that match a pattern, each with its package. All is read, as for a path.
+pub fn search_matching<H: Host>(
+    alloc: Global,
+    host: &mut H,
+    pattern: &Text,
+) -> Result<Bytes, AdministrationFault>
+    ensures told { IfOk result (IsMatching pattern.now (H.state host.new)) }
+    ensures finds { IsTrue (H.state host.new).honest
+        → FindsAll (H.state host.old).world (fault_in result) }
+    ensures reads { Reads (H.state host.old) (H.state host.new) }
+    ensures silent { Silent (H.state host.old) (H.state host.new) }
+    ensures counts { CountsAdministration (H.state host.old) (H.state host.new) result }
+{
+    let all = read_all(alloc, host)?;
+    let text = matching_text(alloc, pattern, &all.opened.database, &all.opened.lists)?;
     Ok(text)
 }

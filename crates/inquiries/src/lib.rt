@@ -25,7 +25,7 @@ mod places;
 mod reading;
 mod records;
 
-pub use files::{audit, list_files, search};
+pub use files::{audit, list_files, search, search_matching};
 pub use glance::Glance;
 pub use places::{list_diversions, truename};
 pub use reading::{SeenAll, read_all, read_followed};

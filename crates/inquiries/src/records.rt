@@ -8,13 +8,19 @@ ghost use Rattle.inquiries.specs.Read.{AreSelections, IsList, IsStatus, records_
 use crate::reading::read_records;
 use administration::AdministrationFault;
 use host_core::Host;
-use queries::{list_text, selections_text, status_text};
+use queries::{Told, list_text, selections_text, status_text};
+use record_formats::Layout;
 use std::alloc::Global;
 use texts::{Bytes, Text};
 
-/// The packages with their versions and states.
-pub fn list<H: Host>(alloc: Global, host: &mut H) -> Result<Bytes, AdministrationFault>
-    ensures told { IfOk result (IsList (H.state host.new)) }
+/// The packages: those whose names match one of the patterns, or all without a pattern.
+pub fn list<H: Host>(
+    alloc: Global,
+    host: &mut H,
+    layout: &Layout,
+    patterns: &[Text],
+) -> Result<Told, AdministrationFault>
+    ensures told { IfOk result (IsList layout.now patterns.now (H.state host.new)) }
     ensures finds { IsTrue (H.state host.new).honest
         → Finds records_parts (H.state host.old).world (fault_in result) }
     ensures reads { Reads (H.state host.old) (H.state host.new) }
@@ -22,13 +28,18 @@ pub fn list<H: Host>(alloc: Global, host: &mut H) -> Result<Bytes, Administratio
     ensures counts { CountsAdministration (H.state host.old) (H.state host.new) result }
 {
     let database = read_records(alloc, host)?;
-    let text = list_text(alloc, &database)?;
-    Ok(text)
+    let told = list_text(alloc, layout, patterns, &database)?;
+    Ok(told)
 }
 
-/// What is wanted of the packages.
-pub fn selections<H: Host>(alloc: Global, host: &mut H) -> Result<Bytes, AdministrationFault>
-    ensures told { IfOk result (AreSelections (H.state host.new)) }
+/// What is wanted of the packages: of those whose names match one of the patterns, or of all without
+/// a pattern.
+pub fn selections<H: Host>(
+    alloc: Global,
+    host: &mut H,
+    patterns: &[Text],
+) -> Result<Told, AdministrationFault>
+    ensures told { IfOk result (AreSelections patterns.now (H.state host.new)) }
     ensures finds { IsTrue (H.state host.new).honest
         → Finds records_parts (H.state host.old).world (fault_in result) }
     ensures reads { Reads (H.state host.old) (H.state host.new) }
@@ -36,8 +47,8 @@ pub fn selections<H: Host>(alloc: Global, host: &mut H) -> Result<Bytes, Adminis
     ensures counts { CountsAdministration (H.state host.old) (H.state host.new) result }
 {
     let database = read_records(alloc, host)?;
-    let text = selections_text(alloc, &database)?;
-    Ok(text)
+    let told = selections_text(alloc, patterns, &database)?;
+    Ok(told)
 }
 
 /// The record of a package as the status file has it; none where it has no record.

@@ -22,9 +22,8 @@ use Rattle.opening.proofs.OneDiversions.{not_faulty}
 -- an entry of `info`
 
 not_whole : (names : List (List ℕ)) (entry : Path) (found : Option Node) → IsSound names entry found → IsFaultyWhole names entry found → ⊥
-not_whole names entry found sound (inl colon) = true≢false (sym colon.1 ∙ sound.colon colon.0)
-not_whole names entry found sound (inr (inl directory)) = sound.loose directory
-not_whole names entry found sound (inr (inr link)) = elim link.0 [ inl list ↦ subst IsReadable link.1.1 (sound.list list) | inr script ↦ sound.script script link.1 ]
+not_whole names entry found sound (inl directory) = sound.loose directory
+not_whole names entry found sound (inr link) = elim link.0 [ inl list ↦ subst IsReadable link.1.1 (sound.list list) | inr script ↦ sound.script script link.1 ]
 
 no_bad_line : (node : Option Node) (line : ℕ) → IsReadable node → HasBadLine node line → ⊥
 no_bad_line None line good bad = bad

@@ -9,3 +9,4 @@ pub mod Brought
 pub mod KeptLists
 pub mod Followed
 pub mod TakingUp
+mod OfOne

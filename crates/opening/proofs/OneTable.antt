@@ -120,7 +120,7 @@ not_faulty names l line name kept entry (inr field) = field.1.bad (all_at _ l.pa
 -- nor is a line of its text
 
 not_broken : (text : List ℕ) (rs : List Record) (paragraphs : List Located) (begun : Located) (fault : Option ControlFault) (line : ℕ) → IsStatus text rs → IsReadTo (lines_of text) paragraphs begun fault → IsFaultOf paragraphs begun fault line → ⊥
-not_broken text rs paragraphs begun (Some fault) line is read told = not_stuck (lines_of text) is.reads.0 _ fault is.reads.1 read
+not_broken text rs paragraphs begun (Some fault) line is read told = not_stuck (lines_of text) is.reads.0 read.0 fault is.reads.1 read.1
 not_broken text rs paragraphs begun None line is read (inl among) =
     let parted = map-append (λ (l : Located). l.paragraph) among.front (among.faulty ∷ among.rest) in
     let same = reads_once (lines_of text) is.paragraphs (paragraphs_of paragraphs) is.reads (read.0, read.1, ap paragraphs_of read.2) ∙ ap paragraphs_of among.is ∙ parted in
@@ -183,7 +183,7 @@ rest_not_broken [] begun (field ∷ fields) line none empty told = cc empty
 rest_not_broken [] begun [] line none empty told = let e : None ≡ Some told.0 = told.1 in cc e
 
 note_not_broken : (text : List ℕ) (note : Note) (paragraphs : List Located) (begun : Located) (fault : Option ControlFault) (line : ℕ) → IsNote text note → IsReadTo (lines_of text) paragraphs begun fault → IsFaultyNote paragraphs begun fault line → ⊥
-note_not_broken text note paragraphs begun (Some fault) line is read told = not_stuck (lines_of text) is.reads.0 _ fault is.reads.1 read
+note_not_broken text note paragraphs begun (Some fault) line is read told = not_stuck (lines_of text) is.reads.0 read.0 fault is.reads.1 read.1
 note_not_broken text note [] begun None line is read told =
     let same : is.fields ∷ [] ≡ [] = reads_once (lines_of text) (is.fields ∷ []) [] is.reads (read.0, read.1, ap paragraphs_of read.2) in
     cc same

@@ -1,19 +1,19 @@
 -- An opening that was broken off leaves what the next one reads.
-use Rattle.std.proofs.Common.{◌≡◌, ◌⊎◌, ◌∙◌, inl, inr, ℕ, true, false, codes, drop, List, [], ◌∷◌, ◌++◌, Option, Some, None, refl, sym, ap, subst}
+use Rattle.std.proofs.Common.{◌≡◌, ◌⊎◌, ◌∙◌, inl, inr, ℕ, zero, suc, true, false, codes, drop, List, [], ◌∷◌, ◌++◌, Option, Some, None, Contains, refl, sym, ap, subst, arith}
 use Rattle.std.specs.Prelude.{IsSome}
 use Rattle.std.specs.List.{AllByRecursion}
-use Rattle.std.specs.Str.{IsUtf8}
 use Rattle.std.proofs.lemmas.Bool.{false≢true, true≢false}
-use Rattle.std.proofs.lemmas.Str.{IsUtf8-from_ascii}
 use Rattle.std.proofs.Props.{props}
 use Rattle.std.proofs.Math.Logic.{∥∥₁_elim, ∥∥₁_prop}
 use Rattle.host_core.proofs.Nodes.{none_stands}
 use Rattle.host_core.specs.Paths.{Path}
 use Rattle.host_core.specs.World.{World, IsDirectory, IsLoose, KeepsBut}
-use Rattle.host_core.specs.Tree.{IsOdd, has_slash}
+use Rattle.host_core.specs.Outcome.{script_name}
+use Rattle.host_core.specs.declared.call.Script.{Script}
+use Rattle.host_core.specs.declared.call.Script.TheVariants.{Preinst, Postinst, Prerm, Postrm}
 use Rattle.host_core.specs.declared.node.Node.{Node}
-use Rattle.host_core.specs.declared.node.Node.TheVariants.{File, Dir, Link}
-use Rattle.texts.proofs.PackageNames.{signs_ascii}
+use Rattle.host_core.specs.declared.node.Node.TheVariants.{Link}
+use Rattle.texts.specs.PackageNames.{is_package_name}
 use Rattle.administration.specs.Directories.{HasBadName}
 use Rattle.administration.specs.Files.{NoDirectory}
 use Rattle.administration.specs.Places.{home_path, info_path, status_path, diversions_path, updates_path, tmp_path, list_path, temporary, is_within}
@@ -38,14 +38,16 @@ use Rattle.adopted_conffiles.specs.Adopted.{all_adopted}
 use Rattle.adopted_conffiles.specs.Adopting.{IsAdopting}
 use Rattle.adopted_conffiles.proofs.Taken.{names_partly, standing_partly}
 use Rattle.status_db.proofs.NotedWorlds.{records_same}
-use Rattle.info_format.specs.Converting.{IsLeft, IsNamed, IsNamesDamage, IsUntold}
-use Rattle.info_format.specs.Format.{format_path, is_one, says_one}
-use Rattle.info_format.specs.Names.{Architectures, AreTwo, architectures, are_ending_signs}
-use Rattle.info_format.specs.Stage.{AreDamaged, AreShort, IsNaming}
-use Rattle.info_format.proofs.Two.{has_dot, short_none}
+use Rattle.info_format.specs.Converting.{IsNamed, IsInWriting}
+use Rattle.info_format.specs.Format.{IsNamesFault, format_path, is_one, says_one}
+use Rattle.info_format.specs.Names.{Architectures, AreTwo, architectures, are_ending_signs, long_front}
+use Rattle.info_format.specs.Stage.{AreDamaged, AreReadShort, AreShort, HaveShortNames, IsNaming}
+use Rattle.info_format.proofs.Doubles.{LongStood, ShortStood, names_by, read_by}
+use Rattle.info_format.proofs.Fits.{alike_loose}
+use Rattle.info_format.proofs.Two.{has_dot, long_other, short_names, short_none}
 use Rattle.opening.specs.TakenUp.{ArePartlyTakenUp, IsOpeningOrAdopting}
 use Rattle.opening.specs.Leaving.{IsOpening, IsOpeningOrMerging, IsReading, is_way, lib_path, root_path, var_path}
-use Rattle.opening.specs.Parts.{Part, Root, Way, Records, Spare, Info, Diversions, Leftovers, IsFirstFault, names_of, parts}
+use Rattle.opening.specs.Parts.{Part, Root, Way, Records, Spare, Info, Diversions, Leftovers, IsFirstFault, IsTable, names_of, parts}
 use Rattle.opening.specs.Undamaged.{HasNoFault, IsUndamaged}
 use Rattle.opening.proofs.KeptLists.{has_lists_kept}
 use Rattle.opening.proofs.OneTable.{one_holding, one_records, records_not_damaged}
@@ -114,6 +116,19 @@ info_damaged_at names file line u v same (inr first) = inr (
     first = λ lesser plain before. subst (IsSound names lesser) (sym (same lesser)) (first.1.first lesser plain before);
   },
 )
+
+-- where the same entries stand they are read by the same names
+long_same : (u v : World) → ((entry : Path) → v (entry_path entry) ≡ u (entry_path entry)) → LongStood u v
+long_same u v same arches long short two some = ap v two.long_is ∙ same (long_front two.name two.architecture ++ 46 ∷ two.ending) ∙ sym (ap u two.long_is)
+
+short_same : (u v : World) → ((entry : Path) → v (entry_path entry) ≡ u (entry_path entry)) → ShortStood u v
+short_same u v same arches long short two some = ap v two.short_is ∙ same (two.name ++ 46 ∷ two.ending) ∙ sym (ap u two.short_is)
+
+pub names_same : (u v : World) → ((entry : Path) → v (entry_path entry) ≡ u (entry_path entry)) → HaveShortNames u → HaveShortNames v
+names_same u v same short = names_by u v (long_same u v same) short
+
+pub read_same : (u v : World) → ((entry : Path) → v (entry_path entry) ≡ u (entry_path entry)) → AreReadShort u → AreReadShort v
+read_same u v same read = read_by u v (long_same u v same) (short_same u v same) (λ none. same (codes "format") ∙ none) read
 
 -- while directories are made and leftovers removed
 
@@ -209,7 +224,7 @@ module _ (u v : World) (opening : IsOpening u v) where
         ),
       ),
     );
-    short = λ entry plain some. whole.short entry plain (subst IsSome (same_outside (entry_path entry) refl refl) some);
+    short = read_same u v (λ entry. same_outside (entry_path entry) refl refl) whole.short;
     leftovers = λ name plain. no_directory_left (tmp_path ++ 47 ∷ name) refl (whole.leftovers name plain);
   }
 
@@ -278,7 +293,7 @@ module _ (u v : World) (rest : KeepsBut is_record_place u v) (opens : CanOpenRec
         ),
       ),
     );
-    short = λ entry plain some. whole.short entry plain (subst IsSome (rest (entry_path entry) refl) some);
+    short = read_same u v (λ entry. rest (entry_path entry) refl) whole.short;
     leftovers = λ name plain. no_directory_at (v (tmp_path ++ 47 ∷ name)) (u (tmp_path ++ 47 ∷ name)) (rest (tmp_path ++ 47 ∷ name) refl) (whole.leftovers name plain);
   }
 
@@ -335,29 +350,45 @@ no_dir node one is = false≢true (ap says_one (sym is.1) ∙ one)
 
 format_sound : (names : List (List ℕ)) (node : Option Node) → says_one node ≡ true → IsSound names (codes "format") node
 format_sound names node one = record {
-  colon = λ some. refl;
   loose = no_dir node one;
   list = λ of. absurd (no_list names of);
   script = λ of link. no_link node link.0 one link.1;
 }
 
-format_text : IsOdd info_path (codes "format") → ⊥
-format_text (inl no_text) = no_text (IsUtf8-from_ascii (codes "format") (signs_ascii (codes "format") refl))
-format_text (inr no_path) = true≢false no_path
-
 nothing_sound : (names : List (List ℕ)) (entry : Path) → IsSound names entry None
 nothing_sound names entry = record {
-  colon = λ some. absurd (false≢true some);
   loose = no_directory_none;
   list = λ of. tt;
   script = λ of link. absurd (let e : None ≡ Some (Link link.0) = link.1 in cc e);
 }
 
 no_fault_of_none : (names : List (List ℕ)) (entry : Path) (line : ℕ) → HasFault names entry None line → ⊥
-no_fault_of_none names entry line (inl (inl colon, zero)) = false≢true colon.0
-no_fault_of_none names entry line (inl (inr (inl directory), zero)) = no_directory_none directory
-no_fault_of_none names entry line (inl (inr (inr link), zero)) = absurd (let e : None ≡ Some (Link link.1.0) = link.1.1 in cc e)
+no_fault_of_none names entry line (inl (inl directory, whole)) = no_directory_none directory
+no_fault_of_none names entry line (inl (inr link, whole)) = absurd (let e : None ≡ Some (Link link.1.0) = link.1.1 in cc e)
 no_fault_of_none names entry line (inr (whole, of, bad)) = bad
+
+-- a file at a name with an architecture is neither the list of a package nor a script of one
+script_ending : (script : Script) → are_ending_signs (script_name script) ≡ true
+script_ending Preinst = refl
+script_ending Postinst = refl
+script_ending Prerm = refl
+script_ending Postrm = refl
+
+long_sound : (names : List (List ℕ)) (entry : Path) (arches : Architectures) (short : Path) (node : Option Node) → ((name : List ℕ) → Contains names name → is_package_name name ≡ true) → AreTwo arches (entry_path entry) short → IsLoose node → IsSound names entry node
+long_sound names entry arches short node named two loose = record {
+  loose = loose.1;
+  list = λ of. absurd (long_other arches (entry_path entry) short two of.0 (codes "list") (named of.0 of.1) refl (ap entry_path of.2));
+  script = λ of link. long_other arches (entry_path entry) short two of.1 (script_name of.0) (named of.1 of.2) (script_ending of.0) (ap entry_path of.3);
+}
+
+each_named : (table : List Record) (name : List ℕ) → Contains (names_of table) name → is_package_name name ≡ true
+each_named [] name has = absurd (omega (arith, has.1))
+each_named (r ∷ rs) name (zero, lt, e) = subst (λ (n : List ℕ). is_package_name n ≡ true) e (∥∥₁_elim r.writable (hlevel props) (λ known. known.named))
+each_named (r ∷ rs) name (suc k, lt, e) = each_named rs name (k, omega (arith, lt), e)
+
+-- what went: what tells of format 1, or a file at a name with an architecture
+abbrev HasGone : World → World → Path → Type 0
+HasGone old begun q = (begun q ≡ None) × (((q ≡ format_path) × (is_one old ≡ true)) ⊎ ((arches : Architectures) × (short : Path) × AreTwo arches q short × IsLoose (old q)))
 
 module _ (old begun : World) (naming : IsNaming old begun) where
   -- what is no entry of the directory stands as before
@@ -368,19 +399,29 @@ module _ (old begun : World) (naming : IsNaming old begun) where
       | inl same ↦ same
       | inr (inl untold) ↦ absurd (other (codes "format") untold.0)
       | inr (inr (inl left)) ↦ absurd (other _ left.1.long_is)
-      | inr (inr (inr given)) ↦ absurd (other _ given.1.1.short_is)
+      | inr (inr (inr (inl given))) ↦ absurd (other _ given.1.1.short_is)
+      | inr (inr (inr (inr writing))) ↦ absurd (other _ (writing.1.3 ∙ ap temporary writing.1.2.short_is))
     ]
   ]
 
-  -- and an entry too, but what tells of format 1, where no name has an architecture
-  pub named_short : AreShort old → (q : Path) → (begun q ≡ old q) ⊎ IsUntold q old begun
-  named_short short q = elim naming [
+  not_given : AreReadShort old → (arches : Architectures) (q : Path) → IsNamed arches q old begun → ⊥
+  not_given (inl short) arches q given = short arches (given.1.0, q, given.1.1, given.1.2.0)
+  not_given (inr (none, doubles)) arches q given = false≢true (sym (ap says_one none) ∙ given.0)
+
+  not_writing : AreReadShort old → (arches : Architectures) (q : Path) → IsInWriting arches q old begun → ⊥
+  not_writing (inl short) arches q writing = short arches (writing.1.0, writing.1.1, writing.1.2, writing.1.4.0)
+  not_writing (inr (none, doubles)) arches q writing = false≢true (sym (ap says_one none) ∙ writing.0)
+
+  -- and an entry too, but what goes, where no control file is read by a name with an architecture
+  pub named_short : AreReadShort old → (q : Path) → (begun q ≡ old q) ⊎ HasGone old begun q
+  named_short read q = elim naming [
     | inl same ↦ inl (ap (λ (w : World). w q) same)
     | inr is ↦ elim (is.2.each q) [
       | inl same ↦ inl same
-      | inr (inl untold) ↦ inr untold
-      | inr (inr (inl left)) ↦ absurd (short_none (architectures is.0) old short q left.0 left.1 left.2.0)
-      | inr (inr (inr given)) ↦ absurd (short_none (architectures is.0) old short given.1.0 q given.1.1 given.1.2.0)
+      | inr (inl untold) ↦ inr (untold.2, inl (untold.0, untold.1))
+      | inr (inr (inl left)) ↦ inr (left.3, inr (architectures is.0, left.0, left.1, alike_loose (old q) (begun left.0) left.2))
+      | inr (inr (inr (inl given))) ↦ absurd (not_given read (architectures is.0) q given)
+      | inr (inr (inr (inr writing))) ↦ absurd (not_writing read (architectures is.0) q writing)
     ]
   ]
 
@@ -401,51 +442,53 @@ module _ (old begun : World) (naming : IsNaming old begun) where
   diverted_named : (entries : List Diversion) → HasDiversions old entries → HasDiversions begun entries
   diverted_named entries has = subst (λ (found : Option Node). HasEntries found entries) (sym (named_outside diversions_path refl)) has
 
-  module _ (short : AreShort old) where
+  module _ (read : AreReadShort old) where
     -- what stands stood before
     pub stood_before : (q : Path) → IsSome (begun q) → begun q ≡ old q
-    stood_before q some = elim (named_short short q) [ inl same ↦ same | inr untold ↦ absurd (none_stands (begun q) untold.2 some) ]
+    stood_before q some = elim (named_short read q) [ inl same ↦ same | inr gone ↦ absurd (none_stands (begun q) gone.0 some) ]
 
     pub sound_named : (names : List (List ℕ)) (entry : Path) → IsSound names entry (old (entry_path entry)) → IsSound names entry (begun (entry_path entry))
-    sound_named names entry sound = elim (named_short short (entry_path entry)) [
+    sound_named names entry sound = elim (named_short read (entry_path entry)) [
       | inl same ↦ subst (IsSound names entry) (sym same) sound
-      | inr untold ↦ subst (IsSound names entry) (sym untold.2) (nothing_sound names entry)
+      | inr gone ↦ subst (IsSound names entry) (sym gone.0) (nothing_sound names entry)
     ]
 
-    sound_before : (names : List (List ℕ)) (entry : Path) → IsSound names entry (begun (entry_path entry)) → IsSound names entry (old (entry_path entry))
-    sound_before names entry sound = elim (named_short short (entry_path entry)) [
-      | inl same ↦ subst (IsSound names entry) same sound
-      | inr untold ↦ subst (λ (e : Path). IsSound names e (old (entry_path e))) (sym (ap (λ (l : Path). drop 19 l) untold.0)) (format_sound names (old format_path) untold.1)
-    ]
+    gone_sound : (names : List (List ℕ)) (entry : Path) → ((name : List ℕ) → Contains names name → is_package_name name ≡ true) → HasGone old begun (entry_path entry) → IsSound names entry (old (entry_path entry))
+    gone_sound names entry named (none, inl format) =
+        subst (λ (e : Path). IsSound names e (old (entry_path e))) (sym (ap (λ (l : Path). drop 19 l) format.0)) (format_sound names (old format_path) format.1)
+    gone_sound names entry named (none, inr long) = long_sound names entry long.0 long.1 (old (entry_path entry)) named long.2 long.3
 
-    bad_before : HasBadName old info_path → HasBadName begun info_path
-    bad_before (name, plain, odd, some) = elim (named_short short (info_path ++ 47 ∷ name)) [
-      | inl same ↦ (name, plain, odd, subst IsSome (sym same) some)
-      | inr untold ↦ absurd (format_text (subst (IsOdd info_path) (ap (λ (l : Path). drop 19 l) untold.0) odd))
-    ]
+    sound_before : (names : List (List ℕ)) (entry : Path) → ((name : List ℕ) → Contains names name → is_package_name name ≡ true) → IsSound names entry (begun (entry_path entry)) → IsSound names entry (old (entry_path entry))
+    sound_before names entry named sound = elim (named_short read (entry_path entry)) [ inl same ↦ subst (IsSound names entry) same sound | inr gone ↦ gone_sound names entry named gone ]
 
-    info_before : (names : List (List ℕ)) (file : Path) (line : ℕ) → IsInfoDamage begun names (Damaged file line) → IsInfoDamage old names (Damaged file line)
-    info_before names file line (inl bad) = inl (bad_name_at info_path begun old (λ name some. sym (stood_before (info_path ++ 47 ∷ name) some)) bad.0, bad.1, bad.2)
-    info_before names file line (inr (text, first)) = inr (
-      (λ bad. text (bad_before bad)),
+    info_before : (names : List (List ℕ)) (file : Path) (line : ℕ) → ((name : List ℕ) → Contains names name → is_package_name name ≡ true) → (HasBadName old info_path → ⊥) → IsInfoDamage begun names (Damaged file line) → IsInfoDamage old names (Damaged file line)
+    info_before names file line named old_text (inl bad) = inl (bad_name_at info_path begun old (λ name some. sym (stood_before (info_path ++ 47 ∷ name) some)) bad.0, bad.1, bad.2)
+    info_before names file line named old_text (inr (text, first)) = inr (
+      old_text,
       record {
         entry = first.entry;
         plain = first.plain;
         is = first.is;
-        fault = elim (named_short short (entry_path first.entry)) [
+        fault = elim (named_short read (entry_path first.entry)) [
           | inl same ↦ subst (λ (found : Option Node). HasFault names first.entry found line) same first.fault
-          | inr untold ↦ absurd (no_fault_of_none names first.entry line (subst (λ (found : Option Node). HasFault names first.entry found line) untold.2 first.fault))
+          | inr gone ↦ absurd (no_fault_of_none names first.entry line (subst (λ (found : Option Node). HasFault names first.entry found line) gone.0 first.fault))
         ];
-        first = λ lesser plain before. sound_before names lesser (first.first lesser plain before);
+        first = λ lesser plain before. sound_before names lesser named (first.first lesser plain before);
       },
     )
 
-    lists_named : (names : List (List ℕ)) (lists : List PackageList) → HasLists old names lists → HasLists begun names lists
-    lists_named names lists has = has_lists_kept old begun names lists (λ name known. at name (named_short short (list_path name))) has
-      where
-        at : (name : List ℕ) → (begun (list_path name) ≡ old (list_path name)) ⊎ IsUntold (list_path name) old begun → begun (list_path name) ≡ old (list_path name)
-        at name (inl same) = same
-        at name (inr untold) = absurd (true≢false (ap are_ending_signs (sym (ap (λ (l : Path). drop 19 l) untold.0)) ∙ has_dot name (codes "list")))
+  pub still_read : AreReadShort old → AreReadShort begun
+  still_read read =
+      read_by old begun (λ arches long short two some. stood_before read long some) (λ arches long short two some. stood_before read short some)
+      (λ none. elim (named_short read format_path) [ inl same ↦ same ∙ none | inr gone ↦ gone.0 ]) read
+
+  lists_named : AreShort old → (names : List (List ℕ)) (lists : List PackageList) → HasLists old names lists → HasLists begun names lists
+  lists_named short names lists has = has_lists_kept old begun names lists (λ name known. at name (named_short (inl (short_names old short)) (list_path name))) has
+    where
+      at : (name : List ℕ) → (begun (list_path name) ≡ old (list_path name)) ⊎ HasGone old begun (list_path name) → begun (list_path name) ≡ old (list_path name)
+      at name (inl same) = same
+      at name (inr (none, inl format)) = absurd (true≢false (ap are_ending_signs (sym (ap (λ (l : Path). drop 19 l) format.0)) ∙ has_dot name (codes "list")))
+      at name (inr (none, inr long)) = absurd (short_none long.0 old short (list_path name) long.1 long.2 long.3.0)
 
   way_named : (path : Path) → begun path ≡ old path → HasNoFault old (Way path) → HasNoFault begun (Way path)
   way_named path same none file line faulty = none file line (faulty.0, faulty.1, subst IsLoose same faulty.2)
@@ -459,12 +502,11 @@ module _ (old begun : World) (naming : IsNaming old begun) where
   alike_back : AreAlike begun old
   alike_back = record { status = sym alike.status; note = λ n. sym (alike.note n); spare = λ n. sym (alike.spare n); names = λ name. sym (alike.names name) }
 
-  info_named : AreShort old → HasNoFault old Info → HasNoFault begun Info
-  info_named short none file line faulty = none file line (
-    faulty.0,
-    record { records = records_same begun old faulty.0 alike_back.status (λ n lt. alike_back.note n) faulty.1.records; standing = faulty.1.standing },
-    info_before short (names_of faulty.0) file line faulty.2,
-  )
+  info_named : AreReadShort old → HasNoFault old Info → HasNoFault begun Info
+  info_named read none file line faulty = none file line (faulty.0, table, info_before read (names_of faulty.0) file line (each_named faulty.0) (λ bad. none info_path 0 (faulty.0, table, inl (bad, refl, refl))) faulty.2)
+    where
+      table : IsTable old faulty.0
+      table = record { records = records_same begun old faulty.0 alike_back.status (λ n lt. alike_back.note n) faulty.1.records; standing = faulty.1.standing }
 
   diversions_named : HasNoFault old Diversions → HasNoFault begun Diversions
   diversions_named none file line faulty = none file line (faulty.0, subst (λ (found : Option Node). IsDamageAt found line) (named_outside diversions_path refl) faulty.1)
@@ -513,14 +555,21 @@ module _ (old begun : World) (naming : IsNaming old begun) where
             ),
           ),
         );
-        short = λ entry plain some. whole.short entry plain (subst IsSome (stood_before whole.short (entry_path entry) some) some);
+        short = still_read whole.short;
         leftovers = λ name plain. no_directory_at (begun (tmp_path ++ 47 ∷ name)) (old (tmp_path ++ 47 ∷ name)) (left_named name) (whole.leftovers name plain);
       }
 
--- what has no name with an architecture has no such damage
+-- where no control file is read by a name with an architecture there is no such damage
+names_fault : (arches : Architectures) (w : World) (file : Path) → AreReadShort w → IsNamesFault arches w file → ⊥
+names_fault arches w file (inl short) (inl odd) = short arches odd.3
+names_fault arches w file (inl short) (inr (inl clash)) = short arches (file, clash.1.0, clash.1.1, clash.1.2)
+names_fault arches w file (inl short) (inr (inr other)) = short arches (file, other.1.0, other.1.1, other.1.2)
+names_fault arches w file (inr (none, doubles)) (inl odd) = none_stands (w format_path) none odd.1
+names_fault arches w file (inr (none, doubles)) (inr (inl clash)) = false≢true (sym (ap says_one none) ∙ clash.0)
+names_fault arches w file (inr (none, doubles)) (inr (inr other)) = other.1.4 (doubles arches file other.1.0 other.1.1 other.1.2 other.1.3)
+
 pub names_found : (w : World) (file : Path) (line : ℕ) → IsUndamaged w → AreDamaged w (Damaged file line) → ⊥
-names_found w file line whole (table, has, (zero, inl odd)) = short_none (architectures table) w whole.short odd.3.0 odd.3.1 odd.3.2 odd.3.3
-names_found w file line whole (table, has, (zero, inr clash)) = short_none (architectures table) w whole.short file clash.1.0 clash.1.1 clash.1.2
+names_found w file line whole (table, has, (whole_file, fault)) = names_fault (architectures table) w file whole.short fault
 
 -- an opening, and the merging after it
 

@@ -1,5 +1,5 @@
 -- Records are taken up behind an opening.
-use Rattle.std.proofs.Common.{◌≡◌, ℕ, Bool, IsTrue, List, [], ◌∷◌, ◌++◌, Option, Some, None, Result, Ok, Err, map, refl, sym, ap, subst, ◌∙◌, append-nil}
+use Rattle.std.proofs.Common.{◌≡◌, ℕ, Bool, IsTrue, List, [], ◌∷◌, ◌++◌, Option, Some, None, Result, Ok, Err, inl, inr, map, refl, sym, ap, subst, ◌∙◌, append-nil}
 use Rattle.std.specs.Prelude.{IfOk, IsSome, OnOk}
 use Rattle.host_core.specs.World.{World, IsDirectory, KeepsBut}
 use Rattle.host_core.specs.Host.{AtEachMoment, Falls, Since, State}
@@ -26,7 +26,8 @@ use Rattle.opening.specs.Followed.{IsFollowed}
 use Rattle.opening.specs.Leaving.{IsOpeningOrMerging}
 use Rattle.opening.specs.Opened.{IsFound, IsListed, IsOpened}
 use Rattle.opening.specs.Parts.{IsDamaged, OpensAndMerges, fault_in, names_of}
-use Rattle.opening.specs.TakenUp.{HasTakenUp, IsOpeningOrAdopting, IsTakenUp, OpensAndAdopts}
+use Rattle.opening.specs.Architectures.{AreOfOne}
+use Rattle.opening.specs.TakenUp.{HasTakenUp, IsOpeningOrAdopting, IsShut, IsTakenUp, OpensAndAdopts}
 use Rattle.opening.specs.declared.open.Opened.{Opened as AnOpened}
 use Rattle.opening.proofs.KeptLists.{has_lists_kept}
 
@@ -103,23 +104,24 @@ moments_adopted ways table lists a b c opened falls first second =
     (since_weaker_if (λ so_far. IsAdopting ways table b.world) (λ so_far. IsOpeningOrAdopting a.world) b c
     (λ h so_far w is. IsOpeningOrAdopting.adopting b.world ways table lists (since_now (λ so_far. IsOpeningOrMerging a.world) a b first (falls h)) (opened (falls h)) is) second)
 
-pub opens_taken : (fault : Option AdministrationFault) (ways : Ways) (table : List Record) (u v w : World) → OpensAndMerges None u v → (IsDamaged fault → ⊥) → HasRecords v table → IsAdopting ways table v w → OpensAndAdopts fault u w
-opens_taken fault ways table u v w opens sound records is = record {
+pub opens_taken : (fault : Option AdministrationFault) (ways : Ways) (table : List Record) (u v w : World) → OpensAndMerges None u v → (IsDamaged fault → ⊥) → HasRecords v table → AreOfOne table → IsAdopting ways table v w → OpensAndAdopts fault u w
+opens_taken fault ways table u v w opens sound records one is = record {
   read = v;
   found = None;
   opens = opens;
-  takes = record { sound = sound; ways = ways; table = table; records = records; adopting = is };
+  takes = inr (record { sound = sound; ways = ways; table = table; records = records; one = one; adopting = is });
 }
 
-pub opens_refused : (fault : AdministrationFault) (u v : World) → OpensAndMerges (Some fault) u v → OpensAndAdopts (Some fault) u v
-opens_refused fault u v opens = record { read = v; found = Some fault; opens = opens; takes = (refl, refl) }
+pub opens_refused : (fault : AdministrationFault) (u v : World) → IsShut fault u v → OpensAndAdopts (Some fault) u v
+opens_refused fault u v (inl opens) = record { read = v; found = Some fault; opens = opens; takes = (refl, refl) }
+opens_refused fault u v (inr two) = record { read = two.0; found = None; opens = two.1; takes = inl two.2 }
 
 -- what is answered
 
 pub taken_up : (result : Result AnOpened AdministrationFault) (opened : AnOpened) (u v w : World) → OpensAndMerges None u v → IsOpened opened.database.records opened.lists.lists opened.diversions.ways.entries v → IsFollowed opened.lists.lists opened.diversions.ways v
-    → IfOk result (λ kept. kept.lists ≡ opened.lists) → IfOk result (λ kept. kept.diversions ≡ opened.diversions) → IfOk result (λ kept. kept.database.records ≡ all_adopted v opened.diversions.ways opened.database.records)
+    → AreOfOne opened.database.records → IfOk result (λ kept. kept.lists ≡ opened.lists) → IfOk result (λ kept. kept.diversions ≡ opened.diversions) → IfOk result (λ kept. kept.database.records ≡ all_adopted v opened.diversions.ways opened.database.records)
     → OnOk result (all_taken v opened.diversions.ways opened.database.records ≡ [] → w ≡ v) → OnOk result (KeepsBut is_record_place v w) → IfOk result (λ kept. IsTakenUp kept.database.records kept.lists.lists kept.diversions.ways u w)
-taken_up (Ok kept) opened u v w opens is followed lists diversions are still rest =
+taken_up (Ok kept) opened u v w opens is followed one lists diversions are still rest =
     rw (lists, diversions)
-    (record { read = v; before = opened.database.records; opens = opens; opened = is; followed = followed; are = are; still = still; rest = rest })
-taken_up (Err fault) opened u v w opens is followed lists diversions are still rest = tt
+    (record { read = v; before = opened.database.records; opens = opens; opened = is; followed = followed; one = one; are = are; still = still; rest = rest })
+taken_up (Err fault) opened u v w opens is followed one lists diversions are still rest = tt

@@ -4,4 +4,5 @@ pub mod Undamaged
 pub mod Opened
 pub mod Followed
 pub mod Stopped
+pub mod Architectures
 pub mod TakenUp

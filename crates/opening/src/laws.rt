@@ -28,8 +28,8 @@ pub fn what_is_fine_has_no_fault()
 
 /// An opening of an administration that isn't damaged changes none of its records, lists and
 /// diversions, wherever it is broken off, but for records that it takes up, and the next opening finds no
-/// damage. Of lists this is said where no name in `info/` has an architecture: those that have one get their
-/// lists at other names.
+/// damage. Of lists this is said, whatever the names of packages are, where no name in `info/` has an architecture:
+/// those that have one get their lists at other names, or go.
 pub fn a_stopped_opening_can_be_opened()
     ensures undamaged { (old now : World)
         → IsOpeningOrAdopting old now

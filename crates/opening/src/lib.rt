@@ -17,7 +17,8 @@
 //! diversion and those in the usual directories are followed to where they lead in the world
 //! (`followed`, specs/Followed). It only looks.
 //!
-//! `open_adopted` is what a command opens with: behind all that it takes up the conffiles that another
+//! `open_adopted` is what a command opens with: behind all that it is refused where records are of
+//! packages of two architectures (specs/Architectures), which is told as damage of the status file; else it takes up the conffiles that another
 //! program unpacked (adopted_conffiles, specs/TakenUp). The records that it answers are those of the
 //! administration as they are taken up, and only they have changed (`taken_up`).
 //!
@@ -26,6 +27,7 @@
 #![tactic(auto)]
 
 mod adopting;
+mod architectures;
 mod following;
 mod laws;
 mod open;

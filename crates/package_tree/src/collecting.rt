@@ -13,8 +13,8 @@ use std::alloc::{AllocError, Global};
 // The most paths that a tree may ship.
 const MOST_PATHS: usize = 65_536;
 
-// The most bytes of a shipped file: 64 MiB.
-const MOST_BYTES: usize = 67_108_864;
+// The most bytes of a shipped file: 1 GiB.
+const MOST_BYTES: usize = 1_073_741_824;
 
 fn is_large(node: &Option<Node>) -> bool
     ensures { MatchBool result (IsLarge node.now) (IsLarge node.now → ⊥) }

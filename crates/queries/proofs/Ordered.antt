@@ -6,7 +6,7 @@ use Rattle.std.specs.Cmp.Lexicographic.{slice_cmp}
 use Rattle.std.proofs.lemmas.List.{map-append, take-map, drop-map, drop_more}
 use Rattle.status_records.specs.declared.record.Record.{Record}
 use Rattle.status_records.specs.Records.{place_record}
-use Rattle.queries.specs.Records.{by_name}
+use Rattle.queries.specs.Asked.{by_name}
 
 -- the records themselves
 abbrev pub shown : List (Bor Record) → List Record

@@ -1,4 +1,5 @@
 pub mod Paths
+pub mod Asked
 pub mod Records
 pub mod Files
 pub mod Places

@@ -6,7 +6,8 @@ use Rattle.status_records.specs.Words.{want_word}
 use Rattle.status_records.specs.declared.record.Record.{Record}
 use Rattle.status_records.specs.declared.words.Want.{Want}
 use Rattle.status_records.specs.declared.words.Want.TheVariants.{Unknown, Install, Hold, Deinstall, Purge}
-use Rattle.queries.specs.Records.{by_name}
+use Rattle.queries.specs.Asked.{told_of}
+use Rattle.queries.specs.declared.asked.Told.{Told}
 
 -- The word stands in column 48, tabs of eight columns before it, behind a name with room for one of them; else one tab does.
 abbrev pub tabs_behind : List ℕ → List ℕ
@@ -28,6 +29,6 @@ is_wanted Purge = true
 abbrev pub selection_lines : Record → List ℕ
 selection_lines r = if is_wanted r.want then selection_line r else []
 
--- the lines of all such packages
-abbrev pub selections_text : List Record → List ℕ
-selections_text records = flat_map selection_lines (by_name records)
+-- the lines of all such packages, of those whose names match
+abbrev pub selections_text : List (List ℕ) → List Record → Told
+selections_text patterns records = told_of (flat_map selection_lines) patterns records

@@ -12,13 +12,15 @@
 //! diversions.
 #![tactic(auto)]
 
+mod asked;
 mod files;
 mod paths;
 mod places;
 mod records;
 mod selections;
 
-pub use files::{files_text, search_text};
+pub use asked::Told;
+pub use files::{files_text, matching_text, search_text};
 pub use paths::path_text;
 pub use places::{diversions_text, truename_text};
 pub use records::{audit_text, is_settled, list_text, status_text};

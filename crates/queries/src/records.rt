@@ -1,12 +1,16 @@
 // What is told of the records.
-ghost use Rattle.std.specs.Prelude.{◌≡◌, ◌≤◌, ◌++◌, IfOk, OnOk, List, length, map, string_bytes};
+ghost use Rattle.std.specs.Prelude.{◌≡◌, ◌≤◌, ◌++◌, IfOk, OnOk, List, length, map, option_copied, string_bytes};
 ghost use Rattle.std.specs.Cmp.Lexicographic.{slice_cmp};
 ghost use Rattle.std.specs.List.{flat_map, insert};
 ghost use Rattle.std.specs.Ordering.{is_lt, nat_cmp};
 ghost use Rattle.status_records.specs.Records.{place_record};
 ghost use Rattle.status_records.specs.declared.record.Record.{Record as ARecord};
-ghost use Rattle.queries.specs.Records.{audit_line, audit_lines, audit_text, by_name, is_done, is_final, is_settled, list_line, list_text, reinstreq_mark, status_text};
+ghost use Rattle.queries.specs.Asked.{by_name};
+ghost use Rattle.queries.specs.Records.{audit_line, audit_lines, audit_text, is_done, is_final, is_settled, list_line, list_text, reinstreq_mark, status_text, told_in};
 
+use crate::asked::{Told, asked, unfound};
+use record_formats::{Layout, formatted_text, table_text};
+use recorded_packages::{is_foreign, root_of};
 use shown_lines::line;
 use status_db::NotedDatabase;
 use status_records::{Flag, Record, State, record_text};
@@ -89,15 +93,52 @@ fn add_list(alloc: Global, lines: &mut String, entries: &[&Record]) -> Result<()
     Ok(())
 }
 
-/// The packages that have a record, in the order of their names: version and state, and
-/// `reinstreq` where a package has to be installed again.
-pub fn list_text(alloc: Global, database: &NotedDatabase) -> Result<Bytes, AllocError>
-    ensures { IfOk result (λ text. text ≡ list_text database.now.records) }
+fn lines_text(alloc: Global, entries: &[&Record]) -> Result<Bytes, AllocError>
+    ensures { IfOk result (λ text. text ≡ flat_map list_line (map (λ r. r.now) entries.now)) }
 {
-    let ordered = by_name(alloc, database.records())?;
     let mut lines = String::new(alloc);
-    add_list(alloc, &mut lines, ordered.as_slice())?;
+    add_list(alloc, &mut lines, entries)?;
     Ok(Bytes::new(lines.into_bytes()))
+}
+
+// Packages of a root of this architecture, as they are told.
+fn told_in(
+    alloc: Global,
+    layout: &Layout,
+    root: Option<&str>,
+    entries: &[&Record],
+) -> Result<Bytes, AllocError>
+    ensures { IfOk result (λ text. text ≡ told_in layout.now (option_copied root.entry)
+        (map (λ r. r.now) entries.now)) }
+{
+    match layout {
+        Layout::Lines => lines_text(alloc, entries),
+        Layout::Table => table_text(alloc, root, entries),
+        Layout::Format(pieces) => formatted_text(alloc, root, pieces, entries),
+    }
+}
+
+/// The packages that have a record and whose names match one of the patterns, or all without a
+/// pattern, in the order of their names: by a line with version and state, and `reinstreq` where a
+/// package has to be installed again, by dpkg's table, or by a format.
+pub fn list_text(
+    alloc: Global,
+    layout: &Layout,
+    patterns: &[Text],
+    database: &NotedDatabase,
+) -> Result<Told, AllocError>
+    ensures { IfOk result (λ told. told ≡ list_text layout.now patterns.now database.now.records) }
+{
+    let entries = asked(alloc, patterns, database.records())?;
+    let (lines, complete) = unfound(alloc, patterns, database.records())?;
+    let root = root_of(database.records());
+    let told = told_in(alloc, layout, root, entries.as_slice())?;
+    let mut text = lines.into_bytes();
+    text.extend_from_slice(told.as_slice())?;
+    Ok(Told {
+        text: Bytes::new(text),
+        complete,
+    })
 }
 
 fn is_final(state: State) -> bool
@@ -140,36 +181,43 @@ fn audit_line(alloc: Global, entry: &Record) -> Result<String, AllocError>
     line(alloc, content.as_str())
 }
 
-// The line of a package with which something has to be done.
-fn audit_lines(alloc: Global, entry: &Record) -> Result<String, AllocError>
-    ensures { IfOk result (λ printed. string_bytes printed ≡ audit_lines entry.now) }
+// The line of a package with which something has to be done, or that is of another architecture than its root.
+fn audit_lines(alloc: Global, root: Option<&str>, entry: &Record) -> Result<String, AllocError>
+    ensures { IfOk result (λ printed. string_bytes printed
+        ≡ audit_lines (option_copied root.entry) entry.now) }
 {
-    if is_done(entry) {
+    if is_done(entry) && !is_foreign(root, entry) {
         return Ok(String::new(alloc));
     }
     audit_line(alloc, entry)
 }
 
-fn add_audit(alloc: Global, lines: &mut String, entries: &[&Record]) -> Result<(), AllocError>
-    ensures { OnOk result (string_bytes lines.new ≡ string_bytes lines.old ++ flat_map audit_lines
-        (map (λ r. r.now) entries.now)) }
+fn add_audit(
+    alloc: Global,
+    root: Option<&str>,
+    lines: &mut String,
+    entries: &[&Record],
+) -> Result<(), AllocError>
+    ensures { OnOk result (string_bytes lines.new ≡ string_bytes lines.old
+        ++ flat_map (audit_lines (option_copied root.entry)) (map (λ r. r.now) entries.now)) }
 {
     for entry in entries {
-        let line = audit_lines(alloc, entry)?;
+        let line = audit_lines(alloc, root, entry)?;
         lines.push_str(line.as_str())?;
     }
     Ok(())
 }
 
 /// The packages with which something has to be done, in the order of their names: all but those
-/// installed or with their configuration files alone, and not to be installed again; and those with
-/// triggers.
+/// installed or with their configuration files alone, and not to be installed again; those with
+/// triggers; and those of another architecture than the first that is of one.
 pub fn audit_text(alloc: Global, database: &NotedDatabase) -> Result<Bytes, AllocError>
     ensures { IfOk result (λ text. text ≡ audit_text database.now.records) }
 {
     let ordered = by_name(alloc, database.records())?;
     let mut lines = String::new(alloc);
-    add_audit(alloc, &mut lines, ordered.as_slice())?;
+    let root = root_of(database.records());
+    add_audit(alloc, root, &mut lines, ordered.as_slice())?;
     Ok(Bytes::new(lines.into_bytes()))
 }
 

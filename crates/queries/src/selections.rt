@@ -3,12 +3,12 @@ ghost use Rattle.std.specs.Prelude.{◌≡◌, ◌++◌, IfOk, OnOk, map, string
 ghost use Rattle.std.specs.List.{flat_map};
 ghost use Rattle.queries.specs.Selections.{is_wanted, selection_line, selection_lines, selections_text, tabs_behind};
 
-use crate::records::by_name;
+use crate::asked::{Told, asked, unfound};
 use shown_lines::shown;
 use status_db::NotedDatabase;
 use status_records::{Record, Want};
 use std::alloc::{AllocError, Global};
-use texts::Bytes;
+use texts::{Bytes, Text};
 
 // The tabs between a name and what is wanted of its package.
 fn tabs_behind(name: &str) -> &'static str
@@ -68,13 +68,21 @@ fn add_selections(alloc: Global, lines: &mut String, entries: &[&Record]) -> Res
     Ok(())
 }
 
-/// What is wanted of the packages that have a record, in the order of their names, as dpkg's
-/// `--get-selections` prints it; of a package of which nothing is wanted there is no line.
-pub fn selections_text(alloc: Global, database: &NotedDatabase) -> Result<Bytes, AllocError>
-    ensures { IfOk result (λ text. text ≡ selections_text database.now.records) }
+/// What is wanted of the packages that have a record and whose names match one of the patterns, or
+/// of all without a pattern, in the order of their names, as dpkg's `--get-selections` prints it; of
+/// a package of which nothing is wanted there is no line.
+pub fn selections_text(
+    alloc: Global,
+    patterns: &[Text],
+    database: &NotedDatabase,
+) -> Result<Told, AllocError>
+    ensures { IfOk result (λ told. told ≡ selections_text patterns.now database.now.records) }
 {
-    let ordered = by_name(alloc, database.records())?;
-    let mut lines = String::new(alloc);
-    add_selections(alloc, &mut lines, ordered.as_slice())?;
-    Ok(Bytes::new(lines.into_bytes()))
+    let entries = asked(alloc, patterns, database.records())?;
+    let (mut lines, complete) = unfound(alloc, patterns, database.records())?;
+    add_selections(alloc, &mut lines, entries.as_slice())?;
+    Ok(Told {
+        text: Bytes::new(lines.into_bytes()),
+        complete,
+    })
 }

@@ -13,10 +13,13 @@ use Rattle.status_db.proofs.Ordered.{put_is}
 use Rattle.status_db.specs.Order.{AreInOrder, IsBefore, IsBeforeAll, name_of}
 use Rattle.status_records.specs.Records.{put_record, record_in}
 use Rattle.status_records.specs.declared.record.Record.{Record}
-use Rattle.record_changes.specs.Activated.{IsMade, changed}
+use Rattle.status_records.specs.Standings.{wanting}
+use Rattle.status_records.specs.declared.words.Want.{Want}
+use Rattle.record_changes.specs.Activated.{IsMade, activated, changed}
+use Rattle.record_changes.specs.Taking.{packages_behind}
 use Rattle.record_changes.specs.declared.change.Change.{Change}
 use Rattle.record_changes.specs.declared.change.Change.TheVariants as change
-use Rattle.record_changes.proofs.Changing.{awaited_stays, named, with_fields}
+use Rattle.record_changes.proofs.Changing.{awaited_stays}
 use Rattle.record_changes.proofs.Found.{some_is}
 
 -- a record stands in a table at the place of another
@@ -53,12 +56,32 @@ put_takes (x ∷ xs) old r order found = by (bytes_eq x.name r.name) refl (put_t
         let takes = rest is in
         record { front = x ∷ takes.front; back = takes.back; was = ap (λ (l : List Record). x ∷ l) takes.was; is = later (before_found x.name r.name xs old order.0 is) ∙ ap (λ (l : List Record). x ∷ l) takes.is }
 
-same_root : (front back : List Record) (asked : Change) (old : Record) → root_architecture (front ++ changed asked old ∷ back) ≡ root_architecture (front ++ old ∷ back)
-same_root [] back asked old = ap (λ (f : List Field). counted_as (root_architecture back) (architecture_of f)) (with_fields asked old)
-same_root (x ∷ front) back asked old = ap (λ (o : Option (List ℕ)). counted_as o (architecture_of x.fields)) (same_root front back asked old)
+-- the record tells of the package what the other one tells
+abbrev TellsSame : Record → Record → Type 0
+TellsSame old r = (root : Option (List ℕ)) (p : Package) → IsPackageOf root old p → IsPackageOf root r p
 
-same_package : (root : Option (List ℕ)) (asked : Change) (old : Record) (p : Package) → (changed asked old).triggers.awaited ≡ old.triggers.awaited → IsPackageOf root old p → IsPackageOf root (changed asked old) p
-same_package root (change.Want want) old p awaited is = record {
+same_root : (front back : List Record) (old r : Record) → r.fields ≡ old.fields → root_architecture (front ++ r ∷ back) ≡ root_architecture (front ++ old ∷ back)
+same_root [] back old r fields = ap (λ (f : List Field). counted_as (root_architecture back) (architecture_of f)) fields
+same_root (x ∷ front) back old r fields = ap (λ (o : Option (List ℕ)). counted_as o (architecture_of x.fields)) (same_root front back old r fields)
+
+same_packages : (root : Option (List ℕ)) (front back : List Record) (old r : Record) (ps : List Package) → TellsSame old r → ArePackagesIn root (front ++ old ∷ back) ps → ArePackagesIn root (front ++ r ∷ back) ps
+same_packages root [] back old r [] same are = absurd are
+same_packages root [] back old r (p ∷ ps) same are = (same root p are.0, are.1)
+same_packages root (x ∷ front) back old r [] same are = absurd are
+same_packages root (x ∷ front) back old r (p ∷ ps) same are = (are.0, same_packages root front back old r ps same are.1)
+
+packages_taken : (rs new : List Record) (old r : Record) (ps : List Package) → r.fields ≡ old.fields → TellsSame old r → Takes old r rs new → ArePackagesOf rs ps → ArePackagesOf new ps
+packages_taken rs new old r ps fields same takes are =
+    subst (λ (l : List Record). ArePackagesOf l ps) (sym takes.is)
+    (subst (λ root. ArePackagesIn root (takes.front ++ r ∷ takes.back) ps) (sym (same_root takes.front takes.back old r fields))
+    (same_packages _ takes.front takes.back old r ps same (subst (λ (l : List Record). ArePackagesOf l ps) takes.was are)))
+
+still : (rs : List Record) (old r : Record) → AreInOrder rs → record_in rs r.name ≡ Some old → r.fields ≡ old.fields → TellsSame old r → (o : Option (List Package)) → IfSome o (ArePackagesOf rs) → IfSome o (ArePackagesOf (put_record r rs))
+still rs old r order found fields same None are = tt
+still rs old r order found fields same (Some ps) are = packages_taken rs (put_record r rs) old r ps fields same (put_takes rs old r order found) are
+
+wanted_same : (want : Want) (old : Record) → TellsSame old (wanting want old)
+wanted_same want old root p is = record {
   name = is.name;
   architecture = is.architecture;
   version = is.version;
@@ -75,7 +98,9 @@ same_package root (change.Want want) old p awaited is = record {
   conflicts = is.conflicts;
   replaces = is.replaces;
 }
-same_package root (change.Activate names) old p awaited is = record {
+
+activated_same : (names : List ℕ) (old : Record) → (activated names old).triggers.awaited ≡ old.triggers.awaited → TellsSame old (activated names old)
+activated_same names old awaited root p is = record {
   name = is.name;
   architecture = is.architecture;
   version = is.version;
@@ -93,26 +118,13 @@ same_package root (change.Activate names) old p awaited is = record {
   replaces = is.replaces;
 }
 
-same_packages : (root : Option (List ℕ)) (front back : List Record) (asked : Change) (old : Record) (ps : List Package) → (changed asked old).triggers.awaited ≡ old.triggers.awaited → ArePackagesIn root (front ++ old ∷ back) ps
-    → ArePackagesIn root (front ++ changed asked old ∷ back) ps
-same_packages root [] back asked old [] awaited are = absurd are
-same_packages root [] back asked old (p ∷ ps) awaited are = (same_package root asked old p awaited are.0, are.1)
-same_packages root (x ∷ front) back asked old [] awaited are = absurd are
-same_packages root (x ∷ front) back asked old (p ∷ ps) awaited are = (are.0, same_packages root front back asked old ps awaited are.1)
+-- no packages are held behind one that was abandoned
+still_behind : (asked : Change) (rs : List Record) (old : Record) → AreInOrder rs → record_in rs old.name ≡ Some old → (IsMade asked old → ⊥) → (o : Option (List Package)) → IfSome o (ArePackagesOf rs) → IfSome (packages_behind asked o) (ArePackagesOf (put_record (changed asked old) rs))
+still_behind (change.Want want) rs old order found other o are = still rs old (wanting want old) order found refl (wanted_same want old) o are
+still_behind (change.Activate names) rs old order found other o are = still rs old (activated names old) order found refl (activated_same names old (awaited_stays names old other)) o are
+still_behind (change.Abandon trigger) rs old order found other o are = tt
 
-packages_taken : (rs new : List Record) (asked : Change) (old : Record) (ps : List Package) → (changed asked old).triggers.awaited ≡ old.triggers.awaited → Takes old (changed asked old) rs new → ArePackagesOf rs ps → ArePackagesOf new ps
-packages_taken rs new asked old ps awaited takes are =
-    subst (λ (l : List Record). ArePackagesOf l ps) (sym takes.is)
-    (subst (λ root. ArePackagesIn root (takes.front ++ changed asked old ∷ takes.back) ps) (sym (same_root takes.front takes.back asked old))
-    (same_packages _ takes.front takes.back asked old ps awaited (subst (λ (l : List Record). ArePackagesOf l ps) takes.was are)))
-
-still : (rs : List Record) (asked : Change) (old : Record) → AreInOrder rs → record_in rs (changed asked old).name ≡ Some old → (changed asked old).triggers.awaited ≡ old.triggers.awaited → (o : Option (List Package))
-    → IfSome o (ArePackagesOf rs) → IfSome o (ArePackagesOf (put_record (changed asked old) rs))
-still rs asked old order found awaited None are = tt
-still rs asked old order found awaited (Some ps) are = packages_taken rs (put_record (changed asked old) rs) asked old ps awaited (put_takes rs old (changed asked old) order found) are
-
-pub still_indexed : (rs new : List Record) (asked : Change) (old : Record) → AreInOrder rs → record_in rs old.name ≡ Some old → (IsMade asked old → ⊥) → new ≡ put_record (changed asked old) rs → (o : Option (List Package)) → IfSome o (ArePackagesOf rs)
-    → IfSome o (ArePackagesOf new)
-still_indexed rs new asked old order found other is o are =
-    subst (λ (l : List Record). IfSome o (ArePackagesOf l)) (sym is)
-    (still rs asked old order (subst (λ (n : List ℕ). record_in rs n ≡ Some old) (sym (named asked old)) found) (awaited_stays asked old other) o are)
+pub still_indexed : (rs new : List Record) (asked : Change) (old : Record) → AreInOrder rs → record_in rs old.name ≡ Some old → (IsMade asked old → ⊥) → new ≡ put_record (changed asked old) rs → (o behind : Option (List Package)) → behind ≡ packages_behind asked o
+    → IfSome o (ArePackagesOf rs) → IfSome behind (ArePackagesOf new)
+still_indexed rs new asked old order found other is o behind left are =
+    subst (λ (x : Option (List Package)). IfSome x (ArePackagesOf new)) (sym left) (subst (λ (l : List Record). IfSome (packages_behind asked o) (ArePackagesOf l)) (sym is) (still_behind asked rs old order found other o are))

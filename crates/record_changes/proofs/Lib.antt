@@ -1,4 +1,5 @@
 mod Names
+mod NameTexts
 pub mod Changing
 mod Wants
 mod Found

@@ -1,18 +1,22 @@
 -- What a note of a change leaves, and its moments.
-use Rattle.std.proofs.Common.{◌≡◌, ◌⊎◌, inl, inr, [], Some, sym, subst}
+use Rattle.std.proofs.Common.{◌≡◌, ◌⊎◌, inl, inr, ℕ, List, [], Some, sym, subst, ◌∙◌}
 use Rattle.host_core.specs.Events.{scripts_of}
-use Rattle.host_core.specs.Host.{State, AtEachMoment, AtEachMomentOf, Silent}
+use Rattle.host_core.specs.Host.{State, AtEachMoment, AtEachMomentOf, NoFault, Silent}
 use Rattle.host_core.proofs.Moments.{since_weaker}
 use Rattle.host_core.proofs.Scripts.{since_silent}
 use Rattle.status_db.specs.Noting.{IsNoting}
 use Rattle.status_records.specs.Records.{put_record}
 use Rattle.status_records.specs.declared.record.Record.{Record}
 use Rattle.unit_reports.specs.Held.{Held}
-use Rattle.unit_reports.specs.Units.{IsBroken, IsBrokenBy}
-use Rattle.unit_reports.specs.declared.report.Breakage.TheVariants.{NoMemory}
+use Rattle.unit_reports.proofs.Counting.{counts_no_memory, no_memory_not_closed}
+use Rattle.unit_reports.specs.Units.{CountsReply, IsBroken, IsBrokenBy}
+use Rattle.unit_reports.specs.declared.report.Breakage.TheVariants.{Closed, NoMemory}
 use Rattle.unit_reports.specs.declared.report.Reply.{Reply}
+use Rattle.unit_reports.specs.declared.report.Unit.{Unit as AUnit}
 use Rattle.record_changes.specs.Activated.{changed}
-use Rattle.record_changes.specs.Units.{IsAmidChange, entry_of}
+use Rattle.record_changes.specs.Units.{IsAmidChange, IsAnsweredBy, entry_of, reply_by, reply_to}
+use Rattle.record_changes.specs.declared.change.Change.{Change}
+use Rattle.record_changes.specs.declared.change.Change.TheVariants as change
 use Rattle.record_changes.specs.declared.change.RecordChange.{RecordChange}
 
 pub since_noting : (asked : RecordChange) (r entry : Record) (before : Held) (s t : State) → entry_of asked before.records.records ≡ Some r → entry ≡ changed asked.change r → Silent s t
@@ -25,6 +29,26 @@ since_noting asked r entry before s t found same silent since =
 
 broken_no_memory : (reply : Reply) → IsBrokenBy NoMemory reply → IsBroken reply
 broken_no_memory reply is = subst IsBroken (sym is) tt
+
+-- the answer to a change, and the faults of its host
+
+reply_counts : (name : List ℕ) (asked : Change) (a b : State) → NoFault a b → CountsReply a b (reply_by name asked)
+reply_counts name (change.Want want) a b same = same
+reply_counts name (change.Activate names) a b same = same
+reply_counts name (change.Abandon trigger) a b same = same
+
+pub noted_counts : (asked : RecordChange) (records : List Record) (u : AUnit) (a b : State) → NoFault a b → IsBrokenBy NoMemory u.reply ⊎ IsAnsweredBy (reply_to asked) asked.name records u → CountsReply a b u.reply
+noted_counts asked records u a b same (inl broken) = counts_no_memory u.reply a b same broken
+noted_counts asked records u a b same (inr is) = subst (CountsReply a b) (sym is.replied) (reply_counts asked.name asked.change a b same)
+
+reply_not_closed : (name : List ℕ) (asked : Change) → IsBrokenBy Closed (reply_by name asked) → ⊥
+reply_not_closed name (change.Want want) closed = cc
+reply_not_closed name (change.Activate names) closed = cc
+reply_not_closed name (change.Abandon trigger) closed = cc
+
+pub noted_not_closed : (asked : RecordChange) (records : List Record) (u : AUnit) → IsBrokenBy NoMemory u.reply ⊎ IsAnsweredBy (reply_to asked) asked.name records u → IsBrokenBy Closed u.reply → ⊥
+noted_not_closed asked records u (inl broken) closed = no_memory_not_closed u.reply broken closed
+noted_not_closed asked records u (inr is) closed = reply_not_closed asked.name asked.change (sym is.replied ∙ closed)
 
 -- broken off, or what is done
 pub broken_or : {P Q : Type 0} (reply : Reply) → (P → Q) → IsBrokenBy NoMemory reply ⊎ P → IsBroken reply ⊎ Q

@@ -1,9 +1,9 @@
--- What is changed of a record: what is wanted of its package, or the triggers that it is to process (deb-triggers).
+-- What is changed of a record: what is wanted of its package, or the triggers that it is to process, or not any more (deb-triggers).
 use Rattle.std.specs.Prelude.{◌≡◌, ◌==◌, ◌&&◌, ◌||◌, ℕ, Bool, true, false, not, cond, List, [], ◌∷◌, ◌++◌, Option, Some, None, is_some, codes}
 use Rattle.std.specs.List.{list_all, list_any, slice_split}
 use Rattle.std.specs.Str.{bytes_eq}
 use Rattle.std.proofs.Common.{refl}
-use Rattle.status_records.specs.Standings.{wanting}
+use Rattle.status_records.specs.Standings.{standing_as, wanting}
 use Rattle.status_records.specs.Triggers.{is_configured, left_may_stand, triggers_beside}
 use Rattle.status_records.specs.Words.{is_installed}
 use Rattle.status_records.specs.declared.record.Record.{Record}
@@ -62,12 +62,19 @@ activated names r = record r {
   beside = left_may_stand r.state (with_pending names r.triggers);
 }
 
+-- Abandoned: half-configured, with the flag as it is, and without pending names. Configuring it does what they would.
+abbrev pub abandoned : Record → Record
+abandoned r = standing_as r.flag state.HalfConfigured r
+
 -- a record that is changed
 abbrev pub changed : Change → Record → Record
 changed (change.Want want) r = wanting want r
 changed (change.Activate names) r = activated names r
+changed (change.Abandon trigger) r = abandoned r
 
--- Nothing is to be done: what is asked is wanted already; or the package isn't installed, or each of the names is pending.
+-- Nothing is to be done: what is asked is wanted already; or the package isn't installed, or each of the names is pending; or none is.
+-- Only of an installed package names are pending.
 abbrev pub IsMade : Change → Record → Type 0
 IsMade (change.Want want) r = r.want ≡ want
 IsMade (change.Activate names) r = not (is_installed r.state) || list_all (has_name (pending_text r.triggers.pending)) (words_of names) ≡ true
+IsMade (change.Abandon trigger) r = not (is_some r.triggers.pending) ≡ true

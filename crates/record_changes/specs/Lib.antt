@@ -1,4 +1,5 @@
 pub mod Activated
+pub mod Pending
 pub mod Units
 pub mod Turns
 pub mod Run

@@ -1,5 +1,5 @@
 -- The changes of a command, while they are recorded.
-use Rattle.std.specs.Prelude.{◌≡◌, List, [], Some, None, IfSome, drop}
+use Rattle.std.specs.Prelude.{◌≡◌, List, [], Option, Some, None, IfSome, drop}
 use Rattle.diversions.specs.Diverted.{Diverted}
 use Rattle.diversions.specs.Ways.{Ways}
 use Rattle.held_administration.specs.Open.{IsOpen}
@@ -8,11 +8,14 @@ use Rattle.held_administration.specs.declared.held.Administration.{Administratio
 use Rattle.host_core.specs.Host.{State, Needs}
 use Rattle.host_core.specs.Loss.{IsAnswered}
 use Rattle.recorded_packages.specs.Packages.{ArePackagesOf}
+use Rattle.relation_index.specs.declared.package.Package.{Package}
 use Rattle.status_records.specs.declared.record.Record.{Record}
 use Rattle.unit_reports.specs.Held.{Held, held_by}
 use Rattle.unit_reports.specs.declared.report.Unit.{Unit as AUnit}
 use Rattle.record_changes.specs.Activated.{IsMade, changed}
 use Rattle.record_changes.specs.Units.{IsChange, entry_of}
+use Rattle.record_changes.specs.declared.change.Change.{Change}
+use Rattle.record_changes.specs.declared.change.Change.TheVariants as change
 use Rattle.record_changes.specs.declared.change.RecordChange.{RecordChange}
 use Rattle.record_changes.specs.declared.turns.Changing.{Changing}
 use Rattle.record_changes.specs.declared.units.Decided.{Decided}
@@ -23,6 +26,12 @@ abbrev pub HasDecided : RecordChange → List Record → Decided → Type 0
 HasDecided asked records Refused = entry_of asked records ≡ None
 HasDecided asked records Made = (r : Record) × (entry_of asked records ≡ Some r) × IsMade asked.change r
 HasDecided asked records (Changed entry) = (r : Record) × (entry_of asked records ≡ Some r) × (IsMade asked.change r → ⊥) × (entry ≡ changed asked.change r)
+
+-- the packages that are held behind a change that was recorded: none where one was abandoned, since its state is another one
+abbrev pub packages_behind : Change → Option (List Package) → Option (List Package)
+packages_behind (change.Want want) held = held
+packages_behind (change.Activate names) held = held
+packages_behind (change.Abandon trigger) held = None
 
 -- the packages that are held are those of the records
 abbrev pub IsIndexed : Administration → Type 0

@@ -1,4 +1,5 @@
--- One change: what is wanted of a package is recorded (Policy 6.8 speaks of what is done with it), or what activates its triggers.
+-- One change: what is wanted of a package is recorded (Policy 6.8 speaks of what is done with it), what activates its triggers, or that
+-- these are abandoned.
 use Rattle.std.specs.Prelude.{◌≡◌, ◌⊎◌, ℕ, IsTrue, List, [], ◌∷◌, Option, Some, None}
 use Rattle.held_administration.specs.Order.{IsInOrder}
 use Rattle.host_core.specs.Events.{Event, scripts_of}
@@ -10,10 +11,13 @@ use Rattle.status_records.specs.declared.record.Record.{Record}
 use Rattle.unit_reports.specs.Held.{Held}
 use Rattle.unit_reports.specs.Units.{IsRefusedUnit, touched_at}
 use Rattle.unit_reports.specs.declared.refusal.Rule.TheVariants.{Unknown}
-use Rattle.unit_reports.specs.declared.report.Reply.TheVariants.{Done}
+use Rattle.unit_reports.specs.declared.report.Reply.{Reply}
+use Rattle.unit_reports.specs.declared.report.Reply.TheVariants.{Done, Looped}
 use Rattle.unit_reports.specs.declared.report.Unit.{Unit as AUnit}
 use Rattle.unit_runs.specs.Turns.{IsStill}
 use Rattle.record_changes.specs.Activated.{IsMade, changed}
+use Rattle.record_changes.specs.declared.change.Change.{Change}
+use Rattle.record_changes.specs.declared.change.Change.TheVariants as change
 use Rattle.record_changes.specs.declared.change.RecordChange.{RecordChange}
 
 -- what is recorded of the package
@@ -39,20 +43,29 @@ pub record IsRecorded (asked : RecordChange) (r : Record) (before after : Held) 
   pub order : Needs t (IsInOrder after.records after.lists)
   pub silent : Silent s t
 
--- a unit that is done: it made no call, and tells the package with its record
-pub record IsDone (name : List ℕ) (records : List Record) (u : AUnit) : Type 0 where
+-- how a change of a package is answered once it was recorded
+abbrev pub reply_by : List ℕ → Change → Reply
+reply_by name (change.Want want) = Done
+reply_by name (change.Activate names) = Done
+reply_by name (change.Abandon trigger) = Looped (record { «package» = name; trigger = trigger })
+
+abbrev pub reply_to : RecordChange → Reply
+reply_to asked = reply_by asked.name asked.change
+
+-- a unit with this answer: it made no call, and tells the package with its record
+pub record IsAnsweredBy (reply : Reply) (name : List ℕ) (records : List Record) (u : AUnit) : Type 0 where
   pub calls : u.calls.items ≡ []
   pub touched : u.touched.items ≡ touched_at records name ∷ []
   pub deconfigured : u.deconfigured ≡ []
-  pub reply : u.reply ≡ Done
+  pub replied : u.reply ≡ reply
 
 -- One change, and its unit: a package without a record is refused; where it is made already nothing is done; else it is recorded.
 pub data IsChange (asked : RecordChange) (before after : Held) (u : AUnit) (s t : State) : Type 0 where
   unknown : entry_of asked before.records.records ≡ None → IsRefusedUnit Unknown asked.name u → IsLeftAlone before after s t → IsChange asked before after u s t
-  made : (r : Record) → entry_of asked before.records.records ≡ Some r → IsMade asked.change r → IsDone asked.name before.records.records u → IsLeftAlone before after s t
+  made : (r : Record) → entry_of asked before.records.records ≡ Some r → IsMade asked.change r → IsAnsweredBy Done asked.name before.records.records u → IsLeftAlone before after s t
       → IsChange asked before after u s t
-  noted : (r : Record) → entry_of asked before.records.records ≡ Some r → (IsMade asked.change r → ⊥) → IsDone asked.name after.records.records u → IsRecorded asked r before after s t
-      → IsChange asked before after u s t
+  noted : (r : Record) → entry_of asked before.records.records ≡ Some r → (IsMade asked.change r → ⊥) → IsAnsweredBy (reply_to asked) asked.name after.records.records u
+      → IsRecorded asked r before after s t → IsChange asked before after u s t
 
 -- the note is being written: the records are those of before, or those with what was asked
 pub record IsBeingRecorded (asked : RecordChange) (before : Held) (old : World) (so_far : List Event) (now : World) : Type 0 where

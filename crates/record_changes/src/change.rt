@@ -9,6 +9,9 @@ pub enum Change {
     Want(Want),
     /// It is to process these triggers too, where it is installed. Blanks stand between the names.
     Activate(TriggerNames),
+    /// What is pending of it isn't processed, since it would lead to this trigger of it again and again: where something is pending, it
+    /// is half-configured.
+    Abandon(Text),
 }
 
 /// A change of the record of the package of this name.

@@ -80,6 +80,7 @@ pub(crate) fn is_made(asked: &Change, entry: &Record) -> bool
         Change::Activate(names) => {
             !entry.state.is_installed() || are_pending(&entry.triggers, names.text())
         }
+        Change::Abandon(_) => !entry.triggers.pending.is_some(),
     }
 }
 
@@ -129,5 +130,6 @@ pub(crate) fn changed(alloc: Global, asked: &Change, entry: &Record) -> Result<R
     match asked {
         Change::Want(want) => entry.wanting(*want),
         Change::Activate(names) => activated(alloc, entry, names),
+        Change::Abandon(_) => entry.standing_as(entry.flag, State::HalfConfigured),
     }
 }

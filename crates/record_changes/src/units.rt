@@ -4,24 +4,27 @@ ghost use Rattle.diversions.specs.Diverted.{Diverted};
 ghost use Rattle.held_administration.specs.Open.{CanWrite};
 ghost use Rattle.held_administration.specs.Order.{IsInOrder};
 ghost use Rattle.host_core.specs.Host.{AtEachMomentOf, Needs, NoFault, Silent};
-ghost use Rattle.record_changes.specs.Taking.{HasDecided, MakesChange};
-ghost use Rattle.record_changes.specs.Units.{IsAmidChange, IsDone};
+ghost use Rattle.record_changes.specs.Taking.{HasDecided, MakesChange, packages_behind};
+ghost use Rattle.record_changes.specs.Units.{IsAmidChange, IsAnsweredBy, reply_to};
 ghost use Rattle.record_changes.specs.declared.units.Decided.TheVariants.{Changed};
 ghost use Rattle.unit_reports.specs.Held.{held_by};
 ghost use Rattle.unit_reports.specs.Units.{CountsReply, IsBroken, IsBrokenBy, IsRefusedUnit, TellsNoPackage, touched_at};
 ghost use Rattle.unit_reports.specs.declared.refusal.Rule.TheVariants.{Unknown};
 ghost use Rattle.unit_reports.specs.declared.report.Breakage.TheVariants.{Closed, NoMemory};
+ghost use Rattle.unit_reports.specs.declared.report.Reply.TheVariants.{Done};
 
-use crate::change::RecordChange;
+use crate::change::{Change, RecordChange};
 use crate::changed::{changed, is_made};
 use held_administration::Administration;
 use host_core::Host;
+use relation_index::Packages;
 use status_db::{NotedDatabase, note_record};
 use status_records::Record;
 use std::alloc::{AllocError, Global};
 use texts::{Text, Texts};
 use unit_reports::{
-    Breakage, Reply, Rule, Touched, Unit, breakage_of, broken, is_broken, refused, touched_at,
+    Breakage, Cycle, Reply, Rule, Touched, Unit, breakage_of, broken, is_broken, refused,
+    touched_at,
 };
 
 /// What is to be done of a change.
@@ -75,9 +78,23 @@ fn no_memory(alloc: Global) -> Unit
     broken(alloc, Vec::new(alloc), Breakage::NoMemory)
 }
 
-// The unit of a package whose record is as was asked.
-fn done(alloc: Global, database: &NotedDatabase, name: &Text) -> Unit
-    ensures unit { IsBrokenBy NoMemory result.reply ⊎ IsDone name.now database.now.records result }
+fn reply_to(asked: &RecordChange) -> Result<Reply, AllocError>
+    ensures reply { IfOk result (λ reply. reply ≡ reply_to asked.now) }
+    ensures whole { IfOk result (λ reply. IsBroken reply → ⊥) }
+{
+    match &asked.change {
+        Change::Want(_) | Change::Activate(_) => Ok(Reply::Done),
+        Change::Abandon(trigger) => Ok(Reply::Looped(Cycle {
+            package: asked.name.copy()?,
+            trigger: trigger.copy()?,
+        })),
+    }
+}
+
+fn answered(alloc: Global, database: &NotedDatabase, name: &Text, reply: Reply) -> Unit
+    requires { IsBroken reply → ⊥ }
+    ensures unit { IsBrokenBy NoMemory result.reply ⊎ IsAnsweredBy reply name.now
+        database.now.records result }
     ensures told { result.calls.items ≡ [] }
     ensures untouched { IsBroken result.reply → TellsNoPackage result }
 {
@@ -86,8 +103,31 @@ fn done(alloc: Global, database: &NotedDatabase, name: &Text) -> Unit
             calls: Vec::new(alloc),
             touched,
             deconfigured: Texts::new(alloc),
-            reply: Reply::Done,
+            reply,
         },
+        Err(_) => no_memory(alloc),
+    }
+}
+
+// The unit of a package whose record was as is asked.
+fn made(alloc: Global, database: &NotedDatabase, name: &Text) -> Unit
+    ensures unit { IsBrokenBy NoMemory result.reply ⊎ IsAnsweredBy Done name.now
+        database.now.records result }
+    ensures told { result.calls.items ≡ [] }
+    ensures untouched { IsBroken result.reply → TellsNoPackage result }
+{
+    answered(alloc, database, name, Reply::Done)
+}
+
+// The unit of a package whose record is as was asked by now.
+fn noted(alloc: Global, database: &NotedDatabase, asked: &RecordChange) -> Unit
+    ensures unit { IsBrokenBy NoMemory result.reply ⊎ IsAnsweredBy (reply_to asked.now)
+        asked.now.name database.now.records result }
+    ensures told { result.calls.items ≡ [] }
+    ensures untouched { IsBroken result.reply → TellsNoPackage result }
+{
+    match reply_to(asked) {
+        Ok(reply) => answered(alloc, database, &asked.name, reply),
         Err(_) => no_memory(alloc),
     }
 }
@@ -101,6 +141,16 @@ fn unknown(alloc: Global, name: &Text) -> Unit
     match name.copy() {
         Ok(name) => refused(alloc, Rule::Unknown, name),
         Err(_) => no_memory(alloc),
+    }
+}
+
+// An abandoned package meets no relation any more, so that what the packages state is to be read anew.
+fn forget_abandoned(asked: &Change, packages: &mut Option<Packages>)
+    ensures { packages.new ≡ packages_behind asked.now packages.old }
+{
+    match asked {
+        Change::Want(_) | Change::Activate(_) => {}
+        Change::Abandon(_) => *packages = None,
     }
 }
 
@@ -128,7 +178,10 @@ fn note<H: Host>(
     administration.database.law();
     let alloc = administration.alloc;
     match note_record(alloc, host, &mut administration.database, entry) {
-        Ok(()) => done(alloc, &administration.database, &asked.name),
+        Ok(()) => {
+            forget_abandoned(&asked.change, &mut administration.packages);
+            noted(alloc, &administration.database, asked)
+        }
         Err(fault) => broken(alloc, Vec::new(alloc), breakage_of(fault)),
     }
 }
@@ -155,7 +208,7 @@ fn change_named<H: Host>(
     let alloc = administration.alloc;
     match decide(alloc, &administration.database, asked) {
         Ok(Decided::Changed(entry)) => note(host, administration, asked, entry),
-        Ok(Decided::Made) => done(alloc, &administration.database, &asked.name),
+        Ok(Decided::Made) => made(alloc, &administration.database, &asked.name),
         Ok(Decided::Refused) => unknown(alloc, &asked.name),
         Err(_) => no_memory(alloc),
     }

@@ -1,5 +1,6 @@
 -- Recorded packages, as relations see them (Policy 7.1).
-use Rattle.std.specs.Prelude.{◌≡◌, ℕ, true, false, Bool, List, [], ◌∷◌, Option, Some, None, is_some}
+use Rattle.std.specs.Prelude.{◌≡◌, ℕ, true, false, not, Bool, List, [], ◌∷◌, Option, Some, None, is_some}
+use Rattle.std.specs.Str.{bytes_eq}
 use Rattle.relation_fields.specs.declared.relation_field.RelationField.TheVariants.{PreDepends, Depends, Breaks, Conflicts, Replaces}
 use Rattle.relation_index.specs.declared.package.Package.{Package}
 use Rattle.relation_index.specs.declared.package.PackageState.{PackageState}
@@ -28,6 +29,16 @@ is_reinstreq flag.Reinstreq = true
 abbrev pub root_architecture : List Record → Option (List ℕ)
 root_architecture [] = None
 root_architecture (r ∷ rs) = counted_as (root_architecture rs) (architecture_of r.fields)
+
+-- of these two architectures the second isn't the first
+abbrev pub are_two : Option (List ℕ) → Option (List ℕ) → Bool
+are_two None own = false
+are_two (Some root) None = false
+are_two (Some root) (Some own) = not (bytes_eq own root)
+
+-- the package is of another architecture than the root
+abbrev pub is_foreign : Option (List ℕ) → Record → Bool
+is_foreign root r = are_two root (architecture_of r.fields)
 
 -- the same by the packages: of the first one, which counts as of it
 abbrev pub first_architecture : List Package → Option (List ℕ)

@@ -4,5 +4,5 @@
 mod packages;
 mod renewal;
 
-pub use packages::{packages_of, root_architecture};
+pub use packages::{is_foreign, packages_of, root_architecture, root_of};
 pub use renewal::{renew, renew_one};

@@ -1,6 +1,6 @@
 // The packages of the records, as relations see them.
 ghost use Rattle.std.specs.Prelude.{◌≡◌, List, IfOk, option_copied};
-ghost use Rattle.recorded_packages.specs.Packages.{package_state, is_reinstreq, first_architecture, root_architecture, IsPackageOf, ArePackagesOf};
+ghost use Rattle.recorded_packages.specs.Packages.{package_state, is_reinstreq, are_two, is_foreign, first_architecture, root_architecture, IsPackageOf, ArePackagesOf};
 ghost use Rattle.status_records.specs.Configured.{last_configured};
 ghost use Rattle.status_db.specs.Order.{AreInOrder};
 ghost use Rattle.status_records.specs.declared.record.Record.{Record as ARecord};
@@ -45,7 +45,7 @@ fn configured_of(entry: &Record) -> Result<Option<Version>, AllocError>
 }
 
 /// The architecture of a root of these records: that of the first package that doesn't fit each.
-pub(crate) fn root_of(records: &[Record]) -> Option<&str>
+pub fn root_of(records: &[Record]) -> Option<&str>
     ensures { option_copied result ≡ root_architecture records.now }
 {
     for entry in records {
@@ -54,6 +54,24 @@ pub(crate) fn root_of(records: &[Record]) -> Option<&str>
         }
     }
     None
+}
+
+// Whether of two architectures the second isn't the first.
+fn are_two(root: Option<&str>, own: Option<&str>) -> bool
+    ensures { result ≡ are_two (option_copied root.entry) (option_copied own.entry) }
+{
+    match (root, own) {
+        (Some(root), Some(own)) => own != root,
+        (Some(_), None) => false,
+        (None, _) => false,
+    }
+}
+
+/// Whether the package of a record is of another architecture than a root of this one.
+pub fn is_foreign(root: Option<&str>, record: &Record) -> bool
+    ensures { result ≡ is_foreign (option_copied root.entry) record.now }
+{
+    are_two(root, architecture_of(&record.fields))
 }
 
 fn word_of(word: &Option<Text>) -> Option<&str>

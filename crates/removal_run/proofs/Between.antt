@@ -14,7 +14,7 @@ use Rattle.removal_run.specs.Next.{IsNothing}
 use Rattle.removal_run.specs.Taking.{IsBetween, IsOver, IsQueueTo, packages_in}
 use Rattle.removal_run.specs.Turns.{AreAccepted, HasCalledNext, IsAmidTurn, IsTurn}
 use Rattle.removal_run.specs.declared.turns.Removing.{Removing}
-use Rattle.removal_run.specs.declared.extents.Extents.{Extents}
+use Rattle.removal_run.specs.declared.options.RemovalOptions.{RemovalOptions}
 
 abbrev or_queue : Waiting → Option Waiting → Waiting
 or_queue q None = q
@@ -30,15 +30,15 @@ on_ok (Ok x) both p q = both p q
 on_ok (Err e) both p q = tt
 
 -- what a turn does, seen from the packages that were given
-pub taken_of : (extents : Extents) (packages : List Package) (q : Waiting) (r : Removing) (left later : List (List ℕ)) (before after : Held) (s t : State) (result : Result (Option AUnit) AUnit) → q.packages ≡ packages → r.queue ≡ Some q
-    → IsTaken (IsTurn extents q.packages) (λ l behind. HasCalledNext extents q.packages l) (λ l held. (r.waiting.items ≡ l) × IsNothing q.packages held.records.records l q) left later before after s t result
-    → IsTaken (IsTurn extents packages) (λ l behind. HasCalledNext extents packages l) (IsOver r) left later before after s t result
-taken_of extents packages q r left later before after s t result same here is =
-    subst (λ (ps : List Package). IsTaken (IsTurn extents ps) (λ l behind. HasCalledNext extents ps l) (IsOver r) left later before after s t result) same
-    (taken_so (IsTurn extents q.packages) (λ l behind. HasCalledNext extents q.packages l) (λ l held. (r.waiting.items ≡ l) × IsNothing q.packages held.records.records l q) (IsOver r) left later before after s t result
-    (λ over. record { queue = q; here = here; same = over.0; nothing = over.1 }) is)
+pub taken_of : (options : RemovalOptions) (packages : List Package) (q : Waiting) (r : Removing) (left later : List (List ℕ)) (before after : Held) (s t : State) (result : Result (Option AUnit) AUnit) → q.packages ≡ packages → r.options ≡ options → r.queue ≡ Some q
+    → IsTaken (IsTurn options q.packages) (λ l behind. HasCalledNext options q.packages l) (λ l held. (r.waiting.items ≡ l) × IsNothing options.ignore_depends q.packages held.records.records l q) left later before after s t result
+    → IsTaken (IsTurn options packages) (λ l behind. HasCalledNext options packages l) (IsOver r) left later before after s t result
+taken_of options packages q r left later before after s t result same given here is =
+    subst (λ (ps : List Package). IsTaken (IsTurn options ps) (λ l behind. HasCalledNext options ps l) (IsOver r) left later before after s t result) same
+    (taken_so (IsTurn options q.packages) (λ l behind. HasCalledNext options q.packages l) (λ l held. (r.waiting.items ≡ l) × IsNothing options.ignore_depends q.packages held.records.records l q) (IsOver r) left later before after s t result
+    (λ over. record { queue = q; here = here; same = over.0; nothing = subst (λ (o : RemovalOptions). IsNothing o.ignore_depends q.packages after.records.records left q) (sym given) over.1 }) is)
 
-pub moments_of : (extents : Extents) (packages : List Package) (q : Waiting) (left later : List (List ℕ)) (before : Held) (s t : State) → q.packages ≡ packages
-    → AtEachMomentOf (runs.IsAmidNext (λ l behind. IsAmidTurn extents q.packages l) left later before) s t → AtEachMomentOf (runs.IsAmidNext (λ l behind. IsAmidTurn extents packages l) left later before) s t
-moments_of extents packages q left later before s t same since =
-    subst (λ (ps : List Package). AtEachMomentOf (runs.IsAmidNext (λ l behind. IsAmidTurn extents ps l) left later before) s t) same since
+pub moments_of : (options : RemovalOptions) (packages : List Package) (q : Waiting) (left later : List (List ℕ)) (before : Held) (s t : State) → q.packages ≡ packages
+    → AtEachMomentOf (runs.IsAmidNext (λ l behind. IsAmidTurn options q.packages l) left later before) s t → AtEachMomentOf (runs.IsAmidNext (λ l behind. IsAmidTurn options packages l) left later before) s t
+moments_of options packages q left later before s t same since =
+    subst (λ (ps : List Package). AtEachMomentOf (runs.IsAmidNext (λ l behind. IsAmidTurn options ps l) left later before) s t) same since

@@ -1,5 +1,5 @@
 -- Those that are left over are told behind the others.
-use Rattle.std.proofs.Common.{◌≡◌, inl, inr, ℕ, List, [], ◌++◌, Option, Some, None, refl, sym, ap, subst, ◌∙◌, append_assoc}
+use Rattle.std.proofs.Common.{◌≡◌, inl, inr, ℕ, Bool, List, [], ◌++◌, Option, Some, None, refl, sym, ap, subst, ◌∙◌, append_assoc}
 use Rattle.std.proofs.lemmas.List.{append-nil}
 use Rattle.std.specs.Prelude.{IfSome, IsNone}
 use Rattle.std.proofs.lemmas.Bool.{true≢false}
@@ -20,23 +20,23 @@ use Rattle.removal_run.specs.LeftOver.{AreAllTold, AreLeftOver}
 use Rattle.removal_run.specs.Next.{IsNothing}
 use Rattle.removal_run.specs.Run.{EndsWith, IsAmidRun, IsIdle, RunsThrough, RunsUpTo, waiting_for}
 use Rattle.removal_run.specs.Turns.{HasStopped, HasTurned, IsAmidTurns, IsBrokenNext}
-use Rattle.removal_run.specs.declared.extents.Extents.{Extents}
+use Rattle.removal_run.specs.declared.options.RemovalOptions.{RemovalOptions}
 use Rattle.removal_run.proofs.Overleft.{depended_calls}
 use Rattle.removal_run.proofs.Removals.{silent_here}
 use Rattle.removal_run.proofs.Replies.{broken_by}
 use Rattle.removal_run.proofs.Turning.{since_next_start}
 use Rattle.unit_reports.proofs.Counting.{counts_no_memory, no_memory_not_closed}
 
-left_over : (packages : List Package) (now : List Record) (waiting : List (List ℕ)) (q : Waiting) (us : List AUnit) → IsNothing packages now waiting q → AreAllTold q us → AreLeftOver packages now waiting us
-left_over packages now waiting q us nothing told = record { queue = q; is = nothing.queue; none = nothing.none; told = told }
+left_over : (ignore : Bool) (packages : List Package) (now : List Record) (waiting : List (List ℕ)) (q : Waiting) (us : List AUnit) → IsNothing ignore packages now waiting q → AreAllTold q us → AreLeftOver ignore packages now waiting us
+left_over ignore packages now waiting q us nothing told = record { queue = q; is = nothing.queue; nobody = nothing.nobody; told = told }
 
-idle_next : (extents : Extents) (packages : List Package) (waiting : List (List ℕ)) (h : Held) (s : State) (u : AUnit) → IsIdle u → IsBrokenNext extents packages waiting h s s u
-idle_next extents packages waiting h s u idle = record { broken = broken_by _ u.reply idle.broken; untouched = idle.touched; called = inl (record { silent = silent_here s; told = idle.calls }) }
+idle_next : (options : RemovalOptions) (packages : List Package) (waiting : List (List ℕ)) (h : Held) (s : State) (u : AUnit) → IsIdle u → IsBrokenNext options packages waiting h s s u
+idle_next options packages waiting h s u idle = record { broken = broken_by _ u.reply idle.broken; untouched = idle.touched; called = inl (record { silent = silent_here s; told = idle.calls }) }
 
-module _ (extents : Extents) (packages : List Package) (names left : List (List ℕ)) (begun mid us : List AUnit) (before after : Held) (s t : State) (stated : ArePackagesOf before.records.records packages)
-    (turned : HasTurned extents packages names left before after s t begun mid) (q : Waiting) (nothing : IsNothing packages after.records.records left q) where
+module _ (options : RemovalOptions) (packages : List Package) (names left : List (List ℕ)) (begun mid us : List AUnit) (before after : Held) (s t : State) (stated : ArePackagesOf before.records.records packages)
+    (turned : HasTurned options packages names left before after s t begun mid) (q : Waiting) (nothing : IsNothing options.ignore_depends packages after.records.records left q) where
   -- where all are told
-  pub runs_through : EndsWith q mid us None → RunsThrough extents names begun us before after s t
+  pub runs_through : EndsWith q mid us None → RunsThrough options names begun us before after s t
   runs_through ends = record {
     packages = packages;
     stated = stated;
@@ -45,10 +45,10 @@ module _ (extents : Extents) (packages : List Package) (names left : List (List 
     units = ends.grown ∙ ap (λ (l : List AUnit). l ++ ends.left) turned.are ∙ append_assoc begun turned.turned ends.left;
     waiting = left;
     turns = turned.come;
-    last = left_over packages after.records.records left q ends.left nothing ends.told;
+    last = left_over options.ignore_depends packages after.records.records left q ends.left nothing ends.told;
   }
 
-  pub runs_up_to : (last : Option AUnit) → EndsWith q mid us last → RunsUpTo extents names begun us last before s t
+  pub runs_up_to : (last : Option AUnit) → EndsWith q mid us last → RunsUpTo options names begun us last before s t
   runs_up_to None ends = record {
     packages = packages;
     stated = stated;
@@ -59,8 +59,8 @@ module _ (extents : Extents) (packages : List Package) (names left : List (List 
     after = after;
     end = t;
     turns = turned.come;
-    rest = inr (left_over packages after.records.records left q ends.left nothing ends.told);
-    since = since_next_start extents packages left left after t;
+    rest = inr (left_over options.ignore_depends packages after.records.records left q ends.left nothing ends.told);
+    since = since_next_start options packages left left after t;
     broken = tt;
   }
   runs_up_to (Some u) ends = record {
@@ -74,8 +74,8 @@ module _ (extents : Extents) (packages : List Package) (names left : List (List 
     end = t;
     turns = turned.come;
     rest = inl refl;
-    since = since_next_start extents packages left left after t;
-    broken = idle_next extents packages left after t u ends.1;
+    since = since_next_start options packages left left after t;
+    broken = idle_next options packages left after t u ends.1;
   }
 
 -- the calls that are told
@@ -93,9 +93,9 @@ ending_not_closed q mid us None ends = tt
 ending_not_closed q mid us (Some u) ends = no_memory_not_closed u.reply ends.1.broken
 
 -- where one was broken off
-pub stopped_up_to : (extents : Extents) (packages : List Package) (names : List (List ℕ)) (begun us : List AUnit) (before : Held) (s t : State) (u : AUnit) → ArePackagesOf before.records.records packages → HasStopped extents packages names before s t begun us u
-    → RunsUpTo extents names begun us (Some u) before s t
-stopped_up_to extents packages names begun us before s t u stated (later, stopped) = record {
+pub stopped_up_to : (options : RemovalOptions) (packages : List Package) (names : List (List ℕ)) (begun us : List AUnit) (before : Held) (s t : State) (u : AUnit) → ArePackagesOf before.records.records packages → HasStopped options packages names before s t begun us u
+    → RunsUpTo options names begun us (Some u) before s t
+stopped_up_to options packages names begun us before s t u stated (later, stopped) = record {
   packages = packages;
   stated = stated;
   removed = stopped.turned.turned;
@@ -127,9 +127,9 @@ tells_stopped begun us u s t none told = subst (λ l. TellsAll s t l (calls_of u
 
 -- the moments of a whole removal
 
-pub since_removals : (names : List (List ℕ)) (extents : Extents) (packages : List Package) (before : Held) (s t : State) → ArePackagesOf before.records.records packages → Since (IsAmidTurns extents packages (waiting_for extents names before) before s) s t → Since (IsAmidRun names extents before s) s t
-since_removals names extents packages before s t stated since =
-    since_weaker (IsAmidTurns extents packages (waiting_for extents names before) before s) (IsAmidRun names extents before s) s t (λ x w amid. inr (record { packages = packages; stated = stated; turns = amid })) since
+pub since_removals : (names : List (List ℕ)) (options : RemovalOptions) (packages : List Package) (before : Held) (s t : State) → ArePackagesOf before.records.records packages → Since (IsAmidTurns options packages (waiting_for options.extents names before) before s) s t → Since (IsAmidRun names options before s) s t
+since_removals names options packages before s t stated since =
+    since_weaker (IsAmidTurns options packages (waiting_for options.extents names before) before s) (IsAmidRun names options before s) s t (λ x w amid. inr (record { packages = packages; stated = stated; turns = amid })) since
 
-pub since_none : (names : List (List ℕ)) (extents : Extents) (before : Held) (s : State) → Since (IsAmidRun names extents before s) s s
-since_none names extents before s = since_start (IsAmidRun names extents before s) s (inl (still_here s.world))
+pub since_none : (names : List (List ℕ)) (options : RemovalOptions) (before : Held) (s : State) → Since (IsAmidRun names options before s) s s
+since_none names options before s = since_start (IsAmidRun names options before s) s (inl (still_here s.world))

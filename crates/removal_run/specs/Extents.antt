@@ -6,6 +6,7 @@ use Rattle.status_records.specs.declared.words.Want.{Want}
 use Rattle.status_records.specs.declared.words.Want.TheVariants as want
 use Rattle.removal_run.specs.declared.extents.Extents.{Extents}
 use Rattle.removal_run.specs.declared.extents.Extents.TheVariants.{Removed, Purged, Selected}
+use Rattle.removal_run.specs.declared.options.RemovalOptions.{RemovalOptions}
 
 -- its purge is wanted
 abbrev pub is_purge : Want → Bool
@@ -29,3 +30,7 @@ purges_of Selected entry = wants_purge entry
 -- all goes of the package of this name, as it is recorded
 abbrev pub purges : Extents → List Record → List ℕ → Bool
 purges extents records name = purges_of extents (record_in records name)
+
+-- so much of each package, where it is heeded or ignored that others depend on it
+abbrev pub removing : Extents → Bool → RemovalOptions
+removing extents ignore_depends = record { extents = extents; ignore_depends = ignore_depends }

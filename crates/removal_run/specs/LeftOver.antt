@@ -1,7 +1,7 @@
 -- Those that are left over, since other packages depend on them (Policy 7.2).
 use Rattle.std.specs.Prelude.{ℕ, Bool, List, [], ◌∷◌, IsTrue}
 use Rattle.dependency_check.specs.Left.{DependsOnLeft}
-use Rattle.dependency_check.specs.Waiting.{IsRemovableNow, Waiting}
+use Rattle.dependency_check.specs.Waiting.{Waiting}
 use Rattle.dependency_sets.specs.Choices.{IsFirst, IsListing}
 use Rattle.dependency_sets.specs.Sets.{has}
 use Rattle.relation_index.specs.declared.package.Package.{Package}
@@ -10,6 +10,7 @@ use Rattle.unit_reports.specs.Units.{IsRefusedUnit}
 use Rattle.unit_reports.specs.declared.refusal.Rule.TheVariants.{DependedOn}
 use Rattle.unit_reports.specs.declared.report.Unit.{Unit as AUnit}
 use Rattle.removal_run.specs.Waiting.{IsQueueNow, name_at}
+use Rattle.removal_run.specs.Whose.{IsNobodysTurn}
 
 -- the package of this number is refused with the first other installed package that has a clause which it meets, and no
 -- installed package but those left over
@@ -35,9 +36,9 @@ pub record AreTold (packages : List Package) (installed left : ℕ → Bool) (us
 abbrev pub AreAllTold : Waiting → List AUnit → Type 0
 AreAllTold q us = AreTold q.packages (has q.installed) (has q.waiting) us
 
--- none of those whose names are left can be removed, and each is told
-pub record AreLeftOver (packages : List Package) (now : List Record) (names : List (List ℕ)) (us : List AUnit) : Type 0 where
+-- it is nobody's turn of those whose names are left, and each is told
+pub record AreLeftOver (ignore_depends : Bool) (packages : List Package) (now : List Record) (names : List (List ℕ)) (us : List AUnit) : Type 0 where
   pub queue : Waiting
   pub is : IsQueueNow packages now names queue
-  pub none : (x : ℕ) → IsRemovableNow queue x → ⊥
+  pub nobody : IsNobodysTurn ignore_depends queue
   pub told : AreAllTold queue us

@@ -2,6 +2,7 @@ pub mod Names
 pub mod Extents
 pub mod Refusals
 pub mod Selected
+pub mod Whose
 pub mod Waiting
 pub mod Next
 pub mod LeftOver

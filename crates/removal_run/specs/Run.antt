@@ -20,6 +20,7 @@ use Rattle.removal_run.specs.Names.{once}
 use Rattle.removal_run.specs.Refusals.{AreRefused, accepted, refusals}
 use Rattle.removal_run.specs.Turns.{IsAmidNext, IsAmidTurns, IsBrokenNext, RemovesTo}
 use Rattle.removal_run.specs.declared.extents.Extents.{Extents}
+use Rattle.removal_run.specs.declared.options.RemovalOptions.{RemovalOptions}
 
 -- the names that wait in the beginning
 abbrev pub waiting_for : Extents → List (List ℕ) → Held → List (List ℕ)
@@ -30,21 +31,21 @@ abbrev pub IsRefusedFirst : Extents → List (List ℕ) → Held → List AUnit 
 IsRefusedFirst extents names before us = AreRefused (refusals extents before.records.records (once names)) us
 
 -- Behind the units that are told already packages are removed in turn, and then those that are left over are told.
-pub record RunsThrough (extents : Extents) (names : List (List ℕ)) (refused us : List AUnit) (before after : Held) (s t : State) : Type 0 where
+pub record RunsThrough (options : RemovalOptions) (names : List (List ℕ)) (refused us : List AUnit) (before after : Held) (s t : State) : Type 0 where
   pub packages : List Package
   pub stated : ArePackagesOf before.records.records packages
   pub removed : List AUnit
   pub left : List AUnit
   pub units : us ≡ refused ++ (removed ++ left)
   pub waiting : List (List ℕ)
-  pub turns : RemovesTo extents packages names before s removed waiting after t
-  pub last : AreLeftOver packages after.records.records waiting left
+  pub turns : RemovesTo options packages names before s removed waiting after t
+  pub last : AreLeftOver options.ignore_depends packages after.records.records waiting left
 
 -- The whole command: those that a rule refuses come first.
-pub record IsRemovalRun (names : List (List ℕ)) (extents : Extents) (us : List AUnit) (before after : Held) (s t : State) : Type 0 where
+pub record IsRemovalRun (names : List (List ℕ)) (options : RemovalOptions) (us : List AUnit) (before after : Held) (s t : State) : Type 0 where
   pub refused : List AUnit
-  pub first : IsRefusedFirst extents names before refused
-  pub runs : RunsThrough extents (waiting_for extents names before) refused us before after s t
+  pub first : IsRefusedFirst options.extents names before refused
+  pub runs : RunsThrough options (waiting_for options.extents names before) refused us before after s t
 
 -- a unit that was broken off for want of memory before it had done anything
 pub record IsIdle (u : AUnit) : Type 0 where
@@ -61,7 +62,7 @@ pub record HasNotBegun (us : List AUnit) (last : Option AUnit) (s t : State) : T
 -- Behind the units that are told already come removals up to a moment of the host, and then those left over where nothing else
 -- can be removed. Since that moment only the next removal was under way: so what the units left stands, also where that one was
 -- broken off.
-pub record RunsUpTo (extents : Extents) (names : List (List ℕ)) (refused us : List AUnit) (last : Option AUnit) (before : Held) (s t : State) : Type 0 where
+pub record RunsUpTo (options : RemovalOptions) (names : List (List ℕ)) (refused us : List AUnit) (last : Option AUnit) (before : Held) (s t : State) : Type 0 where
   pub packages : List Package
   pub stated : ArePackagesOf before.records.records packages
   pub removed : List AUnit
@@ -70,28 +71,28 @@ pub record RunsUpTo (extents : Extents) (names : List (List ℕ)) (refused us : 
   pub waiting : List (List ℕ)
   pub after : Held
   pub end : State
-  pub turns : RemovesTo extents packages names before s removed waiting after end
-  pub rest : (left ≡ []) ⊎ AreLeftOver packages after.records.records waiting left
-  pub since : AtEachMomentOf (IsAmidNext extents packages waiting after) end t
-  pub broken : IfSome last (IsBrokenNext extents packages waiting after end t)
+  pub turns : RemovesTo options packages names before s removed waiting after end
+  pub rest : (left ≡ []) ⊎ AreLeftOver options.ignore_depends packages after.records.records waiting left
+  pub since : AtEachMomentOf (IsAmidNext options packages waiting after) end t
+  pub broken : IfSome last (IsBrokenNext options packages waiting after end t)
 
-pub record HasBegun (names : List (List ℕ)) (extents : Extents) (us : List AUnit) (last : Option AUnit) (before : Held) (s t : State) : Type 0 where
+pub record HasBegun (names : List (List ℕ)) (options : RemovalOptions) (us : List AUnit) (last : Option AUnit) (before : Held) (s t : State) : Type 0 where
   pub refused : List AUnit
-  pub first : IsRefusedFirst extents names before refused
-  pub runs : RunsUpTo extents (waiting_for extents names before) refused us last before s t
+  pub first : IsRefusedFirst options.extents names before refused
+  pub runs : RunsUpTo options (waiting_for options.extents names before) refused us last before s t
 
-abbrev pub HasRun : List (List ℕ) → Extents → List AUnit → Option AUnit → Held → State → State → Type 0
-HasRun names extents us last before s t = HasNotBegun us last s t ⊎ HasBegun names extents us last before s t
+abbrev pub HasRun : List (List ℕ) → RemovalOptions → List AUnit → Option AUnit → Held → State → State → Type 0
+HasRun names options us last before s t = HasNotBegun us last s t ⊎ HasBegun names options us last before s t
 
 -- some removals are done, and the next is under way
-pub record IsAmidRemovals (names : List (List ℕ)) (extents : Extents) (before : Held) (s : State) (so_far : List Event) (now : World) : Type 0 where
+pub record IsAmidRemovals (names : List (List ℕ)) (options : RemovalOptions) (before : Held) (s : State) (so_far : List Event) (now : World) : Type 0 where
   pub packages : List Package
   pub stated : ArePackagesOf before.records.records packages
-  pub turns : IsAmidTurns extents packages (waiting_for extents names before) before s so_far now
+  pub turns : IsAmidTurns options packages (waiting_for options.extents names before) before s so_far now
 
 -- at each moment of a removal or a purge: nothing is done yet, or removals are
-abbrev pub IsAmidRun : List (List ℕ) → Extents → Held → State → List Event → World → Type 0
-IsAmidRun names extents before s so_far now = IsStill s.world so_far now ⊎ IsAmidRemovals names extents before s so_far now
+abbrev pub IsAmidRun : List (List ℕ) → RemovalOptions → Held → State → List Event → World → Type 0
+IsAmidRun names options before s so_far now = IsStill s.world so_far now ⊎ IsAmidRemovals names options before s so_far now
 
 -- the units of those that are left over of a queue, behind others
 pub record AddsLeft (q : Waiting) (old new : List AUnit) : Type 0 where

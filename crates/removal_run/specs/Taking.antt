@@ -1,7 +1,8 @@
 -- The removals of a command, while they are taken.
-use Rattle.std.specs.Prelude.{◌≡◌, ℕ, List, [], Option, Some, None}
+use Rattle.std.specs.Prelude.{◌≡◌, ℕ, IsTrue, List, [], Option, Some, None}
 use Rattle.diversions.specs.Diverted.{Diverted}
-use Rattle.dependency_check.specs.Waiting.{IsRemovableNow, Waiting}
+use Rattle.dependency_check.specs.Waiting.{Waiting}
+use Rattle.dependency_sets.specs.Sets.{has}
 use Rattle.held_administration.specs.declared.held.Administration.{Administration}
 use Rattle.relation_index.specs.declared.package.Package.{Package}
 use Rattle.status_records.specs.declared.record.Record.{Record}
@@ -11,15 +12,15 @@ use Rattle.removal_run.specs.Next.{IsNothing}
 use Rattle.removal_run.specs.Turns.{AreAccepted}
 use Rattle.removal_run.specs.Units.{AreOthersKept}
 use Rattle.removal_run.specs.Waiting.{IsQueueNow, name_at}
-use Rattle.removal_run.specs.declared.extents.Extents.{Extents}
+use Rattle.removal_run.specs.declared.options.RemovalOptions.{RemovalOptions}
 use Rattle.removal_run.specs.declared.turns.Removing.{Removing}
 
--- the queue of before the removal of the package of this number, which could be removed
+-- the queue of before the removal of the package of this number, which waited
 pub record IsQueueBefore (packages : List Package) (now : List Record) (names : List (List ℕ)) (q : Waiting) (x : ℕ) : Type 0 where
   pub before : List Record
   pub waited : List (List ℕ)
   pub is : IsQueueNow packages before waited q
-  pub member : IsRemovableNow q x
+  pub waits : IsTrue (has q.waiting x)
   pub others : AreOthersKept (name_at q.packages x) before now
   pub struck : names ≡ without (name_at q.packages x) waited
 
@@ -30,7 +31,7 @@ IsQueueTo packages now names q (Some x) = IsQueueBefore packages now names q x
 
 -- what stays the same over the removals
 pub record Task : Type 0 where
-  pub extents : Extents
+  pub options : RemovalOptions
   pub packages : List Package
   pub diverted : Diverted
 
@@ -39,7 +40,7 @@ packages_in None = []
 packages_in (Some q) = q.packages
 
 abbrev pub task_of : Removing → Task
-task_of r = record { extents = r.extents; packages = packages_in r.queue; diverted = r.diversions.now }
+task_of r = record { options = r.options; packages = packages_in r.queue; diverted = r.diversions.now }
 
 -- the names that wait
 abbrev pub names_of : Removing → List (List ℕ)
@@ -50,11 +51,11 @@ pub record IsBetween (r : Removing) (a : Administration) : Type 0 where
   pub queue : Waiting
   pub here : r.queue ≡ Some queue
   pub is : IsQueueTo queue.packages a.database.records r.waiting.items queue r.removed
-  pub accepted : AreAccepted r.extents a.database.records r.waiting.items
+  pub accepted : AreAccepted r.options.extents a.database.records r.waiting.items
 
 -- nothing that waits can be removed
 pub record IsOver (r : Removing) (names : List (List ℕ)) (held : Held) : Type 0 where
   pub queue : Waiting
   pub here : r.queue ≡ Some queue
   pub same : r.waiting.items ≡ names
-  pub nothing : IsNothing queue.packages held.records.records names queue
+  pub nothing : IsNothing r.options.ignore_depends queue.packages held.records.records names queue

@@ -1,11 +1,12 @@
 -- The packages that wait to be removed, among all that are recorded, and the next of them (Policy 6.8, 7.2).
 use Rattle.std.specs.Prelude.{◌≡◌, ℕ, Bool, false, List, [], Option, Some, None, map, length, slice_index_or}
-use Rattle.dependency_check.specs.Waiting.{Waiting, IsNextOfRemovable}
+use Rattle.dependency_check.specs.Waiting.{Waiting}
 use Rattle.relation_index.specs.declared.package.Package.{Package}
 use Rattle.status_records.specs.Records.{record_in}
 use Rattle.status_records.specs.Words.{is_installed}
 use Rattle.status_records.specs.declared.record.Record.{Record}
 use Rattle.removal_run.specs.Names.{is_among}
+use Rattle.removal_run.specs.Whose.{IsWhoseTurn}
 
 -- a package without a record isn't installed
 abbrev pub is_installed_by : Option Record → Bool
@@ -42,9 +43,9 @@ abbrev pub name_at : List Package → ℕ → List ℕ
 name_at packages x = slice_index_or (map (λ p. p.name) packages) x []
 
 -- of the names that are left, the one whose package is removed next
-pub record IsRemovedNext (packages : List Package) (now : List Record) (names : List (List ℕ)) (name : List ℕ) : Type 0 where
+pub record IsRemovedNext (ignore_depends : Bool) (packages : List Package) (now : List Record) (names : List (List ℕ)) (name : List ℕ) : Type 0 where
   pub queue : Waiting
   pub is : IsQueueNow packages now names queue
   pub number : ℕ
-  pub next : IsNextOfRemovable queue (Some number)
+  pub next : IsWhoseTurn ignore_depends queue number
   pub named : name ≡ name_at queue.packages number

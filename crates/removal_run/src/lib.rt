@@ -12,6 +12,7 @@
 mod extents;
 mod left;
 mod names;
+mod options;
 mod refusals;
 mod run;
 mod selected;
@@ -21,5 +22,6 @@ mod units;
 mod waiting;
 
 pub use extents::Extents;
+pub use options::RemovalOptions;
 pub use run::remove_packages;
 pub use selected::selected_names;

@@ -19,6 +19,7 @@ ghost use Rattle.unit_reports.specs.declared.report.Breakage.TheVariants.{Closed
 use crate::extents::Extents;
 use crate::left::left_over;
 use crate::names::once;
+use crate::options::RemovalOptions;
 use crate::refusals::{Sorted, sort};
 use crate::telling::tell_all;
 use crate::turns::run_turns;
@@ -148,25 +149,25 @@ fn run_sorted<H: Host, W: Watcher>(
     administration: &mut Administration,
     packages: &mut Packages,
     diversions: &Diversions,
-    extents: Extents,
+    options: RemovalOptions,
     sorted: Sorted,
     watcher: &mut W,
 ) -> Report
     requires order { Needs (H.state host.old)
         (IsInOrder administration.old.database administration.old.lists.lists) }
     requires open { IsOpen diversions.now.ways administration.old }
-    requires accepted { AreAccepted extents administration.old.database.records sorted.waiting.items }
+    requires accepted { AreAccepted options.extents administration.old.database.records sorted.waiting.items }
     requires told { calls_of sorted.refused.items ≡ [] }
     requires asked { sorted.asked.items ≡ sorted.waiting.items }
     requires indexed { ArePackagesOf administration.old.database.records packages.old }
-    ensures whole { IsNone result.last → RunsThrough extents sorted.waiting.items sorted.refused.items
+    ensures whole { IsNone result.last → RunsThrough options sorted.waiting.items sorted.refused.items
         result.units.items (held_by administration.old diversions.now)
         (held_by administration.new diversions.now) (H.state host.old) (H.state host.new) }
-    ensures part { RunsUpTo extents sorted.waiting.items sorted.refused.items result.units.items
+    ensures part { RunsUpTo options sorted.waiting.items sorted.refused.items result.units.items
         result.last (held_by administration.old diversions.now) (H.state host.old)
         (H.state host.new) }
     ensures told { TellsCalls (H.state host.old) (H.state host.new) result }
-    ensures any_moment { Since (IsAmidTurns extents packages.old sorted.waiting.items
+    ensures any_moment { Since (IsAmidTurns options packages.old sorted.waiting.items
         (held_by administration.old diversions.now) (H.state host.old)) (H.state host.old)
         (H.state host.new) }
     ensures counts { CountsLast (H.state host.old) (H.state host.new) result.last }
@@ -193,7 +194,7 @@ fn run_sorted<H: Host, W: Watcher>(
         administration,
         taken,
         diversions,
-        extents,
+        options,
         waiting,
         &mut units,
         watcher,
@@ -227,20 +228,20 @@ pub fn remove_packages<H: Host, W: Watcher>(
     packages: &mut Packages,
     diversions: &Diversions,
     names: Vec<Text>,
-    extents: Extents,
+    options: RemovalOptions,
     watcher: &mut W,
 ) -> Report
     requires order { Needs (H.state host.old)
         (IsInOrder administration.old.database administration.old.lists.lists) }
     requires open { IsOpen diversions.now.ways administration.old }
     requires indexed { ArePackagesOf administration.old.database.records packages.old }
-    ensures whole { IsNone result.last → IsRemovalRun names.items extents result.units.items
+    ensures whole { IsNone result.last → IsRemovalRun names.items options result.units.items
         (held_by administration.old diversions.now) (held_by administration.new diversions.now)
         (H.state host.old) (H.state host.new) }
-    ensures part { HasRun names.items extents result.units.items result.last
+    ensures part { HasRun names.items options result.units.items result.last
         (held_by administration.old diversions.now) (H.state host.old) (H.state host.new) }
     ensures told { TellsCalls (H.state host.old) (H.state host.new) result }
-    ensures any_moment { Since (IsAmidRun names.items extents
+    ensures any_moment { Since (IsAmidRun names.items options
         (held_by administration.old diversions.now) (H.state host.old)) (H.state host.old)
         (H.state host.new) }
     ensures counts { CountsLast (H.state host.old) (H.state host.new) result.last }
@@ -254,13 +255,13 @@ pub fn remove_packages<H: Host, W: Watcher>(
     ensures watched { IsTold W.tells (H.state host.old) watcher.old result.units.items watcher.new }
 {
     let alloc = administration.alloc;
-    match sorted(alloc, extents, &administration.database, names) {
+    match sorted(alloc, options.extents, &administration.database, names) {
         Ok(sorted) => run_sorted(
             host,
             administration,
             packages,
             diversions,
-            extents,
+            options,
             sorted,
             watcher,
         ),

@@ -18,8 +18,9 @@ ghost use Rattle.undo_rows.specs.Transcript.{TellsAll};
 ghost use Rattle.unit_runs.specs.Taking.{CountsTaken, IsTaken, calls_in};
 ghost use Rattle.unit_runs.specs.Turns as runs;
 
-use crate::extents::{Extents, purges};
+use crate::extents::purges;
 use crate::names::strike;
+use crate::options::RemovalOptions;
 use crate::units::remove_one;
 use crate::waiting::{Next, next_of, queue_now, queue_of};
 use dependency_check::RemoveQueue;
@@ -47,7 +48,7 @@ fn take_next<H: Host>(
     host: &mut H,
     administration: &mut Administration,
     diversions: &Diversions,
-    extents: Extents,
+    options: RemovalOptions,
     queue: &RemoveQueue,
     room: bool,
     waiting: &mut Vec<Text>,
@@ -56,18 +57,18 @@ fn take_next<H: Host>(
     requires order { Needs (H.state host.old)
         (IsInOrder administration.old.database administration.old.lists.lists) }
     requires open { IsOpen diversions.now.ways administration.old }
-    requires accepted { AreAccepted extents administration.old.database.records waiting.old.items }
+    requires accepted { AreAccepted options.extents administration.old.database.records waiting.old.items }
     requires queue { IsQueueNow queue.now.packages administration.old.database.records
         waiting.old.items queue.now }
-    ensures taken { IsTaken (IsTurn extents queue.now.packages)
-        (λ left later. HasCalledNext extents queue.now.packages left)
-        (λ left held. (waiting.new.items ≡ left) × IsNothing queue.now.packages held.records.records
+    ensures taken { IsTaken (IsTurn options queue.now.packages)
+        (λ left later. HasCalledNext options queue.now.packages left)
+        (λ left held. (waiting.new.items ≡ left) × IsNothing options.ignore_depends queue.now.packages held.records.records
         left queue.now) waiting.old.items waiting.new.items
         (held_by administration.old diversions.now) (held_by administration.new diversions.now)
         (H.state host.old) (H.state host.new) result }
     ensures queue { OnOk result (IsQueueTo queue.now.packages administration.new.database.records
         waiting.new.items queue.now removed.new) }
-    ensures accepted { OnOk result (AreAccepted extents administration.new.database.records
+    ensures accepted { OnOk result (AreAccepted options.extents administration.new.database.records
         waiting.new.items) }
     ensures fewer { IfOk result (λ found. IfSome found (λ unit. length waiting.new.items
         < length waiting.old.items)) }
@@ -78,17 +79,17 @@ fn take_next<H: Host>(
     ensures answered { OnOk result (IsAnswered (H.state host.old) (H.state host.new)) }
     ensures told { TellsAll (H.state host.old) (H.state host.new) [] (calls_in result) }
     ensures any_moment { AtEachMomentOf (runs.IsAmidNext
-        (λ left later. IsAmidTurn extents queue.now.packages left) waiting.old.items waiting.new.items
+        (λ left later. IsAmidTurn options queue.now.packages left) waiting.old.items waiting.new.items
         (held_by administration.old diversions.now)) (H.state host.old) (H.state host.new) }
     ensures counts { CountsTaken (H.state host.old) (H.state host.new) result }
     ensures not_closed { IfErr result (λ unit. IsBrokenBy Closed unit.reply → ⊥) }
 {
     let alloc = administration.alloc;
     *removed = None;
-    match next_of(alloc, queue) {
+    match next_of(alloc, queue, waiting.as_slice(), options.ignore_depends) {
         Ok(Some(next)) => {
             let Next { number, name } = next;
-            let purge = purges(extents, &administration.database, &name);
+            let purge = purges(options.extents, &administration.database, &name);
             strike(waiting, &name);
             match remove_one(host, administration, diversions, name, purge, room) {
                 Ok(unit) => {
@@ -112,7 +113,7 @@ pub(crate) struct Removing<'d> {
     pub(crate) queue: Option<RemoveQueue>,
     pub(crate) removed: Option<usize>,
     pub(crate) waiting: Vec<Text>,
-    pub(crate) extents: Extents,
+    pub(crate) options: RemovalOptions,
 }
 
 impl<'d, H: Host> Turns<H> for Removing<'d> {
@@ -130,11 +131,11 @@ impl<'d, H: Host> Turns<H> for Removing<'d> {
 
     ghost size = { λ names. length names };
 
-    ghost turn = { λ task. IsTurn task.extents task.packages };
+    ghost turn = { λ task. IsTurn task.options task.packages };
 
-    ghost amid = { λ task left later. IsAmidTurn task.extents task.packages left };
+    ghost amid = { λ task left later. IsAmidTurn task.options task.packages left };
 
-    ghost called = { λ task left later. HasCalledNext task.extents task.packages left };
+    ghost called = { λ task left later. HasCalledNext task.options task.packages left };
 
     ghost goes = { λ task left later. Unit {0} };
 
@@ -164,7 +165,7 @@ impl<'d, H: Host> Turns<H> for Removing<'d> {
                         host,
                         administration,
                         self.diversions,
-                        self.extents,
+                        self.options,
                         &queue,
                         room,
                         &mut self.waiting,
@@ -187,7 +188,7 @@ pub(crate) fn run_turns<H: Host, W: Watcher>(
     administration: &mut Administration,
     packages: Packages,
     diversions: &Diversions,
-    extents: Extents,
+    options: RemovalOptions,
     waiting: Vec<Text>,
     units: &mut Vec<Unit>,
     watcher: &mut W,
@@ -195,22 +196,22 @@ pub(crate) fn run_turns<H: Host, W: Watcher>(
     requires order { Needs (H.state host.old)
         (IsInOrder administration.old.database administration.old.lists.lists) }
     requires open { IsOpen diversions.now.ways administration.old }
-    requires accepted { AreAccepted extents administration.old.database.records waiting.items }
-    ensures turned { IfOk result (λ left. HasTurned extents packages waiting.items left.1.items
+    requires accepted { AreAccepted options.extents administration.old.database.records waiting.items }
+    ensures turned { IfOk result (λ left. HasTurned options packages waiting.items left.1.items
         (held_by administration.old diversions.now) (held_by administration.new diversions.now)
         (H.state host.old) (H.state host.new) units.old.items units.new.items) }
-    ensures nothing { IfOk result (λ left. IsNothing packages administration.new.database.records
+    ensures nothing { IfOk result (λ left. IsNothing options.ignore_depends packages administration.new.database.records
         left.1.items left.0) }
     ensures others { OnOk result (AreSameBut waiting.items administration.old.database.records
         administration.new.database.records) }
-    ensures stopped { IfErr result (HasStopped extents packages waiting.items
+    ensures stopped { IfErr result (HasStopped options packages waiting.items
         (held_by administration.old diversions.now) (H.state host.old) (H.state host.new)
         units.old.items units.new.items) }
     ensures told { OnOk result (TellsAll (H.state host.old) (H.state host.new)
         (calls_of units.old.items) (calls_of units.new.items)) }
     ensures told_stopped { IfErr result (λ unit. TellsAll (H.state host.old) (H.state host.new)
         (calls_of units.old.items) (calls_of units.new.items ++ unit.calls.items)) }
-    ensures any_moment { Since (IsAmidTurns extents packages waiting.items
+    ensures any_moment { Since (IsAmidTurns options packages waiting.items
         (held_by administration.old diversions.now) (H.state host.old)) (H.state host.old)
         (H.state host.new) }
     ensures no_fault { OnOk result (NoFault (H.state host.old) (H.state host.new)) }
@@ -238,7 +239,7 @@ pub(crate) fn run_turns<H: Host, W: Watcher>(
         queue: Some(queue),
         removed: None,
         waiting,
-        extents,
+        options,
         diversions,
     };
     match run_units(host, administration, &mut turns, units, watcher) {
@@ -247,7 +248,7 @@ pub(crate) fn run_turns<H: Host, W: Watcher>(
                 queue,
                 removed: _,
                 waiting,
-                extents: _,
+                options: _,
                 diversions: _,
             } = turns;
             match queue {

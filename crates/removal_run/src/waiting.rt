@@ -1,15 +1,20 @@
 // The packages that wait to be removed, and the next of them.
-ghost use Rattle.std.specs.Prelude.{◌≡◌, ◌<◌, ℕ, List, IfOk, length, map};
+ghost use Rattle.std.specs.Prelude.{◌≡◌, ◌<◌, ℕ, List, false, true, IfOk, IsTrue, MatchOption, length, map};
 ghost use Rattle.dependency_check.specs.Waiting.{IsRemovableNow};
+ghost use Rattle.dependency_sets.specs.Choices.{IsFirst};
+ghost use Rattle.dependency_sets.specs.Sets.{has};
+ghost use Rattle.relation_index.specs.Packages.{AreInNameOrder};
 ghost use Rattle.removal_run.specs.Names.{without};
 ghost use Rattle.removal_run.specs.Next.{IsNext};
 ghost use Rattle.removal_run.specs.Taking.{IsQueueTo};
 ghost use Rattle.removal_run.specs.Units.{AreOthersKept};
 ghost use Rattle.removal_run.specs.Waiting.{IsEven, IsQueueNow, is_installed_in, is_installed_now, is_named, name_at};
+ghost use Rattle.removal_run.specs.Whose.{IsNobodysTurn, IsWhoseTurn};
 ghost use Rattle.status_records.specs.declared.record.Record.{Record as ARecord};
 
 use crate::names::is_among;
 use dependency_check::RemoveQueue;
+use dependency_sets::{first_of_both, has};
 use relation_index::{Package, Packages};
 use status_db::NotedDatabase;
 use std::alloc::{AllocError, Global};
@@ -69,8 +74,21 @@ pub(crate) fn queue_of(
     Ok(queue)
 }
 
-// The queue behind the removal of a package, whatever its end. A package that stays installed meets clauses as it did
-// before it waited, so then the queue is made anew; where it isn't installed any more the queue goes on.
+// Whether the queue goes on behind the removal of a package: it isn't installed any more, and could be removed. A package that stays
+// installed meets clauses as it did before it waited, and behind one that was removed out of order others can be.
+fn goes_on(queue: &RemoveQueue, number: usize, database: &NotedDatabase) -> bool
+    requires even { IsEven queue.now }
+    requires waits { IsTrue (has queue.now.waiting number) }
+    ensures gone { result ≡ true → is_installed_in database.now.records
+        (name_at queue.now.packages number) ≡ false }
+    ensures member { result ≡ true → IsRemovableNow queue.now number }
+    ensures ordered { AreInNameOrder queue.now.packages }
+{
+    let package = &queue.packages().as_slice()[number];
+    !is_installed_in(database, &package.name) && has(queue.members(), number)
+}
+
+// The queue behind the removal of a package, whatever its end: it goes on or is made anew.
 fn queue_behind(
     alloc: Global,
     queue: RemoveQueue,
@@ -79,7 +97,7 @@ fn queue_behind(
     waiting: &[Text],
 ) -> Result<RemoveQueue, AllocError>
     requires even { IsEven queue }
-    requires member { IsRemovableNow queue number }
+    requires waits { IsTrue (has queue.waiting number) }
     ensures { IfOk result (λ later. (before : List ARecord) (names : List (List ℕ))
         → IsQueueNow queue.packages before names queue
         → AreOthersKept (name_at queue.packages number) before database.now.records
@@ -87,12 +105,12 @@ fn queue_behind(
         → IsQueueNow queue.packages database.now.records waiting.now later) }
 {
     let mut queue = queue;
-    if is_installed_in(database, &queue.packages().as_slice()[number].name) {
-        let again = queue_of(alloc, queue.into_packages(), database, waiting)?;
-        return Ok(again);
+    if goes_on(&queue, number, database) {
+        queue.removed(number);
+        return Ok(queue);
     }
-    queue.removed(number);
-    Ok(queue)
+    let again = queue_of(alloc, queue.into_packages(), database, waiting)?;
+    Ok(again)
 }
 
 /// The queue of this moment: that of before, where no package was removed since.
@@ -127,13 +145,56 @@ pub(crate) fn name_of(packages: &Packages, number: usize) -> Result<Text, AllocE
     packages.as_slice()[number].name.copy()
 }
 
-/// What is next. None where none of those that wait can be removed.
-pub(crate) fn next_of(alloc: Global, queue: &RemoveQueue) -> Result<Option<Next>, AllocError>
-    requires { IsEven queue.now }
-    ensures { IfOk result (IsNext queue.now) }
+// The first of those that wait.
+fn first_waiting(
+    alloc: Global,
+    queue: &RemoveQueue,
+    waiting: &[Text],
+) -> Result<Option<usize>, AllocError>
+    requires { queue.now.waiting ≡ map (is_named waiting.now) queue.now.packages }
+    ensures { IfOk result (λ first. MatchOption first ((x : ℕ) → IsTrue (has queue.now.waiting x)
+        → ⊥) (IsFirst (λ x. IsTrue (has queue.now.waiting x)))) }
+{
+    let marks = marks_of(alloc, waiting, queue.packages().as_slice())?;
+    Ok(first_of_both(marks.as_slice(), marks.as_slice()))
+}
+
+// Whose turn it is. Where it is ignored that others depend on them none is left over.
+fn number_of_next(
+    alloc: Global,
+    queue: &RemoveQueue,
+    waiting: &[Text],
+    ignore_depends: bool,
+) -> Result<Option<usize>, AllocError>
+    requires { queue.now.waiting ≡ map (is_named waiting.now) queue.now.packages }
+    ensures { IfOk result (λ next. MatchOption next (IsNobodysTurn ignore_depends queue.now)
+        (IsWhoseTurn ignore_depends queue.now)) }
 {
     let _members = queue.members();
     match queue.next(alloc)? {
+        Some(number) => Ok(Some(number)),
+        None => {
+            if ignore_depends {
+                let first = first_waiting(alloc, queue, waiting)?;
+                return Ok(first);
+            }
+            Ok(None)
+        }
+    }
+}
+
+/// What is next. None where none of those that wait can be removed.
+pub(crate) fn next_of(
+    alloc: Global,
+    queue: &RemoveQueue,
+    waiting: &[Text],
+    ignore_depends: bool,
+) -> Result<Option<Next>, AllocError>
+    requires even { IsEven queue.now }
+    requires waiting { queue.now.waiting ≡ map (is_named waiting.now) queue.now.packages }
+    ensures { IfOk result (IsNext ignore_depends queue.now) }
+{
+    match number_of_next(alloc, queue, waiting, ignore_depends)? {
         Some(number) => {
             let name = name_of(queue.packages(), number)?;
             Ok(Some(Next { number, name }))

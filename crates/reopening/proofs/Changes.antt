@@ -1,5 +1,5 @@
 -- Changes of records, one after another: the next opening can read all at each moment.
-use Rattle.std.proofs.Common.{◌≡◌, ◌⊎◌, inl, inr, ℕ, Bool, true, false, cond, List, [], ◌∷◌, Option, Some, None, sym, ap, subst, ◌∙◌}
+use Rattle.std.proofs.Common.{◌≡◌, ◌⊎◌, inl, inr, ℕ, Bool, true, false, cond, List, [], ◌∷◌, Option, Some, None, refl, sym, ap, subst, ◌∙◌}
 use Rattle.std.specs.Str.{bytes_eq}
 use Rattle.host_core.specs.Events.{Event}
 use Rattle.host_core.specs.Host.{State}
@@ -13,7 +13,7 @@ use Rattle.record_changes.specs.Run.{HasRun}
 use Rattle.record_changes.specs.Turns.{IsAmidTurn, IsTurn}
 use Rattle.record_changes.specs.Units.{IsAmidChange, IsChange, entry_of, recorded}
 use Rattle.record_changes.specs.declared.change.Change.{Change}
-use Rattle.record_changes.specs.declared.change.Change.TheVariants.{Want, Activate}
+use Rattle.record_changes.specs.declared.change.Change.TheVariants.{Want, Activate, Abandon}
 use Rattle.record_changes.specs.declared.change.RecordChange.{RecordChange}
 use Rattle.status_db.specs.Held.{HasRecords, is_record_place}
 use Rattle.status_records.specs.Records.{record_in}
@@ -44,6 +44,7 @@ found_one names (x ∷ rs) name r all found = by (bytes_eq x.name name) (found_o
 changed_one : (names : List (List ℕ)) (change : Change) (r : Record) → IsOneOf names r → IsOneOf names (changed change r)
 changed_one names (Want want) r one = record { stands = one.stands; named = one.named }
 changed_one names (Activate triggers) r one = record { stands = one.stands; named = one.named }
+changed_one names (Abandon trigger) r one = record { stands = refl; named = one.named }
 
 module _ (asked : RecordChange) (before : Held) (old now : World) (sound : IsSound before old) where
   abbrev names : List (List ℕ)

@@ -31,6 +31,7 @@ use Rattle.status_db.specs.Held.{CanOpenRecords, HasRecords}
 use Rattle.status_db.specs.Notes.{digits, note_path}
 use Rattle.unit_reports.specs.Held.{Held}
 use Rattle.held_administration.specs.Order.{record_names}
+use Rattle.opening.proofs.Reopened.{names_same}
 use Rattle.reopening.proofs.Entries.{IsSafe}
 use Rattle.reopening.proofs.Parts.{temporary_is}
 use Rattle.reopening.proofs.Sounds.{IsSound, sound_grown, sound_opens}
@@ -80,6 +81,7 @@ module _ (h : Held) (old now : World) (sound : IsSound h old) (same : (q : Path)
     info = subst IsDirectory (sym (same_info [])) sound.safe.info;
     text = λ bad. sound.safe.text (bad.0, bad.1, bad.2, subst IsSome (same_info (47 ∷ bad.0)) bad.3);
     sound = λ entry plain. subst (IsSoundEntry (record_names h.records.records) entry) (sym (same_info (47 ∷ entry))) (sound.safe.sound entry plain);
+    short = names_same old now (λ entry. same_info (47 ∷ entry)) sound.safe.short;
     diversions = has;
     spare = ready.spare;
   }

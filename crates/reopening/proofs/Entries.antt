@@ -1,9 +1,7 @@
 -- What stands in `info` at a moment of a command that leaves the rest alone: no opening refuses it.
-use Rattle.std.proofs.Common.{◌≡◌, inl, inr, ℕ, zero, suc, Bool, true, false, List, ◌∷◌, Option, None, Contains, refl, sym, ap, subst, ◌∙◌, arith}
+use Rattle.std.proofs.Common.{◌≡◌, inl, inr, ℕ, zero, suc, List, ◌∷◌, ◌++◌, Option, None, Contains, sym, ap, subst, ◌∙◌, arith}
 use Rattle.std.specs.Prelude.{IsSome}
-use Rattle.std.proofs.lemmas.Bool.{true≢false}
 use Rattle.host_core.specs.Paths.{Path}
-use Rattle.host_core.specs.Tree.{has_slash}
 use Rattle.host_core.specs.World.{World, IsDirectory}
 use Rattle.host_core.specs.declared.call.Script.{Script}
 use Rattle.host_core.specs.declared.node.Node.{Node}
@@ -13,17 +11,22 @@ use Rattle.administration.specs.Places.{diversions_path, info_path, list_path, s
 use Rattle.administration.proofs.WholeFiles.{no_directory_at}
 use Rattle.diversions.specs.Ways.{Ways}
 use Rattle.diversions.specs.Lines.{HasDiversions, HasEntries}
-use Rattle.file_lists.specs.Info.{AreLoose, AreSound, IsLink, IsListOf, IsScriptOf, IsSound, entry_path, is_foreign}
+use Rattle.file_lists.specs.Info.{AreLoose, AreSound, IsLink, IsListOf, IsScriptOf, IsSound, entry_path}
 use Rattle.file_lists.specs.Lists.{IsReadable}
+use Rattle.info_format.specs.Names.{long_front}
+use Rattle.info_format.specs.Stage.{HaveShortNames}
+use Rattle.info_format.proofs.Doubles.{LongStood, names_by}
+use Rattle.info_format.proofs.Two.{long_is_long}
 use Rattle.reopening.proofs.Inside.{IsQuiet}
 use Rattle.reopening.proofs.Names.{diversions_unnamed, info_unnamed, spare_unnamed, strange_unnamed}
 
--- what stands beside the records: the directory, names that are text, entries without a fault for packages of these names, and the
--- diversions
+-- what stands beside the records: the directory, names that are text, entries without a fault for packages of these names, which are read
+-- by names without an architecture, and the diversions
 pub record IsSafe (names : List (List ℕ)) (ways : Ways) (w : World) : Type 0 where
   pub info : IsDirectory (w info_path)
   pub text : HasBadName w info_path → ⊥
   pub sound : AreSound w names
+  pub short : HaveShortNames w
   pub diversions : HasDiversions w ways.entries
   pub spare : NoDirectory (w (temporary diversions_path))
 
@@ -34,8 +37,8 @@ safe_fewer names less ways w fewer safe = record {
   text = safe.text;
   diversions = safe.diversions;
   spare = safe.spare;
+  short = safe.short;
   sound = λ entry plain. (let is = safe.sound entry plain in record {
-    colon = is.colon;
     loose = is.loose;
     list = λ of. is.list (of.0, fewer of.0 of.1, of.2);
     script = λ of. is.script (of.0, of.1, fewer of.1 of.2, of.3);
@@ -49,8 +52,8 @@ safe_more names own ways w no_list no_script safe = record {
   text = safe.text;
   diversions = safe.diversions;
   spare = safe.spare;
+  short = safe.short;
   sound = λ entry plain. (let is = safe.sound entry plain in record {
-    colon = is.colon;
     loose = is.loose;
     list = λ of. at_list entry is of;
     script = λ of link. at_script entry is of link;
@@ -77,10 +80,10 @@ module _ (names : List (List ℕ)) (ways : Ways) (old now : World) (quiet : IsQu
   text_still : HasBadName now info_path → ⊥
   text_still bad = safe.text (bad.0, bad.1, bad.2, subst IsSome (quiet.stays (entry_path bad.0) (strange_unnamed bad.0 (inl bad.2))) bad.3)
 
-  colon_still : (entry : Path) → has_slash entry ≡ false → IsSome (now (entry_path entry)) → (b : Bool) → is_foreign entry ≡ b → b ≡ false
-  colon_still entry plain some false e = refl
-  colon_still entry plain some true e =
-      absurd (true≢false (sym e ∙ (safe.sound entry plain).colon (subst IsSome (quiet.stays (entry_path entry) (strange_unnamed entry (inr e))) some)))
+  long_still : LongStood old now
+  long_still arches long short two some =
+      let entry = long_front two.name two.architecture ++ 46 ∷ two.ending in
+      ap now two.long_is ∙ quiet.stays (entry_path entry) (strange_unnamed entry (inr (long_is_long arches long short two))) ∙ sym (ap old two.long_is)
 
   list_still : (entry : Path) → IsSound names entry (old (entry_path entry)) → (of : IsListOf names entry) → IsReadable (now (entry_path entry))
   list_still entry is of = subst (λ (x : Path). IsReadable (now (entry_path x))) (sym of.2) (quiet.lists of.0 (subst (λ (x : Path). IsReadable (old (entry_path x))) of.2 (is.list of)))
@@ -94,11 +97,11 @@ module _ (names : List (List ℕ)) (ways : Ways) (old now : World) (quiet : IsQu
     info = subst IsDirectory (sym (quiet.stays info_path info_unnamed)) safe.info;
     text = text_still;
     sound = λ entry plain. record {
-      colon = λ some. colon_still entry plain some (is_foreign entry) refl;
       loose = loose entry plain;
       list = λ of. list_still entry (safe.sound entry plain) of;
       script = λ of link. script_still entry (safe.sound entry plain) of link;
     };
+    short = names_by old now long_still safe.short;
     diversions = subst (λ (n : Option Node). HasEntries n ways.entries) (sym (quiet.stays diversions_path diversions_unnamed)) safe.diversions;
     spare = no_directory_at (now (temporary diversions_path)) (old (temporary diversions_path)) (quiet.stays (temporary diversions_path) spare_unnamed) safe.spare;
   }

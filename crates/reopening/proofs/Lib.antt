@@ -23,5 +23,6 @@ mod Standings
 mod Undamaged
 mod Openings
 mod LostOpenings
+mod ControlFiles
 mod Answered
 mod Checkpoints

@@ -27,6 +27,10 @@ use Rattle.dpkg_session.specs.History.{Stands}
 use Rattle.file_lists.specs.Info.{IsLink, IsSound, entry_path}
 use Rattle.file_lists.specs.Lists.{IsReadable}
 use Rattle.file_lists.specs.declared.paths.PackageList.{PackageList}
+use Rattle.info_format.specs.Format.{format_path}
+use Rattle.info_format.specs.Stage.{AreReadShort}
+use Rattle.info_format.proofs.Doubles.{read_by}
+use Rattle.info_format.proofs.Two.{two_proper, two_whole}
 use Rattle.opening.proofs.KeptLists.{has_lists_kept}
 use Rattle.opening.specs.Opened.{IsFound}
 use Rattle.opening.specs.Parts.{IsReadableInfo, names_of}
@@ -52,7 +56,7 @@ blurred_directory (Some (Link target)) m blurred is = subst IsDirectory blurred 
 
 -- lists, stored scripts and notes have no temporary name
 
-is_suffixed : (p : Path) → is_temporary p ≡ true → (q : Path) × (p ≡ temporary q)
+pub is_suffixed : (p : Path) → is_temporary p ≡ true → (q : Path) × (p ≡ temporary q)
 is_suffixed p is =
     let s = codes ".dpkg-inst" in
     let k = length p - length s in
@@ -100,7 +104,6 @@ module _ (w left : World) (like : IsLike is_own w left) where
 
   still_sound : (names : List (List ℕ)) (entry : Path) → IsSound names entry (w (entry_path entry)) → IsSound names entry (left (entry_path entry))
   still_sound names entry is = record {
-    colon = λ some. is.colon (like_some (entry_path entry) refl some);
     loose = like_directory (entry_path entry) refl is.loose;
     list = λ of. subst IsReadable (sym (ap (λ (x : Path). left (entry_path x)) of.2 ∙ like.whole (list_path of.0) refl (list_proper of.0) ∙ ap (λ (x : Path). w (entry_path x)) (sym of.2))) (is.list of);
     script = λ of link. is.script of
@@ -122,11 +125,17 @@ module _ (w left : World) (like : IsLike is_own w left) where
     loose = λ name plain. like_directory (laid_path name) refl (is.loose name plain);
   }
 
+  still_short : AreReadShort w → AreReadShort left
+  still_short read =
+      read_by w left (λ arches long short two some. like.whole long (ap is_own two.long_is) (two_proper arches long short two)) (λ arches long short two some. like.whole short (ap is_own two.short_is) (two_whole arches long short two))
+      (λ none. like.whole format_path refl refl ∙ none) read
+
   pub opened_like : CanBeOpened w → CanBeOpened left
   opened_like opens = record {
     records = still_opens opens.records;
     info = subst IsDirectory (sym (like.whole info_path refl refl)) opens.info;
     readable = still_readable opens.readable;
+    short = still_short opens.short;
     diversions = (opens.diversions.0, subst (λ (n : Option Node). HasEntries n opens.diversions.0) (sym (like.whole diversions_path refl refl)) opens.diversions.1);
     spare = like_directory (temporary diversions_path) refl opens.spare;
     incoming = still_incoming opens.incoming;

@@ -17,6 +17,10 @@ use Rattle.administration.specs.declared.fault.AdministrationFault.TheVariants.{
 use Rattle.diversions.specs.Lines.{IsDamageAt}
 use Rattle.file_lists.specs.Info.{HasBadLine, HasFault, IsFaultyWhole, IsInfoDamage, IsLink, IsListOf, IsScriptOf, IsSound, entry_path}
 use Rattle.file_lists.specs.Lists.{IsReadable}
+use Rattle.info_format.specs.Format.{format_path}
+use Rattle.info_format.specs.Stage.{AreReadShort}
+use Rattle.info_format.proofs.Doubles.{read_by}
+use Rattle.info_format.proofs.Two.{two_proper, two_whole}
 use Rattle.opening.specs.TakenUp.{IsOpeningOrAdopting}
 use Rattle.opening.specs.Leaving.{lib_path, root_path, var_path}
 use Rattle.opening.specs.Parts.{Diversions, Info, IsTable, Leftovers, Records, Root, Spare, Way, names_of}
@@ -116,14 +120,12 @@ module _ (w left : World) (like : IsLike every w left) where
   at_either names entry (inr of) = at_script names entry of
 
   whole_there : (names : List (List ℕ)) (entry : Path) → IsFaultyWhole names entry (left (entry_path entry)) → IsFaultyWhole names entry (w (entry_path entry))
-  whole_there names entry (inl colon) = inl (some_there (entry_path entry) colon.0, colon.1)
-  whole_there names entry (inr (inl is)) = inr (inl (directory_there (entry_path entry) is))
-  whole_there names entry (inr (inr link)) = inr (inr (link.0, subst IsLink (at_either names entry link.0) link.1))
+  whole_there names entry (inl is) = inl (directory_there (entry_path entry) is)
+  whole_there names entry (inr link) = inr (link.0, subst IsLink (at_either names entry link.0) link.1)
 
   whole_left : (names : List (List ℕ)) (entry : Path) → IsFaultyWhole names entry (w (entry_path entry)) → IsFaultyWhole names entry (left (entry_path entry))
-  whole_left names entry (inl colon) = inl (some_left (entry_path entry) colon.0, colon.1)
-  whole_left names entry (inr (inl is)) = inr (inl (directory_left (entry_path entry) is))
-  whole_left names entry (inr (inr link)) = inr (inr (link.0, subst IsLink (sym (at_either names entry link.0)) link.1))
+  whole_left names entry (inl is) = inl (directory_left (entry_path entry) is)
+  whole_left names entry (inr link) = inr (link.0, subst IsLink (sym (at_either names entry link.0)) link.1)
 
   fault_there : (names : List (List ℕ)) (entry : Path) (line : ℕ) → HasFault names entry (left (entry_path entry)) line → HasFault names entry (w (entry_path entry)) line
   fault_there names entry line (inl whole) = inl (whole_there names entry whole.0, whole.1)
@@ -132,7 +134,6 @@ module _ (w left : World) (like : IsLike every w left) where
 
   sound_there : (names : List (List ℕ)) (entry : Path) → IsSound names entry (left (entry_path entry)) → IsSound names entry (w (entry_path entry))
   sound_there names entry is = record {
-    colon = λ some. is.colon (some_left (entry_path entry) some);
     loose = λ there. is.loose (directory_left (entry_path entry) there);
     list = λ of. subst IsReadable (at_list names entry of) (is.list of);
     script = λ of link. is.script of (subst IsLink (sym (at_script names entry of)) link);
@@ -176,6 +177,11 @@ module _ (w left : World) (like : IsLike every w left) where
   leftovers_lost none whole file line (zero_line, inl (is, inr bad)) = none file line (zero_line, inl (is, inr (bad_there tmp_path bad)))
   leftovers_lost none whole file line (zero_line, inr held) = whole.leftovers held.1.0 held.1.2.plain (directory_there (tmp_path ++ 47 ∷ held.1.0) held.1.2.holds)
 
+  read_like : AreReadShort w → AreReadShort left
+  read_like read =
+      read_by w left (λ arches long short two some. like.whole long refl (two_proper arches long short two)) (λ arches long short two some. like.whole short refl (two_whole arches long short two))
+      (λ none. like.whole format_path refl refl ∙ none) read
+
   undamaged_like : IsUndamaged w → IsUndamaged left
   undamaged_like whole =
       let all = whole.sound in
@@ -209,7 +215,7 @@ module _ (w left : World) (like : IsLike every w left) where
             ),
           ),
         );
-        short = λ entry plain some. whole.short entry plain (some_there (entry_path entry) some);
+        short = read_like whole.short;
         leftovers = λ name plain is. whole.leftovers name plain (directory_there (tmp_path ++ 47 ∷ name) is);
       }
 

@@ -1,4 +1,4 @@
--- The names under which a unit writes in `info`: no opening refuses them, and other entries are none of a package's.
+-- The names under which a unit writes in `info`: no opening refuses them, none has an architecture, and other entries are none of a package's.
 use Rattle.std.proofs.Common.{◌≡◌, ◌≢◌, ◌&&◌, ◌||◌, ◌⊎◌, inl, inr, ℕ, Bool, true, false, not, [], ◌∷◌, ◌++◌, codes, drop, nat_eq, get_or, refl, sym, ap, subst, ◌∙◌, arith}
 use Rattle.std.specs.List.{ends_with, list_all, list_any}
 use Rattle.std.specs.Str.{IsUtf8}
@@ -13,23 +13,24 @@ use Rattle.administration.specs.Places.{diversions_path, info_path, list_name, t
 use Rattle.administration.proofs.NamePaths.{list_is_path, list_spare_is_path}
 use Rattle.control_members.specs.Names.{is_member_name, is_member_sign}
 use Rattle.control_members.proofs.MemberNames.{signs_of, stored_is_path, stored_spare_is_path, stored_utf8}
-use Rattle.file_lists.specs.Info.{entry_path, is_foreign}
+use Rattle.file_lists.specs.Info.{entry_path}
+use Rattle.info_format.specs.Stage.{is_long}
 use Rattle.reopening.proofs.Inside.{IsInside, IsOthers, IsUnnamed}
 
--- a name that no opening refuses: text that makes a path, without a colon
+-- a name under which a unit may write: text that makes a path, without a colon
 record IsTame (entry : Path) : Type 0 where
   text : IsUtf8 entry
   fits : is_path (entry_path entry) ≡ true
   colonless : list_any (λ b. nat_eq b 58) entry ≡ false
 
--- one that it may refuse
+-- one under which it doesn't: an opening may refuse it, or it may have an architecture
 abbrev pub IsStrange : Path → Type 0
-IsStrange entry = IsOdd info_path entry ⊎ (is_foreign entry ≡ true)
+IsStrange entry = IsOdd info_path entry ⊎ (is_long entry ≡ true)
 
 tame_or_strange : (entry : Path) → IsTame entry → IsStrange entry → ⊥
 tame_or_strange entry tame (inl (inl no_text)) = no_text tame.text
 tame_or_strange entry tame (inl (inr no_path)) = true≢false (sym tame.fits ∙ no_path)
-tame_or_strange entry tame (inr foreign) = true≢false (sym foreign ∙ ap (λ b. b && not (ends_with nat_eq entry (codes ".dpkg-inst"))) tame.colonless)
+tame_or_strange entry tame (inr long) = true≢false (sym long ∙ ap (λ b. b && not (ends_with nat_eq entry (codes ".dpkg-inst"))) tame.colonless)
 
 strange_apart : (entry other : Path) → IsStrange entry → IsTame other → entry_path entry ≢ entry_path other
 strange_apart entry other strange tame e = let same : entry ≡ other = ap (λ (l : Path). drop 19 l) e in tame_or_strange other tame (subst IsStrange same strange)
@@ -94,7 +95,7 @@ module _ (name : Path) (named : is_package_name name ≡ true) where
     );
   }
 
--- an entry that an opening may refuse is none of a package's
+-- such an entry is none of a package's
 pub strange_unnamed : (entry : Path) → IsStrange entry → IsUnnamed (entry_path entry)
 strange_unnamed entry strange = record {
   inside = record { own = refl; below = refl; unnoted = refl; outside = refl };

@@ -19,8 +19,8 @@ use Rattle.diversions.specs.Lines.{HasEntries}
 use Rattle.diversions.specs.Ways.{Ways}
 use Rattle.file_lists.specs.Info.{AreSound, IsSound, entry_path}
 use Rattle.file_lists.specs.declared.paths.PackageList.{PackageList}
-use Rattle.info_format.specs.Stage.{AreShort, IsNaming}
-use Rattle.opening.proofs.Reopened.{named_outside, named_same, records_named, sound_named, stood_before}
+use Rattle.info_format.specs.Stage.{IsNaming}
+use Rattle.opening.proofs.Reopened.{named_outside, named_same, read_same, records_named, sound_named, still_read, stood_before}
 use Rattle.opening.specs.Leaving.{IsOpening, IsOpeningOrMerging, IsReading, is_way}
 use Rattle.opening.specs.Opened.{IsOpened}
 use Rattle.opening.specs.Parts.{IsTable, names_of}
@@ -86,6 +86,7 @@ module _ (old now : World) (is : IsOpening old now) (opens : CanBeOpened old) wh
       text = λ bad. opens.readable.text (bad.0, bad.1, bad.2, subst IsSome (same_at (info_path ++ 47 ∷ bad.0) refl refl) bad.3);
       sound = λ entry plain. subst (IsSound (names_of opens.readable.table) entry) (sym (same_at (entry_path entry) refl refl)) (opens.readable.sound entry plain);
     };
+    short = read_same old now (λ entry. same_at (entry_path entry) refl refl) opens.short;
     diversions = (opens.diversions.0, subst (λ (n : Option Node). HasEntries n opens.diversions.0) (sym (same_at diversions_path refl refl)) opens.diversions.1);
     spare = no_directory_at (now (temporary diversions_path)) (old (temporary diversions_path)) (same_at (temporary diversions_path) refl refl) opens.spare;
     incoming = incoming_at;
@@ -102,6 +103,7 @@ beside_opens table was old now rest records is_table names sound opens = record 
     text = λ bad. opens.readable.text (bad.0, bad.1, bad.2, subst IsSome (rest (info_path ++ 47 ∷ bad.0) refl) bad.3);
     sound = λ entry plain. subst (IsSound (names_of table) entry) (sym (rest (entry_path entry) refl)) (subst (λ (ns : List (List ℕ)). IsSound ns entry (old (entry_path entry))) (sym names) (sound entry plain));
   };
+  short = read_same old now (λ entry. rest (entry_path entry) refl) opens.short;
   diversions = (opens.diversions.0, subst (λ (n : Option Node). HasEntries n opens.diversions.0) (sym (rest diversions_path refl)) opens.diversions.1);
   spare = no_directory_at (now (temporary diversions_path)) (old (temporary diversions_path)) (rest (temporary diversions_path) refl) opens.spare;
   incoming = record {
@@ -130,9 +132,6 @@ module _ (old begun : World) (naming : IsNaming old begun) (opens : CanBeOpened 
   beside : (q : Path) → is_within info_path q ≡ false → begun q ≡ old q
   beside q out = named_outside old begun naming q out
 
-  short : AreShort old
-  short entry plain some = (opens.readable.sound entry plain).colon some
-
   naming_opens : CanBeOpened begun
   naming_opens = record {
     records = record {
@@ -150,9 +149,10 @@ module _ (old begun : World) (naming : IsNaming old begun) (opens : CanBeOpened 
     readable = record {
       table = opens.readable.table;
       is_table = record { records = records_named old begun naming opens.readable.table opens.readable.is_table.records; standing = opens.readable.is_table.standing };
-      text = λ bad. opens.readable.text (bad.0, bad.1, bad.2, subst IsSome (stood_before old begun naming short (info_path ++ 47 ∷ bad.0) bad.3) bad.3);
-      sound = λ entry plain. sound_named old begun naming short (names_of opens.readable.table) entry (opens.readable.sound entry plain);
+      text = λ bad. opens.readable.text (bad.0, bad.1, bad.2, subst IsSome (stood_before old begun naming opens.short (info_path ++ 47 ∷ bad.0) bad.3) bad.3);
+      sound = λ entry plain. sound_named old begun naming opens.short (names_of opens.readable.table) entry (opens.readable.sound entry plain);
     };
+    short = still_read old begun naming opens.short;
     diversions = (opens.diversions.0, subst (λ (n : Option Node). HasEntries n opens.diversions.0) (sym (beside diversions_path refl)) opens.diversions.1);
     spare = no_directory_at (begun (temporary diversions_path)) (old (temporary diversions_path)) (beside (temporary diversions_path) refl) opens.spare;
     incoming = record {

@@ -1,7 +1,7 @@
 -- Unpacks one after another, and an install: the next opening can read all at each moment.
-use Rattle.std.proofs.Common.{◌≡◌, inl, inr, ℕ, zero, suc, IsTrue, Bool, true, false, cond, List, [], ◌∷◌, Option, Some, None, Result, Ok, Err, Contains, drop, length, take, refl, sym, ap, subst, arith}
+use Rattle.std.proofs.Common.{◌≡◌, ◌⊎◌, inl, inr, ℕ, zero, suc, IsTrue, Bool, true, false, cond, List, [], ◌∷◌, Option, Some, None, Result, Ok, Err, Contains, drop, length, take, refl, sym, ap, subst, arith}
 use Rattle.std.specs.Str.{IsUtf8}
-use Rattle.conffiles.specs.declared.decisions.ConfPolicy.{ConfPolicy}
+use Rattle.configure_run.specs.declared.options.ConfigureOptions.{ConfigureOptions}
 use Rattle.displaced_packages.specs.Losing.{losing_beside}
 use Rattle.diversions.specs.Ways.{Ways}
 use Rattle.file_lists.specs.declared.paths.PackageList.{PackageList}
@@ -33,14 +33,17 @@ use Rattle.unpack_plan.specs.Planned.{Job, Planned}
 use Rattle.unpack_relations.specs.declared.checking.Checked.TheVariants.{Planned as Unpacks, Refused}
 use Rattle.undo_rows.specs.declared.rows.Called.{Called}
 use Rattle.dpkg_session.specs.Installs.{HasGoneOn}
-use Rattle.dpkg_session.specs.Growth.{grown}
+use Rattle.configure_run.specs.Run.{HasRun as HasConfigured}
+use Rattle.dpkg_session.specs.Rereading.{BehindReading, IsUnread, with_ways}
+use Rattle.dpkg_session.proofs.Reread.{read_entries}
 use Rattle.dpkg_session.proofs.Overridden.{amid_alike, unit_alike}
 use Rattle.dpkg_session.specs.Run.{HasRun, IsAmidBehind, IsAmidBeside, IsAmidBy, IsAmidNext, IsAmidPackage, IsAmidUnitOf, IsAmidUnpack, IsRun, RunsUnit}
-use Rattle.dpkg_session.specs.Units.{HasDisplaced, HasUnpackedBeside, IsUnitBy, IsUnitOf, IsUnpacked, displacing_by, given_by, held_with, yielding}
+use Rattle.dpkg_session.specs.Units.{HasDisplaced, HasUnpackedBeside, IsUnitBy, IsUnitOf, IsUnpacked, all_yielding, displacing_by, given_by, held_with}
 use Rattle.dpkg_session.specs.declared.report.Candidate.{Candidate}
+use Rattle.unpack_relations.specs.declared.options.UnpackOptions.{UnpackOptions}
 use Rattle.reopening.proofs.Behind.{displaced_lead, displacing_open}
 use Rattle.reopening.proofs.Parts.{AreOf}
-use Rattle.reopening.proofs.Sounds.{Goes, IsSound, goes_refused, held_sound, sound_lists, still_opens, sound_grown}
+use Rattle.reopening.proofs.Sounds.{Goes, IsSound, goes_refused, held_sound, opened_reads, opened_then, sound_lists, still_opens, sound_reread}
 use Rattle.reopening.proofs.Turns.{Ends, Runs, configure_ends, ends_then, runs_same, runs_then}
 use Rattle.reopening.proofs.Units.{IsHeld, held_same, of_from}
 use Rattle.reopening.proofs.Unpacks.{From, IsUnitTable, ShipsText, amid_names, amid_standing, carried_from, ended_table, found_among, left_records, under_way_opens, went_on}
@@ -65,7 +68,7 @@ alike_text p q same texts = λ path has. texts path (subst (λ (paths : List Pat
 module _ (p : Package) (texts : ShipsText p) (beside : Beside) (before : Held) (unwinding : Option Unwinding) (records : Recorded) (lists : List PackageList) (s m : State) (told now : List Called)
     (is : HasUnpackedBeside p beside before (places_of before) unwinding records lists s m told now) (h : IsTrue m.honest) (sound : IsSound before s.world) where
   abbrev g : Given
-  g = given_by p before is.others (yielding beside)
+  g = given_by p before is.others (all_yielding p beside before)
 
   abbrev plan : Planned
   plan = is.unpacked.plan
@@ -129,7 +132,7 @@ abbrev held_names : (p : Package) (beside : Beside) (before : Held) (unwinding :
     → HasUnpackedBeside p beside before (places_of before) unwinding records lists s m told now → List (List ℕ)
 held_names p beside before unwinding records lists s m told now is =
     cond (went_on is.unpacked.plan (ended_as unwinding))
-    (package_name (ground_of (given_by p before is.others (yielding beside)) (places_of before)) is.unpacked.plan ∷ record_names before.records.records) (record_names before.records.records)
+    (package_name (ground_of (given_by p before is.others (all_yielding p beside before)) (places_of before)) is.unpacked.plan ∷ record_names before.records.records) (record_names before.records.records)
 
 displaced_held : (names : List (List ℕ)) (unwinding : Option Unwinding) (p : Package) (beside : Beside) (before : Held) (displaced : List (List ℕ)) (failed : Option Call) (mid after : Held) (m t : State) (told now : List Called) → mid.ways ≡ before.ways
     → (IsTrue m.honest → IsHeld names before.ways mid.records.records m.world) → HasDisplaced unwinding (displacing_by p beside before.lists) displaced failed mid after m t told now
@@ -158,12 +161,12 @@ by_goes : (p : Package) (decision : Checked) (before after : Held) (u : AUnit) (
 by_goes p (Refused rule) before after u s t texts falls is = goes_refused rule p.name before after u s t is
 by_goes p (Unpacks beside) before after u s t texts falls is = unpacked_goes p beside before after u s t texts falls is
 
-unit_goes : (auto : Bool) (label : List ℕ) (tree : Result Package TreeFault) (before after : Held) (u : AUnit) (s t : State) → IsTextTree tree → (IsTrue t.honest → IsTrue s.honest) → IsUnitOf auto label tree before after u s t → Goes before after s t
+unit_goes : (auto : UnpackOptions) (label : List ℕ) (tree : Result Package TreeFault) (before after : Held) (u : AUnit) (s t : State) → IsTextTree tree → (IsTrue t.honest → IsTrue s.honest) → IsUnitOf auto label tree before after u s t → Goes before after s t
 unit_goes auto label (Err fault) before after u s t texts falls is = goes_refused _ label before after u s t is
-unit_goes auto label (Ok p) before after u s t texts falls (added, read, is) =
-    let one = unit_alike auto p (grown before added) after u s t is in
-    let goes = by_goes one.alike one.decision (grown before added) after u s t (alike_text p one.alike one.paths (ships_text p texts)) falls one.unit in
-    record { falls = goes.falls; sound = λ h sound. goes.sound h (sound_grown before added s.world sound) }
+unit_goes auto label (Ok p) before after u s t texts falls (ways, read, is) =
+    let one = unit_alike auto p (with_ways before ways) after u s t is in
+    let goes = by_goes one.alike one.decision (with_ways before ways) after u s t (alike_text p one.alike one.paths (ships_text p texts)) falls one.unit in
+    record { falls = goes.falls; sound = λ h sound. goes.sound h (sound_reread before ways s.world (read_entries p before ways s.world (read h)) sound) }
 
 -- at each moment
 
@@ -172,7 +175,7 @@ module _ (p : Package) (texts : ShipsText p) (beside : Beside) (before : Held) (
   beside_opens so_far now (inl still) = still_opens before old now sound still.0
   beside_opens so_far now (inr (others, rows, inl looks)) = still_opens before old now sound looks.0
   beside_opens so_far now (inr (others, rows, inr amid)) =
-      let g = given_by p before others (yielding beside) in
+      let g = given_by p before others (all_yielding p beside before) in
       under_way_opens (job_of g amid.plan_for.stored) (ground_of g (places_of before)) amid.plan amid.plan_for.planned refl refl sound.standing rows.apart.recorded rows.apart.unnamed texts old before.records refl sound.order (sound_lists before old sound)
       before.ways so_far now sound.safe amid.under_way
 
@@ -189,29 +192,29 @@ by_opens : (p : Package) (decision : Checked) (before : Held) (old : World) (so_
 by_opens p (Refused rule) before old so_far now texts sound same = still_opens before old now sound same
 by_opens p (Unpacks beside) before old so_far now texts sound amid = unpack_opens p texts beside before old sound so_far now amid
 
-package_opens : (auto : Bool) (p : Package) (before : Held) (old : World) (so_far : List Event) (now : World) → ShipsText p → IsSound before old → IsAmidPackage auto p before old so_far now → CanBeOpened now
+package_opens : (auto : UnpackOptions) (p : Package) (before : Held) (old : World) (so_far : List Event) (now : World) → ShipsText p → IsSound before old → IsAmidPackage auto p before old so_far now → CanBeOpened now
 package_opens auto p before old so_far now texts sound (inl still) = still_opens before old now sound still.0
-package_opens auto p before old so_far now texts sound (inr (added, read, amid)) =
-    let one = amid_alike auto p (grown before added) old so_far now amid in
-    by_opens one.alike one.decision (grown before added) old so_far now (alike_text p one.alike one.paths texts) (sound_grown before added old sound) one.amid
+package_opens auto p before old so_far now texts sound (inr (ways, read, amid)) =
+    let one = amid_alike auto p (with_ways before ways) old so_far now amid in
+    by_opens one.alike one.decision (with_ways before ways) old so_far now (alike_text p one.alike one.paths texts) (sound_reread before ways old (read_entries p before ways old (read refl)) sound) one.amid
 
-unit_opens : (auto : Bool) (tree : Result Package TreeFault) (before : Held) (old : World) (so_far : List Event) (now : World) → IsTextTree tree → IsSound before old → IsAmidUnitOf auto tree before old so_far now → CanBeOpened now
-unit_opens auto (Err fault) before old so_far now texts sound same = still_opens before old now sound same
-unit_opens auto (Ok p) before old so_far now texts sound amid = package_opens auto p before old so_far now (ships_text p texts) sound amid
+unit_opens : (allowed : UnpackOptions) (tree : Result Package TreeFault) (before : Held) (old : World) (so_far : List Event) (now : World) → IsTextTree tree → IsSound before old → IsAmidUnitOf allowed tree before old so_far now → CanBeOpened now
+unit_opens allowed (Err fault) before old so_far now texts sound same = still_opens before old now sound same
+unit_opens allowed (Ok p) before old so_far now texts sound amid = package_opens allowed p before old so_far now (ships_text p texts) sound amid
 
 -- unit after unit
 
-unit_runs : (auto : Bool) (c : Candidate) (before after : Held) (u : AUnit) (s t : State) → IsTextTree c.tree → RunsUnit auto c before after u s t → Runs before after s t
-unit_runs auto c before after u s t texts runs = record {
-  goes = unit_goes auto c.label c.tree before after u s t texts runs.moments.honest runs.is;
-  opened = λ sound. since_weaker_if _ _ s t (λ h so_far now amid. unit_opens auto c.tree before s.world so_far now texts (sound (runs.moments.honest h)) amid) runs.moments;
+unit_runs : (allowed : UnpackOptions) (c : Candidate) (before after : Held) (u : AUnit) (s t : State) → IsTextTree c.tree → RunsUnit allowed c before after u s t → Runs before after s t
+unit_runs allowed c before after u s t texts runs = record {
+  goes = unit_goes allowed c.label c.tree before after u s t texts runs.moments.honest runs.is;
+  opened = λ sound. since_weaker_if _ _ s t (λ h so_far now amid. unit_opens allowed c.tree before s.world so_far now texts (sound (runs.moments.honest h)) amid) runs.moments;
 }
 
-pub run_runs : (auto : Bool) (cs : List Candidate) (us : List AUnit) (before after : Held) (s t : State) → AreTextTrees cs → IsRun auto cs us before after s t → Runs before after s t
-run_runs auto [] [] before after s t texts run = runs_same before after s t run.1 run.0
-run_runs auto [] (u ∷ us) before after s t texts run = absurd run
-run_runs auto (c ∷ cs) [] before after s t texts run = absurd run
-run_runs auto (c ∷ cs) (u ∷ us) before after s t texts run = runs_then before run.1 after s run.0 t (unit_runs auto c before run.1 u s run.0 texts.0 run.2) (run_runs auto cs us run.1 after run.0 t texts.1 run.3)
+pub run_runs : (allowed : UnpackOptions) (cs : List Candidate) (us : List AUnit) (before after : Held) (s t : State) → AreTextTrees cs → IsRun allowed cs us before after s t → Runs before after s t
+run_runs allowed [] [] before after s t texts run = runs_same before after s t run.1 run.0
+run_runs allowed [] (u ∷ us) before after s t texts run = absurd run
+run_runs allowed (c ∷ cs) [] before after s t texts run = absurd run
+run_runs allowed (c ∷ cs) (u ∷ us) before after s t texts run = runs_then before run.1 after s run.0 t (unit_runs allowed c before run.1 u s run.0 texts.0 run.2) (run_runs allowed cs us run.1 after run.0 t texts.1 run.3)
 
 texts_take : (n : ℕ) (cs : List Candidate) → AreTextTrees cs → AreTextTrees (take n cs)
 texts_take zero cs texts = tt
@@ -223,16 +226,24 @@ texts_drop zero cs texts = texts
 texts_drop (suc n) [] texts = tt
 texts_drop (suc n) (c ∷ cs) texts = texts_drop n cs texts.1
 
-next_opens : (auto : Bool) (cs : List Candidate) (before : Held) (old : World) (so_far : List Event) (now : World) → AreTextTrees cs → IsSound before old → IsAmidNext auto cs before old so_far now → CanBeOpened now
-next_opens auto [] before old so_far now texts sound same = still_opens before old now sound same
-next_opens auto (c ∷ cs) before old so_far now texts sound amid = unit_opens auto c.tree before old so_far now texts.0 sound amid
+next_opens : (allowed : UnpackOptions) (cs : List Candidate) (before : Held) (old : World) (so_far : List Event) (now : World) → AreTextTrees cs → IsSound before old → IsAmidNext allowed cs before old so_far now → CanBeOpened now
+next_opens allowed [] before old so_far now texts sound same = still_opens before old now sound same
+next_opens allowed (c ∷ cs) before old so_far now texts sound amid = unit_opens allowed c.tree before old so_far now texts.0 sound amid
 
-pub run_ends : (auto : Bool) (cs : List Candidate) (us : List AUnit) (last : Option AUnit) (before : Held) (s t : State) → AreTextTrees cs → HasRun auto cs us last before s t → Ends before s t
-run_ends auto cs us last before s t texts has =
-    ends_then before has.after s has.end t (run_runs auto (take (length us) cs) us before has.after s has.end (texts_take (length us) cs texts) has.run)
-    (λ sound. since_weaker_if _ _ has.end t (λ h so_far now amid. next_opens auto (drop (length us) cs) has.after has.end.world so_far now (texts_drop (length us) cs texts) (sound (has.since.honest h)) amid) has.since)
+pub run_ends : (allowed : UnpackOptions) (cs : List Candidate) (us : List AUnit) (last : Option AUnit) (before : Held) (s t : State) → AreTextTrees cs → HasRun allowed cs us last before s t → Ends before s t
+run_ends allowed cs us last before s t texts has =
+    ends_then before has.after s has.end t (run_runs allowed (take (length us) cs) us before has.after s has.end (texts_take (length us) cs texts) has.run)
+    (λ sound. since_weaker_if _ _ has.end t (λ h so_far now amid. next_opens allowed (drop (length us) cs) has.after has.end.world so_far now (texts_drop (length us) cs texts) (sound (has.since.honest h)) amid) has.since)
+
+-- a configure behind a reading of the table
+behind_ends : (names : List (List ℕ)) (policy : ConfigureOptions) (us : List AUnit) (last : Option AUnit) (before : Held) (s t : State) → IsUnread us last s t ⊎ BehindReading (λ h n. HasConfigured names policy us last h n t) before s → Ends before s t
+behind_ends names policy us last before s t (inl unread) sound = opened_reads before s t sound unread.reads
+behind_ends names policy us last before s t (inr (ways, n, read, has)) sound =
+    opened_then s n t (opened_reads before s n sound read.reads)
+    (configure_ends policy names us last (with_ways before ways) n t has
+    (λ h. subst (IsSound (with_ways before ways)) (sym read.reads.world) (sound_reread before ways s.world (read.found h).entries (sound (read.reads.honest h)))))
 
 -- and then those that were done are configured
-pub install_ends : (auto : Bool) (cs : List Candidate) (policy : ConfPolicy) (unpacked : List AUnit) (configured : Report) (before : Held) (s t : State) → AreTextTrees cs → HasGoneOn auto cs policy unpacked configured before s t → Ends before s t
+pub install_ends : (auto : UnpackOptions) (cs : List Candidate) (policy : ConfigureOptions) (unpacked : List AUnit) (configured : Report) (before : Held) (s t : State) → AreTextTrees cs → HasGoneOn auto cs policy unpacked configured before s t → Ends before s t
 install_ends auto cs policy unpacked configured before s t texts has =
-    ends_then before has.mid s has.m t (run_runs auto cs unpacked before has.mid s has.m texts has.unpacks) (configure_ends policy _ configured.units.items configured.last has.mid has.m t has.configures)
+    ends_then before has.mid s has.m t (run_runs auto cs unpacked before has.mid s has.m texts has.unpacks) (behind_ends _ policy configured.units.items configured.last has.mid has.m t has.configures)

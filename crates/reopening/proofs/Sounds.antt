@@ -1,6 +1,7 @@
 -- What is held between two units: an administration that is in order, in which no opening refuses anything.
 use Rattle.aliases.specs.Aliases.{Alias}
 use Rattle.dpkg_session.specs.Growth.{grown}
+use Rattle.dpkg_session.specs.Rereading.{with_ways}
 use Rattle.std.proofs.Common.{◌≡◌, ℕ, IsTrue, List, [], ◌∷◌, Option, Some, refl, sym, subst, ◌∙◌}
 use Rattle.std.proofs.Math.Logic.{∥∥₁_map}
 use Rattle.std.proofs.lemmas.List.{append-nil}
@@ -9,6 +10,7 @@ use Rattle.host_core.specs.Host.{AllFailed, Happens, Needs, Reads, Since, State,
 use Rattle.host_core.proofs.Moments.{since_then, unmoved}
 use Rattle.host_core.specs.World.{Barrier, World}
 use Rattle.host_core.specs.declared.call.Call.{Call}
+use Rattle.diversions.specs.Lines.{HasDiversions}
 use Rattle.diversions.specs.Ways.{Ways}
 use Rattle.file_lists.specs.Owners.{paths_of}
 use Rattle.removal_run.specs.Units.{holding_of}
@@ -55,11 +57,20 @@ held_sound names h w held order = record {
   empty = held.empty;
 }
 
+-- with the table that stands there it is sound alike
+pub sound_reread : (before : Held) (ways : Ways) (w : World) → HasDiversions w ways.entries → IsSound before w → IsSound (with_ways before ways) w
+sound_reread before ways w has sound = record {
+  order = sound.order;
+  safe = record { info = sound.safe.info; text = sound.safe.text; sound = sound.safe.sound; short = sound.safe.short; diversions = has; spare = sound.safe.spare };
+  standing = sound.standing;
+  empty = sound.empty;
+}
+
 -- with more aliases it is sound alike
 pub sound_grown : (before : Held) (added : List Alias) (w : World) → IsSound before w → IsSound (grown before added) w
 sound_grown before added w sound = record {
   order = sound.order;
-  safe = record { info = sound.safe.info; text = sound.safe.text; sound = sound.safe.sound; diversions = sound.safe.diversions; spare = sound.safe.spare };
+  safe = record { info = sound.safe.info; text = sound.safe.text; sound = sound.safe.sound; short = sound.safe.short; diversions = sound.safe.diversions; spare = sound.safe.spare };
   standing = sound.standing;
   empty = sound.empty;
 }

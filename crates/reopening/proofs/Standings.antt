@@ -6,14 +6,15 @@ use Rattle.host_core.specs.Tree.{IsTree}
 use Rattle.host_core.specs.World.{World}
 use Rattle.administration.specs.Places.{home_path, info_path}
 use Rattle.dpkg_session.specs.History.{Stands}
+use Rattle.info_format.specs.Stage.{HaveShortNames}
 use Rattle.status_db.proofs.Ordered.{same_standing}
 use Rattle.unit_reports.specs.Held.{Held}
 use Rattle.reopening.proofs.Sounds.{IsSound}
 use Rattle.reopening.proofs.Units.{emptied_tree}
 use Rattle.reopening.specs.Opens.{FindsStanding}
 
-pub stands_sound : (h : Held) (w : World) → IsTree w → Stands h w → IsSound h w
-stands_sound h w tree found = record {
+pub stands_sound : (h : Held) (w : World) → IsTree w → Stands h w → HaveShortNames w → IsSound h w
+stands_sound h w tree found short = record {
   order = record {
     home = directory_is (w home_path) found.home;
     info = directory_is (w info_path) found.info;
@@ -26,6 +27,7 @@ stands_sound h w tree found = record {
     info = found.info;
     text = found.text;
     sound = found.listed.sound;
+    short = short;
     diversions = found.diversions;
     spare = found.diversions_spare;
   };
@@ -34,4 +36,4 @@ stands_sound h w tree found = record {
 }
 
 pub finds_sound : (h : Held) (s : State) → FindsStanding h s → IsTrue s.honest → IsSound h s.world
-finds_sound h s finds honest = (let both = finds honest in stands_sound h s.world both.0 both.1)
+finds_sound h s finds honest = (let all = finds honest in stands_sound h s.world all.0 all.1 all.2)

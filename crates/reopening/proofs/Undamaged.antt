@@ -240,6 +240,6 @@ all_none (part ∷ among) w has =
 pub opened_undamaged : IsLaw → (w : World) → IsTree w → CanBeOpened w → IsUndamaged w
 opened_undamaged law w tree opens = record {
   sound = all_none parts w (∥∥₁_map opens.readable.is_table.records (λ held. all_sound law w tree opens held));
-  short = λ entry plain some. (opens.readable.sound entry plain).colon some;
+  short = opens.short;
   leftovers = opens.incoming.loose;
 }

@@ -71,6 +71,7 @@ opened_by names ways table w has opens standing known safe incoming =
       records = opens;
       info = safe.info;
       readable = record { table = table; is_table = record { records = has; standing = standing_same table standing }; text = safe.text; sound = fewer.sound };
+      short = inl safe.short;
       diversions = (ways.entries, safe.diversions);
       spare = safe.spare;
       incoming = incoming;

@@ -15,7 +15,7 @@ use Rattle.relation_fields.specs.RelationFields.{relation_name}
 use Rattle.diversions.specs.declared.refusal.Refusal.{Refusal as ItsRefusal}
 use Rattle.diversions.specs.declared.refusal.Refusal.TheVariants as diverted
 use Rattle.unit_reports.specs.declared.refusal.Rule.{Rule}
-use Rattle.unit_reports.specs.declared.refusal.Rule.TheVariants.{Tree, OverrideLine, OwnerUnknown, ConffileDiverted, Architecture, PreDepends, Conflicts, ConflictEssential, Dependents, Breaks, Divert, Unknown, TriggerState, WrongState, Reinstreq, NothingToRemove, Essential, Depends, BrokenBy, ConffileKind, DependedOn}
+use Rattle.unit_reports.specs.declared.refusal.Rule.TheVariants.{Tree, OverrideLine, OwnerUnknown, ConffileDiverted, Architecture, PreDepends, Conflicts, ConflictEssential, Dependents, Breaks, Divert, Unknown, WrongState, Reinstreq, NothingToRemove, Essential, Depends, BrokenBy, ConffileKind, DependedOn}
 use Rattle.undo_rows.specs.declared.fall.StepFault.{StepFault}
 use Rattle.undo_rows.specs.declared.fall.StepFault.TheVariants as step
 
@@ -89,7 +89,6 @@ rule_text (Dependents other) = codes "Dependents " ++ other
 rule_text (Breaks other) = codes "Breaks " ++ other
 rule_text (Divert refusal) = divert_word refusal
 rule_text Unknown = codes "Unknown"
-rule_text TriggerState = codes "TriggerState"
 rule_text WrongState = codes "WrongState"
 rule_text Reinstreq = codes "Reinstreq"
 rule_text NothingToRemove = codes "NothingToRemove"

@@ -12,7 +12,7 @@ abbrev pub line_expectation : List ℕ → List ℕ
 line_expectation file =
     if starts_with nat_eq file (codes "/var/lib/dpkg/info/") then codes "an absolute path, or /. for the root"
     else if starts_with nat_eq file (codes "/var/lib/dpkg/diversions") then codes "three lines for each diversion: a path, its target, and a package or :"
-    else codes "a field of a package's record, \"Name: value\", once and with a value that can be read"
+    else codes "a field of a package's record, \"Name: value\", once and with a value that can be read; packages of one architecture"
 
 -- what is to stand there as a whole
 abbrev pub whole_expectation : List ℕ → List ℕ

@@ -146,8 +146,8 @@ fn of_clause(alloc: Global, name: &str, clause: &Clause) -> Result<String, Alloc
     format!(in alloc; "{name} {clause}")
 }
 
-// A rule that names another package, or the architecture of its own.
-fn of_package(alloc: Global, name: &str, other: &Text) -> Result<String, AllocError>
+/// A rule that names another package, or the architecture of its own, or a trigger.
+pub(crate) fn of_package(alloc: Global, name: &str, other: &Text) -> Result<String, AllocError>
     ensures { IfOk result (λ text. string_bytes text ≡ name.now ++ (codes " " ++ other.now)) }
 {
     let other = other.as_str();
@@ -180,7 +180,6 @@ pub(crate) fn rule_text(alloc: Global, rule: &Rule) -> Result<String, AllocError
         Rule::Breaks(other) => of_package(alloc, "Breaks", other),
         Rule::Divert(refusal) => String::from_str(alloc, divert_word(*refusal)),
         Rule::Unknown => String::from_str(alloc, "Unknown"),
-        Rule::TriggerState => String::from_str(alloc, "TriggerState"),
         Rule::WrongState => String::from_str(alloc, "WrongState"),
         Rule::Reinstreq => String::from_str(alloc, "Reinstreq"),
         Rule::NothingToRemove => String::from_str(alloc, "NothingToRemove"),
@@ -229,7 +228,7 @@ fn line_expectation(file: &[u8]) -> &'static str
     if file.starts_with(b"/var/lib/dpkg/diversions") {
         return "three lines for each diversion: a path, its target, and a package or :";
     }
-    "a field of a package's record, \"Name: value\", once and with a value that can be read"
+    "a field of a package's record, \"Name: value\", once and with a value that can be read; packages of one architecture"
 }
 
 // What is to stand there as a whole.

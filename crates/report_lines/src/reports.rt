@@ -2,18 +2,18 @@
 ghost use Rattle.std.specs.Prelude.{◌≡◌, ◌≤◌, ◌++◌, IfOk, OnOk, string_bytes};
 ghost use Rattle.std.specs.List.{flat_map};
 ghost use Rattle.report_lines.specs.Calls.{arg_text, arg_word, call_line, call_text, outcome_text, side_word};
-ghost use Rattle.report_lines.specs.Replies.{breakage_word, cause_text, reply_line, reply_status, tells_states};
+ghost use Rattle.report_lines.specs.Replies.{breakage_word, cause_text, cycle_text, reply_line, reply_status, tells_states};
 ghost use Rattle.report_lines.specs.Reports.{report_lines, report_status, states_lines, unit_lines, units_status};
 ghost use Rattle.report_lines.specs.States.{state_line, state_text};
 
-use crate::faults::{rule_text, step_text};
+use crate::faults::{of_package, rule_text, step_text};
 use host_core::{Call, Outcome, Side};
 use shown_lines::line;
 use status_records::Record;
 use std::alloc::{AllocError, Global};
 use texts::Text;
 use undo_rows::{Called, Failure as Cause, StepFault};
-use unit_reports::{Breakage, Failure, Refusal, Reply, Report, Touched, Unit};
+use unit_reports::{Breakage, Cycle, Failure, Refusal, Reply, Report, Touched, Unit};
 
 fn side_word(side: Side) -> &'static str
     ensures { result.now ≡ side_word side }
@@ -106,6 +106,7 @@ fn breakage_word(breakage: Breakage) -> &'static str
         Breakage::Device => "device",
         Breakage::NoMemory => "memory",
         Breakage::Declined => "declined",
+        Breakage::Damaged => "damaged",
         Breakage::Closed => "closed",
     }
 }
@@ -148,6 +149,23 @@ fn failed_line(alloc: Global, failure: &Failure) -> Result<String, AllocError>
     line(alloc, content.as_str())
 }
 
+// The trigger for which a package's triggers were abandoned.
+fn cycle_text(alloc: Global, cycle: &Cycle) -> Result<String, AllocError>
+    ensures { IfOk result (λ text. string_bytes text ≡ cycle_text cycle.now) }
+{
+    let package = cycle.package.as_str();
+    let trigger = of_package(alloc, "TriggerCycle", &cycle.trigger)?;
+    format!(in alloc; "{package} {trigger}")
+}
+
+fn looped_line(alloc: Global, cycle: &Cycle) -> Result<String, AllocError>
+    ensures { IfOk result (λ printed. string_bytes printed ≡ reply_line (Reply.Looped cycle.now)) }
+{
+    let cycle = cycle_text(alloc, cycle)?;
+    let content = format!(in alloc; "failed {cycle}")?;
+    line(alloc, content.as_str())
+}
+
 fn reply_line(alloc: Global, reply: &Reply) -> Result<String, AllocError>
     ensures { IfOk result (λ printed. string_bytes printed ≡ reply_line reply.now) }
 {
@@ -155,6 +173,7 @@ fn reply_line(alloc: Global, reply: &Reply) -> Result<String, AllocError>
         Reply::Done => String::from_str(alloc, "done\n"),
         Reply::Refused(refusal) => refused_line(alloc, refusal),
         Reply::Failed(failure) => failed_line(alloc, failure),
+        Reply::Looped(cycle) => looped_line(alloc, cycle),
         Reply::Broken(breakage) => {
             let breakage = breakage_word(*breakage);
             format!(in alloc; "broken {breakage}\n")
@@ -170,6 +189,7 @@ fn tells_states(reply: &Reply) -> bool
         Reply::Done => true,
         Reply::Refused(_) => false,
         Reply::Failed(_) => true,
+        Reply::Looped(_) => true,
         Reply::Broken(_) => false,
     }
 }
@@ -181,6 +201,7 @@ fn reply_status(reply: &Reply) -> u8
         Reply::Done => 0,
         Reply::Refused(_) => 1,
         Reply::Failed(_) => 1,
+        Reply::Looped(_) => 1,
         Reply::Broken(_) => 2,
     }
 }

@@ -3,7 +3,7 @@
 use Rattle.std.specs.Prelude.{◌≡◌, ◌⊎◌, ◌&&◌, ℕ, Bool, false, not, cond, List, [], ◌∷◌, Option, Some, None, option_and_then, codes, if◌then◌else◌}
 use Rattle.std.specs.List.{list_any}
 use Rattle.std.specs.Str.{bytes_eq}
-use Rattle.control_fields.specs.Names.{lower, is_called, value_of, IsFieldCalled}
+use Rattle.control_fields.specs.Names.{lower, is_called, trim_end, value_of, IsFieldCalled}
 use Rattle.control_fields.specs.declared.field.Field.{Field}
 use Rattle.relation_fields.specs.Architectures.{is_architecture}
 use Rattle.relation_fields.specs.Entries.{ReadsProvides}
@@ -34,10 +34,10 @@ StatesProvides fields entries =
     ((value : List ℕ) × HasValue (relation_key relation.Provides) fields value × ReadsProvides value entries)
     ⊎ ((is_called (relation_key relation.Provides) fields ≡ false) × (entries ≡ []))
 
--- what stands on the own line of the field Architecture (Policy 5.6.8)
+-- what stands on the own line of the field Architecture (Policy 5.6.8), without the blanks at its end
 abbrev pub architecture_line : List Field → Option (List ℕ)
 architecture_line [] = None
-architecture_line (f ∷ fs) = cond (bytes_eq (lower f.name) (codes "architecture")) (Some f.first) (architecture_line fs)
+architecture_line (f ∷ fs) = cond (bytes_eq (lower f.name) (codes "architecture")) (Some (trim_end f.first)) (architecture_line fs)
 
 -- an architecture; a package of `all` fits each, and so does one of which the field says nothing
 abbrev pub one_architecture : List ℕ → Option (List ℕ)

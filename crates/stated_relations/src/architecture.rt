@@ -22,7 +22,7 @@ pub fn architecture_of(fields: &Paragraph) -> Option<&str>
     ensures { option_copied result ≡ architecture_of fields.now }
 {
     match fields.get(b"architecture") {
-        Some(field) => one_architecture(field.first.as_slice()),
+        Some(field) => one_architecture(field.own_line()),
         None => None,
     }
 }

@@ -12,8 +12,8 @@ use Rattle.std.proofs.lemmas.Str.{IsUtf8-append}
 use Rattle.hex.specs.Hex.{encode_lower}
 use Rattle.hex.proofs.HexLemmas.{decode_sized-encode_lower}
 use Rattle.control_fields.specs.Names.{Lacks, is_blank, keep_before, trim_end}
-use Rattle.control_fields.specs.Spelling.{IsMore}
 use Rattle.control_fields.proofs.Trims.{trimmed_after, lacks_append}
+use Rattle.control_fields.proofs.Written.{IsTrimmedMore}
 use Rattle.conffiles.specs.Digests.{IsDigest, is_lower_digit, is_digest_text}
 use Rattle.conffiles.proofs.DigestTexts.{written_lower, read_long}
 use Rattle.status_records.specs.Digests.{is_recorded_text, digest_word, IsDigestOrNone}
@@ -181,37 +181,6 @@ text_of path word true true w =
       removal_is = last_of flagged (codes "remove-on-upgrade") (codes "remove-on-upgrade") true refl refl;
     }
 
-pub words_by : (e : ConffileEntry) → IsDigestOrNone e.digest → conffile_words (conffile_line e) ≡ words_of_conffile e
-words_by e is =
-    let w = recorded_is_word e.digest is in
-    let t = text_of e.path (digest_word e.digest) e.obsolete e.remove_on_upgrade w in
-    same_words (conffile_words (conffile_line e)) (words_of_conffile e)
-    (ap words_before t.before ∙ before_last e.path (digest_word e.digest) w.no_blank ∙ (line_path e.path e.conffile).trimmed)
-    (ap last_word t.before ∙ last_behind e.path (digest_word e.digest) w.no_blank) t.obsolete_is t.removal_is
-
-pub same_pending : (a b : PendingWords) → a.path ≡ b.path → a.digest ≡ b.digest → a ≡ b
-same_pending a b p d = λ i. record { path = p i; digest = d i }
-
-pub pending_by : (p : PendingDigest) → IsDigest p.digest → pending_words (pending_line p) ≡ words_of_pending p
-pending_by p is =
-    let w = digest_is_word p.digest is in
-    same_pending (pending_words (pending_line p)) (words_of_pending p) (before_last p.path (encode_lower p.digest) w.no_blank ∙ (line_path p.path p.conffile).trimmed)
-    (last_behind p.path (encode_lower p.digest) w.no_blank)
-
--- such lines can be read, and stand in a paragraph
-
-flag_printed : (b : Bool) (word : List ℕ) → list_all is_printed word ≡ true → list_all is_printed (flag_text b word) ≡ true
-flag_printed false word all = refl
-flag_printed true word all = all
-
-line_more : (path word rest : List ℕ) → IsUtf8 path → Lacks path 10 → list_all is_printed (word ++ rest) ≡ true → trim_end (32 ∷ (path ++ 32 ∷ (word ++ rest))) ≡ 32 ∷ (path ++ 32 ∷ (word ++ rest)) → IsMore (32 ∷ (path ++ 32 ∷ (word ++ rest)))
-line_more path word rest utf8 lacks printed trimmed = record {
-  utf8 = IsUtf8-append (32 ∷ []) (path ++ 32 ∷ (word ++ rest)) (line_utf8 (32 ∷ []) refl) (IsUtf8-append path (32 ∷ (word ++ rest)) utf8 (line_utf8 (32 ∷ (word ++ rest)) printed));
-  one_line = lacks_append (32 ∷ []) (path ++ 32 ∷ (word ++ rest)) 10 (line_lacks (32 ∷ []) refl) (lacks_append path (32 ∷ (word ++ rest)) 10 lacks (line_lacks (32 ∷ (word ++ rest)) printed));
-  trimmed = trimmed;
-  blank = refl;
-}
-
 flags_trimmed : (word : List ℕ) (o r : Bool) → IsDigestWord word → trim_end (word ++ (flag_text o (codes "obsolete") ++ flag_text r (codes "remove-on-upgrade"))) ≡ word ++ (flag_text o (codes "obsolete") ++ flag_text r (codes "remove-on-upgrade"))
 flags_trimmed word false false w = ap trim_end (append-nil word) ∙ w.trimmed ∙ sym (append-nil word)
 flags_trimmed word true false w = trimmed_after word (32 ∷ codes "obsolete") (λ e. cc e) refl
@@ -222,11 +191,51 @@ some_word : (word rest : List ℕ) → word ≢ [] → word ++ rest ≢ []
 some_word [] rest some = λ e. some refl
 some_word (b ∷ word) rest some = λ e. cc e
 
-line_trimmed : (path tail : List ℕ) → tail ≢ [] → trim_end tail ≡ tail → trim_end (32 ∷ (path ++ 32 ∷ tail)) ≡ 32 ∷ (path ++ 32 ∷ tail)
-line_trimmed path tail some trimmed =
-    trimmed_after (32 ∷ path) (32 ∷ tail) (λ e. cc e) (trimmed_after (32 ∷ []) tail some trimmed)
+tail_trimmed : (path tail : List ℕ) → tail ≢ [] → trim_end tail ≡ tail → trim_end (path ++ 32 ∷ tail) ≡ path ++ 32 ∷ tail
+tail_trimmed path tail some trimmed = trimmed_after path (32 ∷ tail) (λ e. cc e) (trimmed_after (32 ∷ []) tail some trimmed)
 
-more_by : (e : ConffileEntry) → IsDigestOrNone e.digest → IsMore (conffile_line e)
+text_trimmed : (path word : List ℕ) (o r : Bool) → IsDigestWord word → trim_end (flags_text path word o r) ≡ flags_text path word o r
+text_trimmed path word o r w =
+    let flags = flag_text o (codes "obsolete") ++ flag_text r (codes "remove-on-upgrade") in
+    tail_trimmed path (word ++ flags) (some_word word flags w.some) (flags_trimmed word o r w)
+
+pub words_by : (e : ConffileEntry) → IsDigestOrNone e.digest → conffile_words (conffile_line e) ≡ words_of_conffile e
+words_by e is =
+    let w = recorded_is_word e.digest is in
+    let plain = sym (text_trimmed e.path (digest_word e.digest) e.obsolete e.remove_on_upgrade w) in
+    let t = subst (IsTextOf e.path (digest_word e.digest) e.obsolete e.remove_on_upgrade) plain (text_of e.path (digest_word e.digest) e.obsolete e.remove_on_upgrade w) in
+    same_words (conffile_words (conffile_line e)) (words_of_conffile e)
+    (ap words_before t.before ∙ before_last e.path (digest_word e.digest) w.no_blank ∙ (line_path e.path e.conffile).trimmed)
+    (ap last_word t.before ∙ last_behind e.path (digest_word e.digest) w.no_blank) t.obsolete_is t.removal_is
+
+pub same_pending : (a b : PendingWords) → a.path ≡ b.path → a.digest ≡ b.digest → a ≡ b
+same_pending a b p d = λ i. record { path = p i; digest = d i }
+
+pub pending_by : (p : PendingDigest) → IsDigest p.digest → pending_words (pending_line p) ≡ words_of_pending p
+pending_by p is =
+    let w = digest_is_word p.digest is in
+    let plain = core_trimmed p.path (encode_lower p.digest) w in
+    same_pending (pending_words (pending_line p)) (words_of_pending p) (ap words_before plain ∙ before_last p.path (encode_lower p.digest) w.no_blank ∙ (line_path p.path p.conffile).trimmed)
+    (ap last_word plain ∙ last_behind p.path (encode_lower p.digest) w.no_blank)
+
+-- such lines can be read, and stand in a paragraph
+
+flag_printed : (b : Bool) (word : List ℕ) → list_all is_printed word ≡ true → list_all is_printed (flag_text b word) ≡ true
+flag_printed false word all = refl
+flag_printed true word all = all
+
+line_more : (path word rest : List ℕ) → IsUtf8 path → Lacks path 10 → list_all is_printed (word ++ rest) ≡ true → trim_end (32 ∷ (path ++ 32 ∷ (word ++ rest))) ≡ 32 ∷ (path ++ 32 ∷ (word ++ rest)) → IsTrimmedMore (32 ∷ (path ++ 32 ∷ (word ++ rest)))
+line_more path word rest utf8 lacks printed trimmed = record {
+  utf8 = IsUtf8-append (32 ∷ []) (path ++ 32 ∷ (word ++ rest)) (line_utf8 (32 ∷ []) refl) (IsUtf8-append path (32 ∷ (word ++ rest)) utf8 (line_utf8 (32 ∷ (word ++ rest)) printed));
+  one_line = lacks_append (32 ∷ []) (path ++ 32 ∷ (word ++ rest)) 10 (line_lacks (32 ∷ []) refl) (lacks_append path (32 ∷ (word ++ rest)) 10 lacks (line_lacks (32 ∷ (word ++ rest)) printed));
+  trimmed = trimmed;
+  blank = refl;
+}
+
+line_trimmed : (path tail : List ℕ) → tail ≢ [] → trim_end tail ≡ tail → trim_end (32 ∷ (path ++ 32 ∷ tail)) ≡ 32 ∷ (path ++ 32 ∷ tail)
+line_trimmed path tail some trimmed = tail_trimmed (32 ∷ path) tail some trimmed
+
+more_by : (e : ConffileEntry) → IsDigestOrNone e.digest → IsTrimmedMore (conffile_line e)
 more_by e is =
     let w = recorded_is_word e.digest is in
     let flags = flag_text e.obsolete (codes "obsolete") ++ flag_text e.remove_on_upgrade (codes "remove-on-upgrade") in
@@ -236,12 +245,12 @@ more_by e is =
     (flag_printed e.remove_on_upgrade (codes "remove-on-upgrade") refl)))
     (line_trimmed e.path (digest_word e.digest ++ flags) (some_word (digest_word e.digest) flags w.some) (flags_trimmed (digest_word e.digest) e.obsolete e.remove_on_upgrade w))
 
-more_pending_by : (p : PendingDigest) → IsDigest p.digest → IsMore (pending_line p)
+more_pending_by : (p : PendingDigest) → IsDigest p.digest → IsTrimmedMore (pending_line p)
 more_pending_by p is =
     let w = digest_is_word p.digest is in
     let path = line_path p.path p.conffile in
     let plain : pending_line p ≡ 32 ∷ (p.path ++ 32 ∷ (encode_lower p.digest ++ [])) = ap (λ l. 32 ∷ (p.path ++ 32 ∷ l)) (sym (append-nil (encode_lower p.digest))) in
-    subst IsMore (sym plain)
+    subst IsTrimmedMore (sym plain)
     (line_more p.path (encode_lower p.digest) [] path.utf8 path.one_line (both_printed (encode_lower p.digest) [] w.printed refl)
     (line_trimmed p.path (encode_lower p.digest ++ []) (some_word (encode_lower p.digest) [] w.some) (ap trim_end (append-nil (encode_lower p.digest)) ∙ w.trimmed ∙ sym (append-nil (encode_lower p.digest)))))
 
@@ -263,11 +272,11 @@ pub pending_again : (ps : List PendingDigest) → AllByRecursion (λ (p : Pendin
 pending_again [] all = refl
 pending_again (p ∷ ps) all = λ i. pending_by p all.0 i ∷ pending_again ps all.1 i
 
-pub all_more : (es : List ConffileEntry) → AllByRecursion (λ (e : ConffileEntry). IsDigestOrNone e.digest) es → AllByRecursion IsMore (map conffile_line es)
+pub all_more : (es : List ConffileEntry) → AllByRecursion (λ (e : ConffileEntry). IsDigestOrNone e.digest) es → AllByRecursion IsTrimmedMore (map conffile_line es)
 all_more [] all = tt
 all_more (e ∷ es) all = (more_by e all.0, all_more es all.1)
 
-pub all_pending_more : (ps : List PendingDigest) → AllByRecursion (λ (p : PendingDigest). IsDigest p.digest) ps → AllByRecursion IsMore (map pending_line ps)
+pub all_pending_more : (ps : List PendingDigest) → AllByRecursion (λ (p : PendingDigest). IsDigest p.digest) ps → AllByRecursion IsTrimmedMore (map pending_line ps)
 all_pending_more [] all = tt
 all_pending_more (p ∷ ps) all = (more_pending_by p all.0, all_pending_more ps all.1)
 

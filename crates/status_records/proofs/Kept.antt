@@ -155,31 +155,11 @@ other_kind l out =
     kind_but_package : List ℕ → Kind
     kind_but_package l = cond (bytes_eq l (codes "status")) StatusWords (kind_but_status l)
 
-recorded_readable : (fs : List Field) → AllByRecursion IsReadableControl fs → AllByRecursion IsReadable (recorded_fields fs)
+pub recorded_readable : (fs : List Field) → AllByRecursion IsReadableControl fs → AllByRecursion IsReadable (recorded_fields fs)
 recorded_readable [] all = tt
 recorded_readable (f ∷ fs) all =
     kept_by (not (is_one_of own_names f)) f (recorded_fields fs)
     (λ e. subst (λ k. IsReadableAs k f) (sym (other_kind (lower f.name) (not-true (is_one_of own_names f) e))) all.0) (recorded_readable fs all.1)
-
-pub writable_of : (name other : List ℕ) (fields control : List Field) → name ≡ other → is_package_name other ≡ true → fields ≡ recorded_fields control → ∥ AreFields [] control ∥₁ → ∥ AllByRecursion IsReadableControl control ∥₁ → ∥ IsWritable name fields ∥₁
-writable_of name other fields control is named left are readable = ∥∥₁_elim are (hlevel props) (λ known. ∥∥₁_map readable (λ all. record {
-  named = ap is_package_name is ∙ named;
-  written = subst (AreFields []) (sym left) (recorded_written control known);
-  others = subst (AllByRecursion (λ f. is_one_of own_names f ≡ false)) (sym left) (recorded_other control);
-  readable = subst (AllByRecursion IsReadable) (sym left) (recorded_readable control all);
-}))
-
--- the step of a loop that writes the other fields behind those of the record's own
-pub written_new : (firsts fields paragraph left next : List Field) (ys : List (Bor Field)) (x : Bor Field) (f : Field) → ∥ AreFields firsts fields ∥₁ → paragraph ≡ firsts ++ map (λ b. b.now) ys
-    → fields ≡ map (λ b. b.now) ys ++ left → left ≡ x.now ∷ next → f ≡ x.now → stands f.name paragraph ≡ false
-written_new firsts fields paragraph left next ys x f are e walked l same = ∥∥₁_elim are (hlevel props)
-    (λ known.
-    let here = subst (AreFields firsts) (walked ∙ ap (λ (r : List Field). map (λ b. b.now) ys ++ r) l) known in
-    ap (stands f.name) e ∙ ap (λ (g : Field). stands g.name (firsts ++ map (λ b. b.now) ys)) same ∙ new_among firsts (map (λ b. b.now) ys) x.now next here)
-
-pub written_more : (firsts paragraph next : List Field) (ys : List (Bor Field)) (x : Bor Field) (f : Field) → paragraph ≡ firsts ++ map (λ b. b.now) ys → next ≡ paragraph ++ f ∷ [] → f ≡ x.now → next ≡ firsts ++ map (λ b. b.now) (ys ++ x ∷ [])
-written_more firsts paragraph next ys x f e n same =
-    n ∙ ap (λ (l : List Field). l ++ f ∷ []) e ∙ ap (λ (g : Field). (firsts ++ map (λ b. b.now) ys) ++ g ∷ []) same ∙ append_assoc firsts (map (λ b. b.now) ys) (x.now ∷ []) ∙ ap (λ (l : List Field). firsts ++ l) (sym (map-append (λ (b : Bor Field). b.now) ys (x ∷ [])))
 
 pub writable_others : (name other : List ℕ) (fields paragraph : List Field) → name ≡ other → is_package_name other ≡ true → fields ≡ recorded_fields paragraph → ∥ AreFields [] paragraph ∥₁ → AllByRecursion IsReadable paragraph → ∥ IsWritable name fields ∥₁
 writable_others name other fields paragraph is named left are all = ∥∥₁_map are (λ known. record {

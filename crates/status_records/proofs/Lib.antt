@@ -8,6 +8,8 @@ pub mod PathOrder
 pub mod Placing
 pub mod ShipLines
 pub mod EntryLines
+pub mod Places
+pub mod Merging
 pub mod OwnFields
 pub mod SameRecords
 pub mod ConffileReading

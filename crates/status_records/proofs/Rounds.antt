@@ -25,7 +25,7 @@ use Rattle.status_records.specs.ConffileFields.{ConffileWords, PendingWords, con
 use Rattle.status_records.specs.Paragraphs.{line_field, record_word, paragraph_of, record_text, HasParts, field_in, line_of, is_configured_in, conffile_lines, pending_lines, AreConffilesOf, ArePendingOf, IsRecordOf, IsEntry, Enters}
 use Rattle.status_records.specs.Status.{IsStatus}
 use Rattle.status_records.proofs.EntryLines.{all_digested, all_pending_digested, words_by, pending_by, words_again, pending_again, all_more, all_pending_more, lines_read, pending_lines_read}
-use Rattle.status_records.proofs.OwnFields.{ArePartsFit, own_written, whole_written, IsReadAgain, own_readable, others_kept, config_again, removed_again, conffiles_again, pending_field_again, triggers_pending_again, triggers_awaited_again}
+use Rattle.status_records.proofs.OwnFields.{ArePartsFit, whole_written, some_written, IsReadAgain, own_readable, others_kept, package_again, status_again as status_field_again, version_again, config_again, removed_again, conffiles_again, pending_field_again, triggers_pending_again, triggers_awaited_again}
 use Rattle.status_records.proofs.PathOrder.{order_apart, in_order_kept}
 use Rattle.status_records.proofs.Tables.{apart_filter}
 
@@ -45,8 +45,8 @@ parts_fit r parts = record { version = parts.version; config_version = parts.con
 
 pub paragraph_written : (r : Record) → IsWhole r → HasParts r → IsParagraph (paragraph_of r)
 paragraph_written r whole parts = record {
-  some = λ e. cc e;
-  are = whole_written r (own_written r whole.writable.named (parts_fit r parts) (all_more r.conffiles whole.conffiles) (all_pending_more r.pending whole.pending)) whole.writable.others whole.writable.written;
+  some = some_written r whole.writable.others;
+  are = whole_written r whole.writable.named (parts_fit r parts) (all_more r.conffiles whole.conffiles) (all_pending_more r.pending whole.pending) whole.writable.others whole.writable.written;
 }
 
 -- the parts of a record as they are found again
@@ -96,9 +96,9 @@ pending_found r whole parts =
 
 record_again : (r : Record) → IsWhole r → HasParts r → is_not_installed r.state ≡ false → IsRecordOf (paragraph_of r) r
 record_again r whole parts there = record {
-  name = record { field = line_field (codes "Package") r.name; there = refl; value_is = refl; one_line = refl };
-  status = record { field = line_field (codes "Status") (status_text r.want r.flag (record_word r)); there = refl; value_is = refl; one_line = refl };
-  version = record { field = line_field (codes "Version") r.version; there = refl; value_is = refl; one_line = refl };
+  name = record { field = line_field (codes "Package") r.name; there = package_again r whole.writable.others; value_is = refl; one_line = refl };
+  status = record { field = line_field (codes "Status") (status_text r.want r.flag (record_word r)); there = status_field_again r whole.writable.others; value_is = refl; one_line = refl };
+  version = record { field = line_field (codes "Version") r.version; there = version_again r whole.writable.others; value_is = refl; one_line = refl };
   config_version = config_kept (is_configured_in r.state (paragraph_of r)) r.config_version (line_of (field_in (codes "config-version") (paragraph_of r))) (current_again r whole.writable.others) (config_again r whole.writable.others);
   removed_since = sym (removed_again r whole.writable.others);
   conffiles = conffiles_found r whole parts;
@@ -120,7 +120,7 @@ read_again r whole parts = record {
 pub entry_again : (names : List (List ℕ)) (r : Record) → IsWhole r → HasParts r → is_not_installed r.state ≡ false → list_any (bytes_eq r.name) names ≡ false → IsEntry names (paragraph_of r) r.name (r ∷ [])
 entry_again names r whole parts there new = record {
   says = record {
-    named = (record { field = line_field (codes "Package") r.name; there = refl; value_is = refl; one_line = refl }, whole.writable.named);
+    named = (record { field = line_field (codes "Package") r.name; there = package_again r whole.writable.others; value_is = refl; one_line = refl }, whole.writable.named);
     stands_for = inr (r, record_again r whole parts there, refl);
   };
   new = new;

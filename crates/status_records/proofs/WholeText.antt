@@ -45,7 +45,9 @@ whole_written : (bytes : List ℕ) (ps : List Located) (begun : Located) (fault 
 whole_written bytes ps begun None is =
     subst (λ (l : List Located). AllByRecursion IsParagraph (paragraphs_of l)) (sym is.2) (closed_written is.0 (run_written 1 (lines_of bytes) start is.0 (lines_are bytes) is.1 (tt, tt)))
 whole_written bytes ps begun (Some fault) is =
-    (run_written 1 is.front start (record { done = ps; begun = begun }) (front_lines is.front (is.bytes ∷ is.rest) (subst AreLines is.is (lines_are bytes))) is.run (tt, tt)).0
+    let broken = is.1 in
+    subst (λ (l : List Located). AllByRecursion IsParagraph (paragraphs_of l)) (sym is.2)
+    (run_written 1 broken.front start is.0 (front_lines broken.front (broken.bytes ∷ broken.rest) (subst AreLines broken.is (lines_are bytes))) broken.run (tt, tt)).0
 
 all_sound : (ls : List (List ℕ)) (ps : List Located) → length ls < 2 ^ 64 → AllByRecursion (IsPlaced ls) ps → AllByRecursion IsParagraph (paragraphs_of ps) → AllByRecursion IsSound ps
 all_sound ls [] few placed written = tt

@@ -28,9 +28,9 @@ words_before text = trim_end (take (word_start text) text)
 abbrev pub without_word : List ℕ → List ℕ → List ℕ
 without_word word text = cond (bytes_eq (last_word text) word) (words_before text) text
 
--- a line without the blank that it begins with
+-- a line without the blank that it begins with, and without those at its end
 abbrev pub line_text : List ℕ → List ℕ
-line_text line = drop 1 line
+line_text line = trim_end (drop 1 line)
 
 -- `remove-on-upgrade` stands last on a line, `obsolete` last or before it
 abbrev pub text_before_removal : List ℕ → List ℕ

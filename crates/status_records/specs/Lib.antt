@@ -2,6 +2,7 @@ pub mod Words
 pub mod TriggerNames
 pub mod Triggers
 pub mod Fields
+pub mod Order
 pub mod ConffilePaths
 pub mod Digests
 pub mod ConffileFields

@@ -19,6 +19,7 @@ use Rattle.status_records.specs.declared.triggers.Triggers.{Triggers}
 use Rattle.status_records.specs.Words.{status_text, word_of, is_not_installed, is_installed}
 use Rattle.status_records.specs.TriggerNames.{are_trigger_names}
 use Rattle.status_records.specs.Fields.{recorded_fields}
+use Rattle.status_records.specs.Order.{merged}
 use Rattle.status_records.specs.Values.{IsReadable}
 use Rattle.status_records.specs.ConffilePaths.{AreInOrder, in_path_order}
 use Rattle.status_records.specs.ConffileFields.{conffile_words, pending_words, words_of_conffile, words_of_pending, conffile_line, pending_line}
@@ -57,18 +58,18 @@ trigger_fields t = names_field (codes "Triggers-Pending") t.pending ++ names_fie
 abbrev pub record_word : Record → StateWord
 record_word r = word_of r.state (is_some r.triggers.pending) (is_some r.triggers.awaited)
 
--- the fields of a record's own, in their order
+-- The fields of a record's own in dpkg's order, and behind them the two that dpkg doesn't name.
 abbrev pub own_fields : Record → List Field
 own_fields r =
     first_fields r.name (status_text r.want r.flag (record_word r)) r.version
     ++ (config_field r.config_version
-    ++ (removed_field r.removed_since
     ++ (lines_field (codes "Conffiles") (map conffile_line r.conffiles)
-    ++ (lines_field (codes "New-Conffiles") (map pending_line r.pending) ++ trigger_fields r.triggers))))
+    ++ (trigger_fields r.triggers
+    ++ (removed_field r.removed_since ++ lines_field (codes "New-Conffiles") (map pending_line r.pending)))))
 
--- a record's own fields, then the other ones
+-- a record's own fields, each before the first other one that stands behind it in dpkg's order
 abbrev pub paragraph_of : Record → List Field
-paragraph_of r = own_fields r ++ r.fields
+paragraph_of r = merged (own_fields r) r.fields
 
 -- a record's lines in the status file
 abbrev pub record_text : Record → List ℕ

@@ -76,7 +76,7 @@ fn line_text(line: &[u8]) -> &[u8]
     ensures { result.now ≡ line_text line.now }
 {
     match line {
-        [_, text @ ..] => text,
+        [_, text @ ..] => trim_end(text),
         [] => line,
     }
 }

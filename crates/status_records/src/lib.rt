@@ -8,7 +8,8 @@
 //! `Record`). A record has its parts as types: the version last configured, whether a removal has
 //! come since, its conffiles with their digests and flags and the digests that aren't settled yet,
 //! both in path order, the triggers that it is to process and the packages that it awaits, and the
-//! other fields of the control file; what is written of it reads back as the same record.
+//! other fields of the control file; what is written of it, in dpkg's order of fields (specs/Order),
+//! reads back as the same record.
 //!
 //! The word of the state in the status file, `word`, tells of triggers too (specs/Words, the table
 //! `agrees`): a paragraph whose word and fields disagree is a faulty one.
@@ -29,6 +30,7 @@ mod conffile_reading;
 mod conffile_writing;
 mod entries;
 mod names;
+mod order;
 mod reading;
 mod record;
 mod standings;

@@ -6,11 +6,13 @@ ghost use Rattle.control_fields.specs.Names.{lower};
 ghost use Rattle.control_fields.specs.Spelling.{AreFields};
 ghost use Rattle.texts.specs.PackageNames.{is_package_name};
 ghost use Rattle.status_records.specs.Fields.{own_names, recorded_fields};
+ghost use Rattle.status_records.specs.Order.{in_dpkgs_order};
 ghost use Rattle.status_records.specs.Triggers.{is_configured, may_stand, no_triggers};
 ghost use Rattle.status_records.specs.Values.{IsReadableControl};
 ghost use Rattle.status_records.specs.Writable.{IsWritable};
 
 use crate::conffile_lists::{ConffileEntries, PendingDigests};
+use crate::order::in_dpkgs_order;
 use crate::triggers::Triggers;
 use crate::words::{Flag, State, Want};
 use control_fields::Paragraph;
@@ -20,7 +22,8 @@ use texts::Text;
 use version_order::Version;
 
 /// What the status file says of a package. `fields` are all fields but those of the record's own, in
-/// their order; written, their values can be read again.
+/// the order in which they stood there, or in dpkg's where they come from a control file; written,
+/// their values can be read again.
 #[derive(Drop)]
 pub struct Record {
     pub name: Text,
@@ -78,6 +81,15 @@ pub(crate) fn recorded_fields(alloc: Global, control: &Paragraph) -> Result<Para
     Ok(kept)
 }
 
+/// Those of a control file in dpkg's order.
+pub(crate) fn ordered_fields(alloc: Global, control: &Paragraph) -> Result<Paragraph, AllocError>
+    requires { ∥ AreFields [] control.now ∥₁ }
+    ensures { IfOk result (λ p. p ≡ in_dpkgs_order (recorded_fields control.now)) }
+{
+    let kept = recorded_fields(alloc, control)?;
+    in_dpkgs_order(alloc, &kept)
+}
+
 /// An equal version, where there is one.
 pub(crate) fn copied_version(version: &Option<Version>) -> Result<Option<Version>, AllocError>
     ensures { IfOk result (λ copy. copy ≡ version.now) }
@@ -112,7 +124,7 @@ impl Record {
         ensures conffiles { IfOk result (λ r. r.conffiles ≡ []) }
         ensures pending { IfOk result (λ r. r.pending ≡ []) }
         ensures triggers { IfOk result (λ r. r.triggers ≡ no_triggers) }
-        ensures fields { IfOk result (λ r. r.fields ≡ recorded_fields control.now) }
+        ensures fields { IfOk result (λ r. r.fields ≡ in_dpkgs_order (recorded_fields control.now)) }
     {
         Ok(Record {
             name: name.copy()?,
@@ -125,7 +137,7 @@ impl Record {
             conffiles: ConffileEntries::new(alloc),
             pending: PendingDigests::new(alloc),
             triggers: Triggers::none(),
-            fields: recorded_fields(alloc, control)?,
+            fields: ordered_fields(alloc, control)?,
         })
     }
 

@@ -13,6 +13,7 @@ ghost use Rattle.status_records.specs.Status.{IsStatus};
 ghost use Rattle.status_records.specs.TriggerNames.{are_trigger_names};
 
 use crate::conffile_writing::{conffile_lines, pending_lines};
+use crate::order::merged;
 use crate::record::Record;
 use crate::trigger_names::TriggerNames;
 use crate::triggers::Triggers;
@@ -48,45 +49,60 @@ pub fn add_line(
     fields.push(Field::one_line(alloc, name, value)?)
 }
 
-fn add_first_fields(alloc: Global, entry: &Record, fields: &mut Paragraph) -> Result<(), AllocError>
-    requires { fields.old ≡ [] }
-    ensures fields { OnOk result (fields.new ≡ first_fields entry.now.name
+// The same where no field is looked up by its name.
+fn push_line(
+    alloc: Global,
+    name: &[u8],
+    value: &[u8],
+    fields: &mut Vec<Field>,
+) -> Result<(), AllocError>
+    ensures { OnOk result (fields.new.items ≡ fields.old.items ++ line_field name.now value.now ∷ []) }
+{
+    fields.push(Field::one_line(alloc, name, value)?)?;
+    Ok(())
+}
+
+fn add_first_fields(
+    alloc: Global,
+    entry: &Record,
+    fields: &mut Vec<Field>,
+) -> Result<(), AllocError>
+    requires { fields.old.items ≡ [] }
+    ensures fields { OnOk result (fields.new.items ≡ first_fields entry.now.name
         (status_text entry.now.want entry.now.flag (record_word entry.now)) entry.now.version) }
     ensures version { OnOk result (IsVersion entry.now.version) }
 {
     let status = status_text(alloc, entry)?;
     let name = entry.name.as_str().as_bytes();
     let version = entry.version.text().as_bytes();
-    add_line(alloc, b"Package", name, fields)?;
-    add_line(alloc, b"Status", status.as_slice(), fields)?;
-    add_line(alloc, b"Version", version, fields)
+    push_line(alloc, b"Package", name, fields)?;
+    push_line(alloc, b"Status", status.as_slice(), fields)?;
+    push_line(alloc, b"Version", version, fields)
 }
 
 // Adds Config-Version, where there is a version.
 fn add_config(
     alloc: Global,
     version: &Option<Version>,
-    fields: &mut Paragraph,
+    fields: &mut Vec<Field>,
 ) -> Result<(), AllocError>
-    requires { stands (codes "Config-Version") fields.old ≡ false }
-    ensures field { OnOk result (fields.new ≡ fields.old ++ config_field version.now) }
+    ensures field { OnOk result (fields.new.items ≡ fields.old.items ++ config_field version.now) }
     ensures version { OnOk result (IfSome version.now IsVersion) }
 {
     match version {
-        Some(version) => add_line(alloc, b"Config-Version", version.text().as_bytes(), fields),
+        Some(version) => push_line(alloc, b"Config-Version", version.text().as_bytes(), fields),
         None => Ok(()),
     }
 }
 
 // Adds Removed-Since, where it holds.
-fn add_removed(alloc: Global, removed: bool, fields: &mut Paragraph) -> Result<(), AllocError>
-    requires { stands (codes "Removed-Since") fields.old ≡ false }
-    ensures { OnOk result (fields.new ≡ fields.old ++ removed_field removed) }
+fn add_removed(alloc: Global, removed: bool, fields: &mut Vec<Field>) -> Result<(), AllocError>
+    ensures { OnOk result (fields.new.items ≡ fields.old.items ++ removed_field removed) }
 {
     if !removed {
         return Ok(());
     }
-    add_line(alloc, b"Removed-Since", b"yes", fields)
+    push_line(alloc, b"Removed-Since", b"yes", fields)
 }
 
 // Adds a field whose value stands on these lines, where there are any.
@@ -94,10 +110,9 @@ fn add_lines(
     alloc: Global,
     name: &[u8],
     lines: Lines,
-    fields: &mut Paragraph,
+    fields: &mut Vec<Field>,
 ) -> Result<(), AllocError>
-    requires { stands name.now fields.old ≡ false }
-    ensures { OnOk result (fields.new ≡ fields.old ++ lines_field name.now lines) }
+    ensures { OnOk result (fields.new.items ≡ fields.old.items ++ lines_field name.now lines) }
 {
     if lines.as_slice().is_empty() {
         return Ok(());
@@ -106,28 +121,24 @@ fn add_lines(
         name: Bytes::from_slice(alloc, name)?,
         first: Bytes::new(Vec::new(alloc)),
         more: lines,
-    })
+    })?;
+    Ok(())
 }
 
-fn add_conffiles(alloc: Global, entry: &Record, fields: &mut Paragraph) -> Result<(), AllocError>
-    requires conffiles { stands (codes "Conffiles") fields.old ≡ false }
-    requires pending { stands (codes "New-Conffiles") fields.old ≡ false }
-    ensures { OnOk result (fields.new ≡ fields.old ++ (lines_field (codes "Conffiles")
-        (map conffile_line entry.now.conffiles) ++ lines_field (codes "New-Conffiles")
-        (map pending_line entry.now.pending))) }
+fn add_conffiles(alloc: Global, entry: &Record, fields: &mut Vec<Field>) -> Result<(), AllocError>
+    ensures { OnOk result (fields.new.items ≡ fields.old.items ++ lines_field (codes "Conffiles")
+        (map conffile_line entry.now.conffiles)) }
 {
-    add_lines(
-        alloc,
-        b"Conffiles",
-        conffile_lines(alloc, &entry.conffiles)?,
-        fields,
-    )?;
-    add_lines(
-        alloc,
-        b"New-Conffiles",
-        pending_lines(alloc, &entry.pending)?,
-        fields,
-    )
+    let lines = conffile_lines(alloc, &entry.conffiles)?;
+    add_lines(alloc, b"Conffiles", lines, fields)
+}
+
+fn add_pending(alloc: Global, entry: &Record, fields: &mut Vec<Field>) -> Result<(), AllocError>
+    ensures { OnOk result (fields.new.items ≡ fields.old.items ++ lines_field (codes "New-Conffiles")
+        (map pending_line entry.now.pending)) }
+{
+    let lines = pending_lines(alloc, &entry.pending)?;
+    add_lines(alloc, b"New-Conffiles", lines, fields)
 }
 
 // Adds names of triggers or packages, where there are any.
@@ -135,14 +146,13 @@ fn add_names(
     alloc: Global,
     name: &[u8],
     names: &Option<TriggerNames>,
-    fields: &mut Paragraph,
+    fields: &mut Vec<Field>,
 ) -> Result<(), AllocError>
-    requires { stands name.now fields.old ≡ false }
-    ensures field { OnOk result (fields.new ≡ fields.old ++ names_field name.now names.now) }
+    ensures field { OnOk result (fields.new.items ≡ fields.old.items ++ names_field name.now names.now) }
     ensures names { OnOk result (IfSome names.now (λ text. are_trigger_names text ≡ true)) }
 {
     match names {
-        Some(names) => add_line(alloc, name, names.text(), fields),
+        Some(names) => push_line(alloc, name, names.text(), fields),
         None => Ok(()),
     }
 }
@@ -150,11 +160,9 @@ fn add_names(
 fn add_triggers(
     alloc: Global,
     triggers: &Triggers,
-    fields: &mut Paragraph,
+    fields: &mut Vec<Field>,
 ) -> Result<(), AllocError>
-    requires pending { stands (codes "Triggers-Pending") fields.old ≡ false }
-    requires awaited { stands (codes "Triggers-Awaited") fields.old ≡ false }
-    ensures fields { OnOk result (fields.new ≡ fields.old ++ trigger_fields triggers.now) }
+    ensures fields { OnOk result (fields.new.items ≡ fields.old.items ++ trigger_fields triggers.now) }
     ensures pending { OnOk result (IfSome triggers.now.pending (λ text. are_trigger_names text ≡ true)) }
     ensures awaited { OnOk result (IfSome triggers.now.awaited (λ text. are_trigger_names text ≡ true)) }
 {
@@ -162,39 +170,29 @@ fn add_triggers(
     add_names(alloc, b"Triggers-Awaited", &triggers.awaited, fields)
 }
 
-// Adds the fields of a record's own.
-fn add_own_fields(alloc: Global, entry: &Record, fields: &mut Paragraph) -> Result<(), AllocError>
-    requires { fields.old ≡ [] }
-    ensures fields { OnOk result (fields.new ≡ own_fields entry.now) }
+// The fields of a record's own.
+fn own_fields(alloc: Global, entry: &Record) -> Result<Vec<Field>, AllocError>
+    ensures fields { IfOk result (λ fields. fields.items ≡ own_fields entry.now) }
     ensures parts { OnOk result (HasParts entry.now) }
 {
     entry.conffiles.law();
     entry.pending.law();
-    add_first_fields(alloc, entry, fields)?;
-    add_config(alloc, &entry.config_version, fields)?;
-    add_removed(alloc, entry.removed_since, fields)?;
-    add_conffiles(alloc, entry, fields)?;
-    add_triggers(alloc, &entry.triggers, fields)
-}
-
-fn add_other_fields(entry: &Record, fields: &mut Paragraph) -> Result<(), AllocError>
-    requires own { fields.old ≡ own_fields entry.now }
-    ensures { OnOk result (fields.new ≡ paragraph_of entry.now) }
-{
-    for field in entry.fields.fields() {
-        fields.push(field.copy()?)?;
-    }
-    Ok(())
+    let mut fields = Vec::new(alloc);
+    add_first_fields(alloc, entry, &mut fields)?;
+    add_config(alloc, &entry.config_version, &mut fields)?;
+    add_conffiles(alloc, entry, &mut fields)?;
+    add_triggers(alloc, &entry.triggers, &mut fields)?;
+    add_removed(alloc, entry.removed_since, &mut fields)?;
+    add_pending(alloc, entry, &mut fields)?;
+    Ok(fields)
 }
 
 pub fn paragraph_of(alloc: Global, entry: &Record) -> Result<Paragraph, AllocError>
     ensures paragraph { IfOk result (λ p. p ≡ paragraph_of entry.now) }
     ensures parts { OnOk result (HasParts entry.now) }
 {
-    let mut paragraph = Paragraph::new(alloc);
-    add_own_fields(alloc, entry, &mut paragraph)?;
-    add_other_fields(entry, &mut paragraph)?;
-    Ok(paragraph)
+    let own = own_fields(alloc, entry)?;
+    merged(alloc, own.as_slice(), &entry.fields)
 }
 
 /// A record as it is written in the status file, from which it is read again.

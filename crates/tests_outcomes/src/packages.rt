@@ -202,11 +202,7 @@ impl Package {
         if !self.is_installed() {
             push(&mut text, "Config-Version: ", self.last)?;
         }
-        push(
-            &mut text,
-            "Removed-Since: ",
-            if self.removed { "yes" } else { "" },
-        )?;
+        text.push_str(self.fields)?;
         push(
             &mut text,
             "Conffiles:\n /etc/a.conf ",
@@ -214,10 +210,14 @@ impl Package {
         )?;
         push(
             &mut text,
+            "Removed-Since: ",
+            if self.removed { "yes" } else { "" },
+        )?;
+        push(
+            &mut text,
             "New-Conffiles:\n /etc/a.conf ",
             digest_of(self.pending),
         )?;
-        text.push_str(self.fields)?;
         Ok(text)
     }
 }

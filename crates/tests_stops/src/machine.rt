@@ -11,7 +11,7 @@ use texts::Text;
 
 mod breaking;
 
-// A file under the root: its path, and what it holds; or a link, where the text begins so.
+// A file under the root: its path, and what it holds; or a link, or a file that is closed to others, where the text begins so.
 type RootFile = (&'static str, &'static str);
 
 // A file of a tree: the word that names the tree, the path under it, and what stands there.
@@ -32,20 +32,32 @@ fn path_of(alloc: Global, text: &str) -> Result<RootPath, AllocError> {
     }
 }
 
-fn file(alloc: Global, text: &str) -> Result<Node, AllocError> {
+fn file(alloc: Global, text: &str, mode: u16) -> Result<Node, AllocError> {
     let bytes = Content::from_slice(alloc, text.as_bytes())?;
-    let access = Access::own(0o755);
+    let access = Access::own(mode);
     Ok(Node::File { bytes, access })
 }
 
 const LINK: &str = "-> ";
+
+// So begins the text of a file that its owner alone may use.
+const CLOSED: &str = "700 ";
+
+const CLOSED_MODE: u16 = 0o700;
+
+fn file_of(alloc: Global, text: &str) -> Result<Node, AllocError> {
+    match text.strip_prefix(CLOSED) {
+        Some(text) => file(alloc, text, CLOSED_MODE),
+        None => file(alloc, text, 0o755),
+    }
+}
 
 fn node_of(alloc: Global, text: &str) -> Result<Node, AllocError> {
     match text.strip_prefix(LINK) {
         Some(target) => Ok(Node::Link {
             target: Text::from_str(alloc, target)?,
         }),
-        None => file(alloc, text),
+        None => file_of(alloc, text),
     }
 }
 
@@ -142,10 +154,20 @@ fn names_at(alloc: Global, host: &mut MemoryHost, path: &str) -> Result<String, 
     }
 }
 
+fn text_of_file(alloc: Global, bytes: &[u8], mode: u16) -> Result<String, AllocError> {
+    let text = text_of(bytes);
+    if mode == CLOSED_MODE {
+        return format!(in alloc; "{CLOSED}{text}");
+    }
+    String::from_str(alloc, text)
+}
+
 // What a file holds, or the names in a directory; nothing where none stands.
 fn text_at(alloc: Global, host: &mut MemoryHost, path: &str) -> Result<String, AllocError> {
     match host.node(&path_of(alloc, path)?) {
-        Ok(Some(Node::File { bytes, .. })) => String::from_str(alloc, text_of(bytes.as_slice())),
+        Ok(Some(Node::File { bytes, access })) => {
+            text_of_file(alloc, bytes.as_slice(), access.mode)
+        }
         Ok(Some(Node::Dir { .. })) => names_at(alloc, host, path),
         Ok(Some(Node::Link { .. })) => String::from_str(alloc, "link"),
         Ok(None) => Ok(String::new(alloc)),

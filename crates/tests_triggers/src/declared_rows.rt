@@ -46,8 +46,8 @@ const ROOT: &[Thing] = &[
 
 // Interests, as dpkg lists them.
 const INTERESTS: &[&str] = &[
-    "/usr/lib/gdk-pixbuf-2.0/2.10.0/loaders libgdk-pixbuf-2.0-0",
-    "/usr/lib/x86_64-linux-gnu/gdk-pixbuf-2.0/2.10.0/loaders libgdk-pixbuf-2.0-0",
+    "/usr/lib/gdk-pixbuf-2.0/2.10.0/loaders libgdk-pixbuf-2.0-0/noawait",
+    "/usr/lib/x86_64-linux-gnu/gdk-pixbuf-2.0/2.10.0/loaders libgdk-pixbuf-2.0-0/noawait",
     "update-ca-certificates ca-certificates",
     "update-ca-certificates-fresh ca-certificates",
 ];
@@ -89,6 +89,9 @@ fn line_of(alloc: Global, interest: &Interest) -> Result<String, AllocError> {
     let mut line = String::from_str(alloc, interest.name.as_str())?;
     line.push(' ')?;
     line.push_str(interest.package.as_str())?;
+    if interest.noawait {
+        line.push_str("/noawait")?;
+    }
     Ok(line)
 }
 

@@ -127,7 +127,8 @@ fn push_paragraph(
     text.push_str("paragraph\n")?;
     match write_paragraph(alloc, paragraph) {
         Ok(bytes) => text.push_str(text_of(bytes.as_slice())),
-        Err(fault) => text.push_str(format!(in alloc; "{fault:?}")?.as_str()),
+        // No other fault than a want of memory.
+        Err(_) => Err(AllocError),
     }
 }
 

@@ -34,12 +34,17 @@ abbrev pub declared : World → List ℕ → List Declaration
 declared w name = if is_package_name name then declared_at (w (triggers_path name)) else []
 
 abbrev pub is_interest : Directive → Bool
-is_interest directive.Interest = true
+is_interest (directive.Interest noawait) = true
 is_interest directive.Activate = false
+
+-- that it is one for which nobody waits
+abbrev pub is_noawait : Directive → Bool
+is_noawait (directive.Interest noawait) = noawait
+is_noawait directive.Activate = false
 
 -- of a package, by what it declares
 abbrev pub interest_of : List ℕ → Declaration → Interest
-interest_of name d = record { «package» = name; name = d.name }
+interest_of name d = record { «package» = name; name = d.name; noawait = is_noawait d.directive }
 
 -- those among its declarations, in their order
 abbrev pub interests_by : List ℕ → List Declaration → List Interest

@@ -1,5 +1,5 @@
 -- Words of a line of a package's file `triggers`.
-use Rattle.std.specs.Prelude.{◌&&◌, ◌==◌, not, ℕ, Bool, nat_lt, if◌then◌else◌, List, [], ◌∷◌, length, filter, Option, Some, None, codes}
+use Rattle.std.specs.Prelude.{◌&&◌, ◌==◌, not, ℕ, Bool, true, false, nat_lt, if◌then◌else◌, List, [], ◌∷◌, length, filter, Option, Some, None, codes}
 use Rattle.std.specs.List.{list_all, list_any, slice_split}
 use Rattle.std.specs.Str.{bytes_eq}
 use Rattle.control_fields.specs.Names.{is_blank}
@@ -10,9 +10,13 @@ use Rattle.trigger_interests.specs.declared.words.Directive.TheVariants.{Interes
 abbrev pub words_in : List ℕ → List (List ℕ)
 words_in line = filter (λ word. not (length word == 0)) (slice_split is_blank line)
 
--- that a package is interested; whether others wait for it isn't kept
+-- that a package is interested, and who activates the trigger waits for it
 abbrev pub interest_words : List (List ℕ)
-interest_words = codes "interest" ∷ codes "interest-await" ∷ codes "interest-noawait" ∷ []
+interest_words = codes "interest" ∷ codes "interest-await" ∷ []
+
+-- that it is interested, and nobody waits for it
+abbrev pub noawait_word : List ℕ
+noawait_word = codes "interest-noawait"
 
 -- that it activates the trigger; whether it waits isn't kept
 abbrev pub activate_words : List (List ℕ)
@@ -20,7 +24,9 @@ activate_words = codes "activate" ∷ codes "activate-await" ∷ codes "activate
 
 -- the directive that a word is, if it is one
 abbrev pub directive_of : List ℕ → Option Directive
-directive_of word = if list_any (bytes_eq word) interest_words then Some Interest else if list_any (bytes_eq word) activate_words then Some Activate else None
+directive_of word =
+    if list_any (bytes_eq word) interest_words then Some (Interest false) else if bytes_eq word noawait_word then Some (Interest true)
+    else if list_any (bytes_eq word) activate_words then Some Activate else None
 
 -- a printed sign of ASCII, and no blank
 abbrev pub is_trigger_sign : ℕ → Bool

@@ -3,7 +3,7 @@ ghost use Rattle.std.specs.Prelude.{◌≡◌, ◌++◌, IfOk, OnOk, true};
 ghost use Rattle.texts.specs.PackageNames.{is_package_name};
 ghost use Rattle.host_core.specs.Host.{Counts, Leaves, Reads, Silent};
 ghost use Rattle.host_core.specs.Looks.{Looks};
-ghost use Rattle.trigger_interests.specs.Interests.{activations_by, activations_of, declared, declared_at, or_none, interests_by, interests_of, is_interest, triggers_path};
+ghost use Rattle.trigger_interests.specs.Interests.{activations_by, activations_of, declared, declared_at, or_none, interests_by, interests_of, is_interest, is_noawait, triggers_path};
 ghost use Rattle.trigger_interests.specs.Lines.{declarations_in};
 
 use crate::lines::{Declaration, read_declarations};
@@ -12,18 +12,40 @@ use host_core::{Host, HostFault, Node, RootPath};
 use std::alloc::{AllocError, Global};
 use texts::{Text, package_name};
 
-/// A package is interested in the trigger of this name.
+/// A package is interested in the trigger of this name, and whether nobody waits for it.
 #[derive(Drop)]
 pub struct Interest {
     pub package: Text,
     pub name: Text,
+    pub noawait: bool,
+}
+
+impl Interest {
+    pub fn copy(&self) -> Result<Interest, AllocError>
+        ensures { IfOk result (λ copy. copy ≡ self.now) }
+    {
+        Ok(Interest {
+            package: self.package.copy()?,
+            name: self.name.copy()?,
+            noawait: self.noawait,
+        })
+    }
 }
 
 fn is_interest(directive: Directive) -> bool
     ensures { result ≡ is_interest directive }
 {
     match directive {
-        Directive::Interest => true,
+        Directive::Interest { .. } => true,
+        Directive::Activate => false,
+    }
+}
+
+fn is_noawait(directive: Directive) -> bool
+    ensures { result ≡ is_noawait directive }
+{
+    match directive {
+        Directive::Interest { noawait } => noawait,
         Directive::Activate => false,
     }
 }
@@ -88,28 +110,30 @@ fn add_interests(
             found.push(Interest {
                 package: package.copy()?,
                 name: declaration.name.copy()?,
+                noawait: is_noawait(declaration.directive),
             })?;
         }
     }
     Ok(())
 }
 
-// Adds those of a package.
-fn add_package<H: Host>(
+/// Adds those of a package, as those of another name: dpkg names some packages with their architecture. No script is called.
+pub fn add_interests_as<H: Host>(
     alloc: Global,
     host: &mut H,
     package: &Text,
+    label: &Text,
     found: &mut Vec<Interest>,
 ) -> Result<(), HostFault>
     ensures added { Leaves result (λ w _. found.new.items
-        ≡ found.old.items ++ interests_by «package».now (declared w «package».now))
+        ≡ found.old.items ++ interests_by label.now (declared w «package».now))
         (H.state host.old) (H.state host.new) }
     ensures reads { Reads (H.state host.old) (H.state host.new) }
     ensures silent { Silent (H.state host.old) (H.state host.new) }
     ensures counts { Counts (H.state host.old) (H.state host.new) result }
 {
     let declarations = read_declared(alloc, host, package)?;
-    Ok(add_interests(package, declarations, found)?)
+    Ok(add_interests(label, declarations, found)?)
 }
 
 // Adds those of each package.
@@ -127,7 +151,7 @@ fn add_packages<H: Host>(
     ensures counts { Counts (H.state host.old) (H.state host.new) result }
 {
     for package in packages {
-        add_package(alloc, host, package, found)?;
+        add_interests_as(alloc, host, package, package, found)?;
     }
     Ok(())
 }

@@ -3,15 +3,16 @@ ghost use Rattle.std.specs.Prelude.{◌≡◌, IfNone, IfOk, IfSome, false, map,
 ghost use Rattle.std.specs.List.{list_any};
 ghost use Rattle.std.specs.Str.{bytes_eq};
 ghost use Rattle.control_fields.specs.Names.{is_blank};
-ghost use Rattle.trigger_interests.specs.Words.{activate_words, directive_of, interest_words, is_trigger_name, is_trigger_sign, words_in};
+ghost use Rattle.trigger_interests.specs.Words.{activate_words, directive_of, interest_words, is_trigger_name, is_trigger_sign, noawait_word, words_in};
 
 use std::alloc::{AllocError, Global};
 use std::str;
 
-/// What a package declares of a trigger. Whether one waits for the other isn't kept.
+/// What a package declares of a trigger: that it is interested, and whether nobody waits for it then; or
+/// that it activates the trigger, of which isn't kept whether it waits.
 #[derive(Clone, Copy)]
 pub enum Directive {
-    Interest,
+    Interest { noawait: bool },
     Activate,
 }
 
@@ -33,9 +34,13 @@ pub(crate) fn words_in(alloc: Global, line: &[u8]) -> Result<Vec<&[u8]>, AllocEr
 fn is_interest_word(word: &[u8]) -> bool
     ensures { result ≡ list_any (bytes_eq word.now) interest_words }
 {
-    word == b"interest".as_slice()
-        || word == b"interest-await".as_slice()
-        || word == b"interest-noawait".as_slice()
+    word == b"interest".as_slice() || word == b"interest-await".as_slice()
+}
+
+fn is_noawait_word(word: &[u8]) -> bool
+    ensures { result ≡ bytes_eq word.now noawait_word }
+{
+    word == b"interest-noawait".as_slice()
 }
 
 fn is_activate_word(word: &[u8]) -> bool
@@ -51,7 +56,10 @@ pub(crate) fn directive_of(word: &[u8]) -> Option<Directive>
     ensures { result ≡ directive_of word.now }
 {
     if is_interest_word(word) {
-        return Some(Directive::Interest);
+        return Some(Directive::Interest { noawait: false });
+    }
+    if is_noawait_word(word) {
+        return Some(Directive::Interest { noawait: true });
     }
     if is_activate_word(word) {
         return Some(Directive::Activate);

@@ -1,28 +1,23 @@
 -- The report of a whole command.
 use Rattle.std.proofs.Common.{◌≡◌, inl, ℕ, List, [], ◌++◌, Option, Some, None, refl, sym, ap, subst, ◌∙◌}
 use Rattle.std.proofs.lemmas.List.{append-nil}
-use Rattle.std.specs.Prelude.{IfSome}
-use Rattle.host_core.specs.Host.{State, Since, NoFault}
+use Rattle.host_core.specs.Host.{State, Since}
 use Rattle.undo_rows.specs.Transcript.{TellsAll}
-use Rattle.unit_reports.proofs.Counting.{counts_no_memory, no_memory_not_closed}
 use Rattle.unit_reports.proofs.Telling.{told_all}
 use Rattle.unit_reports.specs.Held.{Held}
-use Rattle.unit_reports.specs.Units.{CountsLast, IsBrokenBy, TellsCalls, calls_of, calls_told, last_calls}
+use Rattle.unit_reports.specs.Units.{calls_of}
 use Rattle.unit_reports.specs.Watching.{AddsTold, IsTold}
-use Rattle.unit_reports.specs.declared.report.Breakage.TheVariants.{Closed}
-use Rattle.unit_reports.specs.declared.report.Report.{Report}
 use Rattle.unit_reports.specs.declared.report.Unit.{Unit as AUnit}
 use Rattle.unit_runs.proofs.Going.{since_turns_start}
 use Rattle.unit_runs.specs.Turns.{TurnsTo}
-use Rattle.trigger_run.specs.Run.{EndsAs, IsIdle, IsIdleLast, RunsUpTo}
+use Rattle.trigger_run.specs.Run.{IsIdle, RunsUpTo}
 use Rattle.trigger_run.specs.Turns.{HasStopped, HasTurned, IsAmidTurn, IsAmidTurns, IsBrokenNext, IsTurn, ProcessesTo}
 use Rattle.trigger_run.proofs.Processings.{silent_here}
 use Rattle.trigger_run.proofs.Replies.{broken_by}
 use Rattle.trigger_run.proofs.Turning.{since_next_start}
 
-idle_last : (left : List (List ℕ)) (h : Held) (s : State) (last : Option AUnit) → IsIdleLast last → IfSome last (IsBrokenNext left h s s)
-idle_last left h s None idle = tt
-idle_last left h s (Some u) idle = record { broken = broken_by _ u.reply idle.broken; untouched = idle.touched; called = inl (record { silent = silent_here s; told = idle.calls }) }
+idle_next : (left : List (List ℕ)) (h : Held) (s : State) (u : AUnit) → IsIdle u → IsBrokenNext left h s s u
+idle_next left h s u idle = record { broken = broken_by _ u.reply idle.broken; untouched = idle.touched; called = inl (record { silent = silent_here s; told = idle.calls }) }
 
 module _ (names : List (List ℕ)) (before : Held) (s : State) where
   -- the units that have come behind none
@@ -30,14 +25,14 @@ module _ (names : List (List ℕ)) (before : Held) (s : State) where
   runs_to first mid us left after t none same turned =
       subst (λ (l : List AUnit). TurnsTo IsTurn names before s l left after t) (sym (same ∙ turned.are ∙ ap (λ (l : List AUnit). l ++ turned.turned) none)) turned.come
 
-  pub runs_up_to : (first mid : List AUnit) (report : Report) (after : Held) (t : State) → first ≡ [] → EndsAs mid report → HasTurned names [] before after s t first mid → RunsUpTo names report.units.items report.last before s t
-  runs_up_to first mid report after t none ends turned = record {
+  pub runs_up_to : (first mid : List AUnit) (after : Held) (t : State) → first ≡ [] → HasTurned names [] before after s t first mid → RunsUpTo names mid None before s t
+  runs_up_to first mid after t none turned = record {
     left = [];
     after = after;
     end = t;
-    turns = runs_to first mid report.units.items [] after t none ends.units turned;
+    turns = runs_to first mid mid [] after t none refl turned;
     since = since_next_start [] [] after t;
-    broken = idle_last [] after t report.last ends.last;
+    broken = tt;
   }
 
   -- where one was broken off
@@ -59,32 +54,16 @@ module _ (names : List (List ℕ)) (before : Held) (s : State) where
     end = s;
     turns = subst (λ (l : List AUnit). TurnsTo IsTurn names before s l names before s) (sym none) TurnsTo.begun;
     since = since_next_start names names before s;
-    broken = idle_last names before s (Some u) idle;
+    broken = idle_next names before s u idle;
   }
 
   pub since_none : Since (IsAmidTurns names before s) s s
   since_none = since_turns_start IsTurn names before s (λ left behind. IsAmidTurn left) (λ later. Unit {0}) tt
 
 -- the calls that are told
-
-last_told : (last : Option AUnit) → IsIdleLast last → last_calls last ≡ []
-last_told None idle = refl
-last_told (Some u) idle = idle.calls
-
-pub tells_ended : (first mid : List AUnit) (report : Report) (s t : State) → first ≡ [] → EndsAs mid report → TellsAll s t (calls_of first) (calls_of mid) → TellsCalls s t report
-tells_ended first mid report s t none ends told =
-    let same : calls_told report ≡ calls_of mid = ap (λ l. calls_of report.units.items ++ l) (last_told report.last ends.last) ∙ append-nil (calls_of report.units.items) ∙ ap calls_of ends.units in
-    subst (TellsAll s t []) (sym same) (subst (λ (l : List AUnit). TellsAll s t (calls_of l) (calls_of mid)) none told)
-
--- its end
-
-pub ending_counts : (last : Option AUnit) (s t : State) → NoFault s t → IsIdleLast last → CountsLast s t last
-ending_counts None s t same idle = same
-ending_counts (Some u) s t same idle = counts_no_memory u.reply s t same idle.broken
-
-pub ending_not_closed : (last : Option AUnit) → IsIdleLast last → IfSome last (λ u. IsBrokenBy Closed u.reply → ⊥)
-ending_not_closed None idle = tt
-ending_not_closed (Some u) idle = no_memory_not_closed u.reply idle.broken
+pub tells_ended : (first mid : List AUnit) (s t : State) → first ≡ [] → TellsAll s t (calls_of first) (calls_of mid) → TellsAll s t [] (calls_of mid ++ [])
+tells_ended first mid s t none told =
+    subst (TellsAll s t []) (sym (append-nil (calls_of mid))) (subst (λ (l : List AUnit). TellsAll s t (calls_of l) (calls_of mid)) none told)
 
 -- all of them were told
 pub told_ended : {W : Type 0} (tells : W → AUnit → State → W → Type 0) (s : State) (old new : W) (first mid us : List AUnit) → first ≡ [] → us ≡ mid → AddsTold tells s first mid old new → IsTold tells s old us new

@@ -1,5 +1,6 @@
 mod Once
 mod Installed
+mod Lacking
 mod Replies
 mod Processings
 mod Turning

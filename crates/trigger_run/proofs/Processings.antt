@@ -1,6 +1,7 @@
 -- The triggers of one package processed: its moments, its calls and its unit.
-use Rattle.std.proofs.Common.{◌≡◌, ◌≢◌, ◌⊎◌, inl, inr, ℕ, List, [], ◌++◌, Option, Result, refl, sym, ap, subst, ◌∙◌, append_assoc}
+use Rattle.std.proofs.Common.{◌≡◌, ◌⊎◌, inl, inr, ℕ, List, [], ◌∷◌, ◌++◌, Contains, Option, Result, refl, sym, ap, subst, ◌∙◌, append_assoc}
 use Rattle.std.proofs.lemmas.List.{append-nil}
+use Rattle.std.proofs.lemmas.List.Elements.{Contains-push}
 use Rattle.undo_rows.proofs.Makes.{tells_none, tells_then}
 use Rattle.undo_rows.proofs.Tellings.{begun_calls}
 use Rattle.undo_rows.specs.Transcript.{TellsAll}
@@ -15,14 +16,20 @@ use Rattle.host_core.specs.World.{World, Barrier}
 use Rattle.host_core.specs.declared.call.Call.{Call}
 use Rattle.host_core.specs.declared.fault.HostFault.{HostFault}
 use Rattle.held_administration.specs.Order.{IsInOrder}
-use Rattle.status_records.specs.Records.{record_in}
+use Rattle.recorded_packages.specs.Packages.{ArePackagesOf}
+use Rattle.recorded_packages.specs.Renewal.{AreSameBut}
+use Rattle.relation_index.specs.declared.package.Package.{Package}
+use Rattle.status_db.specs.Order.{AreInOrder}
+use Rattle.status_records.specs.declared.record.Record.{Record}
 use Rattle.unit_reports.specs.Held.{Held}
 use Rattle.unit_reports.specs.Units.{IsBroken, IsBrokenBy}
 use Rattle.unit_reports.specs.declared.report.Breakage.TheVariants.{NoMemory}
+use Rattle.unit_reports.specs.declared.report.Reply.{Reply}
 use Rattle.unit_reports.specs.declared.report.Unit.{Unit as AUnit}
 use Rattle.unit_runs.proofs.Going.{still_here}
 use Rattle.unit_stages.specs.Calls.{MayRunStages}
-use Rattle.trigger_engine.specs.Units.{Given, HasCalled, HasEnded, IsAmidUnit, IsPending}
+use Rattle.trigger_engine.specs.Units.{Given, HasCalled, HasEnded, IsAmidUnit}
+use Rattle.trigger_run.specs.Needs.{IsReady}
 use Rattle.trigger_run.specs.Units.{Answers, HasCalledProcessing, HasCalledUnitOf, IsAmidProcessing, IsAmidUnitOf, IsBroughtToDisk, IsProcessing, IsUnitOf, given_by}
 use Rattle.trigger_run.proofs.Replies.{broken_or}
 
@@ -47,8 +54,8 @@ module _ (name : List ℕ) (before : Held) where
   pub since_processed : (result : Result Unit HostFault) (s m t : State) → Since (IsAmidUnit (given_by name before) s.world) s m → Does Barrier m t result → Since (IsAmidProcessing name before s.world) s t
   since_processed result s m t since does = since_to_disk (IsAmidProcessing name before s.world) result s m t (λ x quiet w none amid. amid_still s.world x quiet w none amid) (since_processing s m since) does
 
-  pub since_pending : (s t : State) → IsPending before.records.records name → AtEachMomentOf (IsAmidProcessing name before) s t → AtEachMomentOf (IsAmidUnitOf name before) s t
-  since_pending s t pending since = since_weaker (IsAmidProcessing name before s.world) (IsAmidUnitOf name before s.world) s t (λ so_far now amid. inr (pending, amid)) since
+  pub since_ready : (s t : State) → IsReady before.records.records name → AtEachMomentOf (IsAmidProcessing name before) s t → AtEachMomentOf (IsAmidUnitOf name before) s t
+  since_ready s t ready since = since_weaker (IsAmidProcessing name before s.world) (IsAmidUnitOf name before s.world) s t (λ so_far now amid. inr (ready, amid)) since
 
   pub since_nothing : (s : State) → AtEachMomentOf (IsAmidUnitOf name before) s s
   since_nothing s = since_start (IsAmidUnitOf name before s.world) s (inl (still_here s.world))
@@ -97,16 +104,21 @@ module _ (name : List ℕ) where
   }) either
 
   module _ (before after : Held) (u : AUnit) (s t : State) where
-    pub is_processed : IsPending before.records.records name → AtEachMomentOf (IsAmidProcessing name before) s t → IsBroken u.reply ⊎ IsProcessing name before after u s t → IsBroken u.reply ⊎ IsAnswered s t → IsBroken u.reply ⊎ IsUnitOf name before after u s t
-    is_processed pending moments (inl broken) answered = inl broken
-    is_processed pending moments (inr is) (inl broken) = inl broken
-    is_processed pending moments (inr is) (inr answered) = inr (IsUnitOf.processed pending (record { is = is; moments = moments; answered = answered }))
+    pub is_processed : IsReady before.records.records name → AtEachMomentOf (IsAmidProcessing name before) s t → IsBroken u.reply ⊎ IsProcessing name before after u s t → IsBroken u.reply ⊎ IsAnswered s t → IsBroken u.reply ⊎ IsUnitOf name before after u s t
+    is_processed ready moments (inl broken) answered = inl broken
+    is_processed ready moments (inr is) (inl broken) = inl broken
+    is_processed ready moments (inr is) (inr answered) = inr (IsUnitOf.processed ready (record { is = is; moments = moments; answered = answered }))
 
     pub order_behind_it : IsBroken u.reply ⊎ IsProcessing name before after u s t → IsBroken u.reply ⊎ Needs t (IsInOrder after.records after.lists)
     order_behind_it (inl broken) = inl broken
     order_behind_it (inr is) = inr is.order
 
--- the records of other packages are as before
-pub unit_others : (name : List ℕ) (before after : Held) (u : AUnit) (s t : State) → IsUnitOf name before after u s t → (q : List ℕ) → q ≢ name → record_in after.records.records q ≡ record_in before.records.records q
-unit_others name before after u s t (IsUnitOf.processed pending runs) q other = runs.is.ended.others q other
-unit_others name before after u s t (IsUnitOf.passed_over none quiet same here) q other = ap (λ (h : Held). record_in h.records.records q) same
+-- no record but its own has changed
+others_same : (name : List ℕ) (failed : Option Call) (old new : List Record) → HasEnded name failed old new → AreSameBut (name ∷ []) old new
+others_same name failed old new ended q out = ended.others q (λ same. out (subst (λ (n : List ℕ). Contains (name ∷ []) n) (sym same) (Contains-push [] name)))
+
+-- and the packages, of which its own was read anew, are those of the records again
+pub renewed : (name : List ℕ) (failed : Option Call) (reply : Reply) (old new : List Record) (before after : List Package) → AreInOrder old → ArePackagesOf old before → HasEnded name failed old new
+    → IsBroken reply ⊎ ((records : List Record) → AreInOrder records → ArePackagesOf records before → AreSameBut (name ∷ []) records new → ArePackagesOf new after) → IsBroken reply ⊎ ArePackagesOf new after
+renewed name failed reply old new before after order indexed ended (inl broken) = inl broken
+renewed name failed reply old new before after order indexed ended (inr renews) = inr (renews old order indexed (others_same name failed old new ended))

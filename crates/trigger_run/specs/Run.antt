@@ -1,17 +1,11 @@
 -- The triggers of packages processed, as a whole.
-use Rattle.std.specs.Prelude.{◌≡◌, ℕ, List, [], Option, Some, None, IfSome}
+use Rattle.std.specs.Prelude.{◌≡◌, ℕ, List, [], Option, IfSome}
 use Rattle.host_core.specs.Events.{Event}
 use Rattle.host_core.specs.Host.{State, AtEachMomentOf}
 use Rattle.host_core.specs.World.{World}
-use Rattle.recorded_packages.specs.Packages.{ArePackagesOf}
-use Rattle.recorded_packages.specs.Renewal.{AreSameBut}
-use Rattle.relation_index.specs.declared.package.Package.{Package}
-use Rattle.status_db.specs.Order.{AreInOrder}
-use Rattle.status_records.specs.declared.record.Record.{Record}
 use Rattle.unit_reports.specs.Held.{Held}
 use Rattle.unit_reports.specs.Units.{IsBrokenBy, TellsNoPackage}
 use Rattle.unit_reports.specs.declared.report.Breakage.TheVariants.{NoMemory}
-use Rattle.unit_reports.specs.declared.report.Report.{Report}
 use Rattle.unit_reports.specs.declared.report.Unit.{Unit as AUnit}
 use Rattle.trigger_run.specs.Names.{once}
 use Rattle.trigger_run.specs.Turns.{IsAmidNext, IsAmidTurns, IsBrokenNext, ProcessesTo}
@@ -43,17 +37,3 @@ pub record IsIdle (u : AUnit) : Type 0 where
   pub broken : IsBrokenBy NoMemory u.reply
   pub calls : u.calls.items ≡ []
   pub touched : TellsNoPackage u
-
--- none was broken off, or an idle one
-abbrev pub IsIdleLast : Option AUnit → Type 0
-IsIdleLast None = Unit {0}
-IsIdleLast (Some u) = IsIdle u
-
--- the report of these units, unless memory was wanting behind them
-pub record EndsAs (us : List AUnit) (report : Report) : Type 0 where
-  pub units : report.units.items ≡ us
-  pub last : IsIdleLast report.last
-
--- packages of records that were in order, and differed at these names alone, are those of the records of now
-abbrev pub AreRenewed : List (List ℕ) → List Record → List Package → List Package → Type 0
-AreRenewed names now old new = (before : List Record) → AreInOrder before → ArePackagesOf before old → AreSameBut names before now → ArePackagesOf now new

@@ -8,7 +8,7 @@ use Rattle.unit_reports.specs.Units.{HasNoCalls}
 use Rattle.unit_reports.specs.declared.report.Unit.{Unit as AUnit}
 use Rattle.unit_runs.specs.Turns as runs
 use Rattle.unit_runs.specs.Turns.{HaveTurned, IsBrokenNext as IsBroken, TurnsTo}
-use Rattle.trigger_engine.specs.Units.{IsPending}
+use Rattle.trigger_run.specs.Needs.{IsReady}
 use Rattle.trigger_run.specs.Units.{HasCalledProcessing, IsAmidProcessing, IsUnitOf}
 
 -- The unit of the first of the names that are left, by what the one before it left.
@@ -21,15 +21,15 @@ pub record IsTurn (names : List (List ℕ)) (before : Held) (u : AUnit) (left : 
 abbrev pub ProcessesTo : List (List ℕ) → Held → State → List AUnit → List (List ℕ) → Held → State → Type 0
 ProcessesTo names before s us left after t = TurnsTo IsTurn names before s us left after t
 
--- the package of this name is the next, and has triggers to process
-pub record IsNextPending (names : List (List ℕ)) (before : Held) (name : List ℕ) : Type 0 where
+-- the package of this name is the next, and its triggers are to be processed
+pub record IsNextReady (names : List (List ℕ)) (before : Held) (name : List ℕ) : Type 0 where
   pub left : List (List ℕ)
   pub first : names ≡ name ∷ left
-  pub pending : IsPending before.records.records name
+  pub ready : IsReady before.records.records name
 
 -- the triggers of the next package are being processed
 abbrev pub IsAmidTurn : List (List ℕ) → Held → World → List Event → World → Type 0
-IsAmidTurn names before old so_far now = (name : List ℕ) × IsNextPending names before name × IsAmidProcessing name before old so_far now
+IsAmidTurn names before old so_far now = (name : List ℕ) × IsNextReady names before name × IsAmidProcessing name before old so_far now
 
 -- at each moment behind the units that are done: nothing more is done, or the next is under way
 abbrev pub IsAmidNext : List (List ℕ) → Held → World → List Event → World → Type 0
@@ -41,7 +41,7 @@ IsAmidTurns names before s so_far now = runs.IsAmidTurns IsTurn (λ left later. 
 
 -- the calls of a unit that was broken off: none, or the first of those of the next package
 abbrev pub HasCalledNext : List (List ℕ) → Held → State → State → AUnit → Type 0
-HasCalledNext names before s t u = HasNoCalls u s t ⊎ ((name : List ℕ) × IsNextPending names before name × HasCalledProcessing name before s t [] u.calls.items)
+HasCalledNext names before s t u = HasNoCalls u s t ⊎ ((name : List ℕ) × IsNextReady names before name × HasCalledProcessing name before s t [] u.calls.items)
 
 -- a unit that was broken off: it tells no package, and made no call or the first of those of the next package
 abbrev pub IsBrokenNext : List (List ℕ) → Held → State → State → AUnit → Type 0

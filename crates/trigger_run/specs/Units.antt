@@ -1,5 +1,5 @@
 -- The triggers of one package, processed and brought to the disk: what was done, and what its unit answers.
-use Rattle.std.specs.Prelude.{◌≡◌, ◌⊎◌, ℕ, false, List, [], ◌∷◌, ◌++◌, Option, Some, None}
+use Rattle.std.specs.Prelude.{◌≡◌, ◌⊎◌, ℕ, List, [], ◌∷◌, ◌++◌, Option, Some, None}
 use Rattle.host_core.specs.Events.{Did, Event, scripts_of}
 use Rattle.host_core.specs.Host.{Happens, Needs, Silent, State, AtEachMomentOf}
 use Rattle.host_core.specs.Loss.{IsAnswered}
@@ -18,8 +18,8 @@ use Rattle.unit_reports.specs.declared.report.Reply.TheVariants.{Done, Failed}
 use Rattle.unit_reports.specs.declared.report.Unit.{Unit as AUnit}
 use Rattle.unit_runs.specs.Turns.{IsStill}
 use Rattle.unit_stages.specs.Holding.{Holding}
-use Rattle.trigger_engine.specs.Units.{Given, HasCalled, HasEnded, HasProcessed, IsAmidUnit, IsPending, given}
-use Rattle.trigger_run.specs.Pending.{is_pending_in}
+use Rattle.trigger_engine.specs.Units.{Given, HasCalled, HasEnded, HasProcessed, IsAmidUnit, given}
+use Rattle.trigger_run.specs.Needs.{IsLetBe, IsReady}
 
 -- the records and lists of what is held
 abbrev pub holding_of : Held → Holding
@@ -82,19 +82,19 @@ abbrev pub IsQuietUnit : Option Record → List ℕ → List Record → AUnit �
 IsQuietUnit None name records u = IsRefusedUnit Unknown name u
 IsQuietUnit (Some r) name records u = Answers name records None u × (u.calls.items ≡ [])
 
--- The unit of a name, by the package's record as the units before it left it: where it has triggers to process these are processed,
--- else nothing is done.
+-- The unit of a name, by the records as the units before it left them: where the package has triggers to process, and what it needs is
+-- there, these are processed; else nothing is done, and triggers that are pending stay so.
 pub data IsUnitOf (name : List ℕ) (before after : Held) (u : AUnit) (s t : State) : Type 0 where
-  processed : IsPending before.records.records name → RunsProcessing name before after u s t → IsUnitOf name before after u s t
-  passed_over : is_pending_in before.records.records name ≡ false → IsQuietUnit (record_in before.records.records name) name before.records.records u → after ≡ before → t ≡ s → IsUnitOf name before after u s t
+  processed : IsReady before.records.records name → RunsProcessing name before after u s t → IsUnitOf name before after u s t
+  passed_over : IsLetBe before.records.records name → IsQuietUnit (record_in before.records.records name) name before.records.records u → after ≡ before → t ≡ s → IsUnitOf name before after u s t
 
--- at each moment of the unit of a name: nothing is done, or triggers that are pending are processed
+-- at each moment of the unit of a name: nothing is done, or triggers that are to be processed are
 abbrev pub IsAmidUnitOf : List ℕ → Held → World → List Event → World → Type 0
-IsAmidUnitOf name before old so_far now = IsStill old so_far now ⊎ (IsPending before.records.records name × IsAmidProcessing name before old so_far now)
+IsAmidUnitOf name before old so_far now = IsStill old so_far now ⊎ (IsReady before.records.records name × IsAmidProcessing name before old so_far now)
 
--- its calls, whatever its end: none, or the first of those by which triggers that are pending are processed
+-- its calls, whatever its end: none, or the first of those by which triggers that are to be processed are
 abbrev pub HasCalledUnitOf : List ℕ → Held → State → State → AUnit → Type 0
-HasCalledUnitOf name before s t u = HasNoCalls u s t ⊎ (IsPending before.records.records name × HasCalledProcessing name before s t [] u.calls.items)
+HasCalledUnitOf name before s t u = HasNoCalls u s t ⊎ (IsReady before.records.records name × HasCalledProcessing name before s t [] u.calls.items)
 
 -- the unit of a name where it was broken off: it tells no package
 pub record IsBrokenOff (name : List ℕ) (before : Held) (u : AUnit) (s t : State) : Type 0 where

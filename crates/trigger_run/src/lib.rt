@@ -4,21 +4,20 @@
 //! # What is proved
 //!
 //! `process_packages`: a unit for each of the names once, in their order, from what the one before
-//! it left. A package that has triggers to process then has them processed (trigger_engine); one
-//! that has none is passed over, and one without a record is refused (`whole`: `IsTriggerRun`;
-//! `part` where a unit was broken off: `HasRun`). Each unit that made a step is on the disk before
+//! it left. A package that has triggers to process then, and whose Depends and Pre-Depends are met
+//! by the records of then, has them processed (trigger_engine, `IsReady`); one that has none, or
+//! that lacks what it needs, is passed over, and one without a record is refused (`whole`:
+//! `IsTriggerRun`; `part` where a unit was broken off: `HasRun`). Each unit that made a step is on the disk before
 //! the next (`answered`); at each moment some units are done and the next is under way
 //! (`any_moment`); a `Watcher` is told each unit as in configure_run (`watched`). The packages of
 //! the records go back as those of the records that are left (`indexed`).
-//!
-//! `pending_names`: all packages that have triggers to process, in name order.
 #![tactic(auto)]
 
 mod names;
+mod needs;
 mod pending;
 mod run;
 mod turns;
 mod units;
 
-pub use pending::pending_names;
 pub use run::process_packages;

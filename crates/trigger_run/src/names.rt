@@ -23,14 +23,3 @@ pub(crate) fn once(alloc: Global, names: Vec<Text>) -> Result<Vec<Text>, AllocEr
     }
     Ok(list)
 }
-
-/// The same names again.
-pub(crate) fn copied(alloc: Global, names: &[Text]) -> Result<Vec<Text>, AllocError>
-    ensures { IfOk result (λ list. list.items ≡ names.now) }
-{
-    let mut list = Vec::new(alloc);
-    for name in names {
-        list.push(name.copy()?)?;
-    }
-    Ok(list)
-}

@@ -4,7 +4,7 @@ ghost use Rattle.host_core.specs.Host.{AtEachMomentOf, Needs, NoFault, Since};
 ghost use Rattle.host_core.specs.Loss.{IsAnswered};
 ghost use Rattle.held_administration.specs.Open.{IsOpen};
 ghost use Rattle.held_administration.specs.Order.{IsInOrder};
-ghost use Rattle.recorded_packages.specs.Renewal.{AreSameBut};
+ghost use Rattle.recorded_packages.specs.Packages.{ArePackagesOf};
 ghost use Rattle.undo_rows.specs.Transcript.{TellsAll};
 ghost use Rattle.unit_reports.specs.Held.{held_by};
 ghost use Rattle.unit_reports.specs.Units.{CountsReply, IsBrokenBy, calls_of};
@@ -18,6 +18,7 @@ use crate::units::process_one;
 use diversions::Diversions;
 use held_administration::Administration;
 use host_core::Host;
+use relation_index::Packages;
 use texts::Text;
 use unit_reports::{Unit, Watcher};
 use unit_runs::{Turns, run_units};
@@ -26,6 +27,7 @@ use unit_runs::{Turns, run_units};
 fn take_next<H: Host>(
     host: &mut H,
     administration: &mut Administration,
+    packages: &mut Packages,
     diversions: &Diversions,
     room: bool,
     names: &mut Vec<Text>,
@@ -33,6 +35,7 @@ fn take_next<H: Host>(
     requires order { Needs (H.state host.old)
         (IsInOrder administration.old.database administration.old.lists.lists) }
     requires open { IsOpen diversions.now.ways administration.old }
+    requires indexed { ArePackagesOf administration.old.database.records packages.old }
     ensures taken { IsTaken IsTurn (λ left later. HasCalledNext left) (λ left held. left ≡ [])
         names.old.items names.new.items (held_by administration.old diversions.now)
         (held_by administration.new diversions.now) (H.state host.old) (H.state host.new) result }
@@ -42,6 +45,7 @@ fn take_next<H: Host>(
     ensures order { OnOk result (Needs (H.state host.new)
         (IsInOrder administration.new.database administration.new.lists.lists)) }
     ensures open { OnOk result (IsOpen diversions.now.ways administration.new) }
+    ensures indexed { OnOk result (ArePackagesOf administration.new.database.records packages.new) }
     ensures answered { OnOk result (IsAnswered (H.state host.old) (H.state host.new)) }
     ensures told { TellsAll (H.state host.old) (H.state host.new) [] (calls_in result) }
     ensures any_moment { AtEachMomentOf (runs.IsAmidNext (λ left later. IsAmidTurn left)
@@ -54,16 +58,17 @@ fn take_next<H: Host>(
         return Ok(None);
     }
     let name = names.remove(0);
-    match process_one(host, administration, diversions, name, room) {
+    match process_one(host, administration, packages, diversions, name, room) {
         Ok(unit) => Ok(Some(unit)),
         Err(unit) => Err(unit),
     }
 }
 
-/// The names that are left. Their units go by these diversions.
+/// The names that are left, and the packages of the records. Their units go by these diversions.
 #[derive(Drop)]
 pub(crate) struct Processing<'d> {
     pub(crate) diversions: &'d Diversions,
+    pub(crate) packages: Packages,
     pub(crate) names: Vec<Text>,
 }
 
@@ -103,27 +108,36 @@ impl<'d, H: Host> Turns<H> for Processing<'d> {
         administration: &mut Administration,
         room: bool,
     ) -> Result<Option<Unit>, Unit> {
-        take_next(host, administration, self.diversions, room, &mut self.names)
+        take_next(
+            host,
+            administration,
+            &mut self.packages,
+            self.diversions,
+            room,
+            &mut self.names,
+        )
     }
 }
 
-/// The units of some names in turn, until none is left or one was broken off.
+/// The units of some names in turn, until none is left or one was broken off. The packages are those of the records, and the answer
+/// is those of the records that are left.
 pub(crate) fn run_turns<H: Host, W: Watcher>(
     host: &mut H,
     administration: &mut Administration,
+    packages: Packages,
     diversions: &Diversions,
     names: Vec<Text>,
     units: &mut Vec<Unit>,
     watcher: &mut W,
-) -> Result<(), Unit>
+) -> Result<Packages, Unit>
     requires order { Needs (H.state host.old)
         (IsInOrder administration.old.database administration.old.lists.lists) }
     requires open { IsOpen diversions.now.ways administration.old }
+    requires indexed { ArePackagesOf administration.old.database.records packages }
     ensures turned { OnOk result (HasTurned names.items [] (held_by administration.old
         diversions.now) (held_by administration.new diversions.now) (H.state host.old)
         (H.state host.new) units.old.items units.new.items) }
-    ensures others { OnOk result (AreSameBut names.items administration.old.database.records
-        administration.new.database.records) }
+    ensures indexed { IfOk result (ArePackagesOf administration.new.database.records) }
     ensures stopped { IfErr result (HasStopped names.items (held_by administration.old
         diversions.now) (H.state host.old) (H.state host.new) units.old.items units.new.items) }
     ensures told { OnOk result (TellsAll (H.state host.old) (H.state host.new)
@@ -143,6 +157,20 @@ pub(crate) fn run_turns<H: Host, W: Watcher>(
     ensures watched { AddsTold W.tells (H.state host.old) units.old.items units.new.items
         watcher.old watcher.new }
 {
-    let mut turns = Processing { diversions, names };
-    run_units(host, administration, &mut turns, units, watcher)
+    let mut turns = Processing {
+        diversions,
+        packages,
+        names,
+    };
+    match run_units(host, administration, &mut turns, units, watcher) {
+        Ok(()) => {
+            let Processing {
+                diversions: _,
+                packages,
+                names: _,
+            } = turns;
+            Ok(packages)
+        }
+        Err(unit) => Err(unit),
+    }
 }

@@ -1,22 +1,28 @@
 // The unit of one name, brought to the disk.
-ghost use Rattle.std.specs.Prelude.{◌≡◌, ◌⊎◌, ◌∷◌, [], true, IfOk, OnOk, IfErr, None};
+ghost use Rattle.std.specs.Prelude.{◌≡◌, ◌⊎◌, ◌∷◌, [], List, true, IfOk, OnOk, IfErr, None};
 ghost use Rattle.host_core.specs.Host.{AtEachMomentOf, Counts, Needs, NoFault};
 ghost use Rattle.host_core.specs.Loss.{IsAnswered, IsOnDisk};
 ghost use Rattle.held_administration.specs.Open.{IsOpen};
 ghost use Rattle.held_administration.specs.Order.{IsInOrder};
+ghost use Rattle.recorded_packages.specs.Packages.{ArePackagesOf};
+ghost use Rattle.recorded_packages.specs.Renewal.{AreSameBut};
+ghost use Rattle.status_db.specs.Order.{AreInOrder};
 ghost use Rattle.status_records.specs.Records.{record_in};
+ghost use Rattle.status_records.specs.declared.record.Record.{Record as ARecord};
 ghost use Rattle.undo_rows.specs.Transcript.{TellsAll};
 ghost use Rattle.unit_reports.specs.Held.{held_by};
 ghost use Rattle.unit_reports.specs.Units.{CountsReply, IsBroken, IsBrokenBy, TellsNoPackage, touched_at};
 ghost use Rattle.unit_reports.specs.declared.report.Breakage.TheVariants.{NoMemory, Closed};
 ghost use Rattle.trigger_engine.specs.Units.{HasEnded, IsPending};
-ghost use Rattle.trigger_run.specs.Pending.{is_pending_in};
+ghost use Rattle.trigger_run.specs.Needs.{IsLetBe};
 ghost use Rattle.trigger_run.specs.Units.{Answers, HasCalledProcessing, HasCalledUnitOf, IsAmidProcessing, IsAmidUnitOf, IsBroughtToDisk, IsBrokenOff, IsProcessing, IsQuietUnit, IsUnitOf, reply_to};
 
-use crate::pending::is_pending_in;
+use crate::needs::is_ready;
 use diversions::Diversions;
 use held_administration::Administration;
 use host_core::{Call, Host, HostFault};
+use recorded_packages::renew_one;
+use relation_index::Packages;
 use status_db::NotedDatabase;
 use std::alloc::{AllocError, Global};
 use texts::{Text, Texts};
@@ -114,21 +120,49 @@ fn answered(
     }
 }
 
-// The unit of a package that has triggers to process.
+// The unit of what was done, behind which the package is read anew.
+fn finished(
+    alloc: Global,
+    packages: &mut Packages,
+    database: &NotedDatabase,
+    package: Text,
+    failed: Option<Call>,
+    calls: Vec<Called>,
+) -> Unit
+    ensures answer { IsBrokenBy NoMemory result.reply ⊎ Answers «package» database.now.records
+        failed result }
+    ensures told { result.calls.items ≡ calls.items }
+    ensures untouched { IsBroken result.reply → TellsNoPackage result }
+    ensures indexed { IsBroken result.reply ⊎ ((before : List ARecord) → AreInOrder before
+        → ArePackagesOf before packages.old
+        → AreSameBut («package» ∷ []) before database.now.records
+        → ArePackagesOf database.now.records packages.new) }
+{
+    match renew_one(alloc, packages, database, &package) {
+        Ok(()) => answered(alloc, database, package, failed, calls),
+        Err(_) => broken(alloc, calls, Breakage::NoMemory),
+    }
+}
+
+// The unit of a package whose triggers are to be processed.
 fn process_named<H: Host>(
     host: &mut H,
     administration: &mut Administration,
+    packages: &mut Packages,
     diversions: &Diversions,
     package: Text,
 ) -> Unit
     requires order { Needs (H.state host.old)
         (IsInOrder administration.old.database administration.old.lists.lists) }
     requires open { IsOpen diversions.now.ways administration.old }
+    requires indexed { ArePackagesOf administration.old.database.records packages.old }
     requires pending { IsPending administration.old.database.records «package» }
     ensures unit { IsBroken result.reply ⊎ IsProcessing «package»
         (held_by administration.old diversions.now) (held_by administration.new diversions.now)
         result (H.state host.old) (H.state host.new) }
     ensures open { IsBroken result.reply ⊎ IsOpen diversions.now.ways administration.new }
+    ensures indexed { IsBroken result.reply
+        ⊎ ArePackagesOf administration.new.database.records packages.new }
     ensures answered { IsBroken result.reply ⊎ IsAnswered (H.state host.old) (H.state host.new) }
     ensures untouched { IsBroken result.reply → TellsNoPackage result }
     ensures told { HasCalledProcessing «package» (held_by administration.old diversions.now)
@@ -138,10 +172,18 @@ fn process_named<H: Host>(
     ensures counts { CountsReply (H.state host.old) (H.state host.new) result.reply }
     ensures not_closed { IsBrokenBy Closed result.reply → ⊥ }
 {
+    administration.database.law();
     let alloc = administration.alloc;
     let mut calls = Vec::new(alloc);
     match process_to_disk(host, administration, diversions, &package, &mut calls) {
-        Ok(failed) => answered(alloc, &administration.database, package, failed, calls),
+        Ok(failed) => finished(
+            alloc,
+            packages,
+            &administration.database,
+            package,
+            failed,
+            calls,
+        ),
         Err(fault) => broken(alloc, calls, breakage_of(fault)),
     }
 }
@@ -159,22 +201,26 @@ fn passed_over(alloc: Global, database: &NotedDatabase, package: Text) -> Unit
     answered(alloc, database, package, None, Vec::new(alloc))
 }
 
-// The unit of a name, by the package's record.
+// The unit of a name, by the records.
 fn unit_for<H: Host>(
     host: &mut H,
     administration: &mut Administration,
+    packages: &mut Packages,
     diversions: &Diversions,
     package: Text,
 ) -> Unit
     requires order { Needs (H.state host.old)
         (IsInOrder administration.old.database administration.old.lists.lists) }
     requires open { IsOpen diversions.now.ways administration.old }
+    requires indexed { ArePackagesOf administration.old.database.records packages.old }
     ensures unit { IsBroken result.reply ⊎ IsUnitOf «package»
         (held_by administration.old diversions.now) (held_by administration.new diversions.now)
         result (H.state host.old) (H.state host.new) }
     ensures order { IsBroken result.reply ⊎ Needs (H.state host.new)
         (IsInOrder administration.new.database administration.new.lists.lists) }
     ensures open { IsBroken result.reply ⊎ IsOpen diversions.now.ways administration.new }
+    ensures indexed { IsBroken result.reply
+        ⊎ ArePackagesOf administration.new.database.records packages.new }
     ensures answered { IsBroken result.reply ⊎ IsAnswered (H.state host.old) (H.state host.new) }
     ensures untouched { IsBroken result.reply → TellsNoPackage result }
     ensures told { HasCalledUnitOf «package» (held_by administration.old diversions.now)
@@ -184,16 +230,19 @@ fn unit_for<H: Host>(
     ensures counts { CountsReply (H.state host.old) (H.state host.new) result.reply }
     ensures not_closed { IsBrokenBy Closed result.reply → ⊥ }
 {
-    if is_pending_in(&administration.database, &package) {
-        return process_named(host, administration, diversions, package);
+    let alloc = administration.alloc;
+    match is_ready(alloc, &administration.database, packages, &package) {
+        Ok(true) => process_named(host, administration, packages, diversions, package),
+        Ok(false) => passed_over(alloc, &administration.database, package),
+        Err(_) => broken(alloc, Vec::new(alloc), Breakage::NoMemory),
     }
-    passed_over(administration.alloc, &administration.database, package)
 }
 
 /// The unit of a name, or the unit that was broken off, as it is where there is no room for it.
 pub(crate) fn process_one<H: Host>(
     host: &mut H,
     administration: &mut Administration,
+    packages: &mut Packages,
     diversions: &Diversions,
     package: Text,
     room: bool,
@@ -201,6 +250,7 @@ pub(crate) fn process_one<H: Host>(
     requires order { Needs (H.state host.old)
         (IsInOrder administration.old.database administration.old.lists.lists) }
     requires open { IsOpen diversions.now.ways administration.old }
+    requires indexed { ArePackagesOf administration.old.database.records packages.old }
     ensures ok { IfOk result (λ unit. IsUnitOf «package»
         (held_by administration.old diversions.now) (held_by administration.new diversions.now)
         unit (H.state host.old) (H.state host.new)) }
@@ -208,6 +258,7 @@ pub(crate) fn process_one<H: Host>(
     ensures order { OnOk result (Needs (H.state host.new)
         (IsInOrder administration.new.database administration.new.lists.lists)) }
     ensures open { OnOk result (IsOpen diversions.now.ways administration.new) }
+    ensures indexed { OnOk result (ArePackagesOf administration.new.database.records packages.new) }
     ensures answered { OnOk result (IsAnswered (H.state host.old) (H.state host.new)) }
     ensures broken_off { IfErr result (λ unit. IsBrokenOff «package»
         (held_by administration.old diversions.now) unit (H.state host.old) (H.state host.new)) }
@@ -224,7 +275,7 @@ pub(crate) fn process_one<H: Host>(
         let alloc = administration.alloc;
         return Err(broken(alloc, Vec::new(alloc), Breakage::NoMemory));
     }
-    let unit = unit_for(host, administration, diversions, package);
+    let unit = unit_for(host, administration, packages, diversions, package);
     if is_broken(&unit) {
         return Err(unit);
     }

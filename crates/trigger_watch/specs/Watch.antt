@@ -13,7 +13,6 @@ use Rattle.trigger_watch.specs.declared.watching.TriggerWatch.{TriggerWatch}
 abbrev pub installed : List Record → List (List ℕ)
 installed records = names_of (filter (λ r. is_installed r.state) records)
 
--- the interests of installed packages, and what each recorded package hits of them
+-- what each recorded package hits of the interests of the installed ones
 pub record IsWatch (w : World) (records : List Record) (lists : List PackageList) (by_files : Bool) (watch : TriggerWatch) : Type 0 where
-  pub interests : watch.interests.items ≡ interests_of w (installed records)
-  pub before : watch.before.items ≡ hits_of w lists by_files watch.interests.items (names_of records)
+  pub before : watch.before.items ≡ hits_of w lists by_files (interests_of w (installed records)) (names_of records)

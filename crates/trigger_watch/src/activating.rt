@@ -1,13 +1,16 @@
 // What a command activates.
 ghost use Rattle.std.specs.Prelude.{◌≡◌, ◌++◌, IfOk, OnOk};
 ghost use Rattle.host_core.specs.Looks.{Looks};
-ghost use Rattle.trigger_watch.specs.Activations.{activated, activations_by, activation, activations_of, has_hit, is_activated, is_hit_by, names_for, packages_of};
+ghost use Rattle.trigger_watch.specs.Activations.{activated, activations_by, activation, activations_of, is_activated, names_for, packages_of};
+ghost use Rattle.trigger_watch.specs.Touches.{touching_hits};
 
-use crate::hits::{Hits, read_hits};
+use crate::hits::Hits;
 use crate::names::{each_once, is_among, spaced};
-use crate::watching::TriggerWatch;
+use crate::touching::{Touch, read_touching_hits};
+use crate::watching::{TriggerWatch, read_installed};
 use file_lists::FileLists;
 use host_core::{Host, HostFault};
+use status_db::NotedDatabase;
 use status_records::TriggerNames;
 use std::alloc::{AllocError, Global};
 use texts::Text;
@@ -20,45 +23,28 @@ pub struct Activation {
     pub names: TriggerNames,
 }
 
-// Whether these are a touched package's hits, and this trigger among them.
-fn is_hit_by(touched: &[Text], name: &Text, hits: &Hits) -> bool
-    ensures { result ≡ is_hit_by touched.now name.now hits.now }
+// Whether one was hit since its package was last touched itself.
+fn is_activated(hits: &[Hits], interest: &Interest) -> bool
+    ensures { result ≡ is_activated hits.now interest.now }
 {
-    is_among(touched, &hits.package) && is_among(hits.names.as_slice(), name)
-}
-
-// Whether a touched package hit a trigger.
-fn has_hit(hits: &[Hits], touched: &[Text], name: &Text) -> bool
-    ensures { result ≡ has_hit hits.now touched.now name.now }
-{
-    hits.iter().any(|one| is_hit_by(touched, name, one))
-}
-
-fn is_activated(before: &[Hits], now: &[Hits], touched: &[Text], interest: &Interest) -> bool
-    ensures { result ≡ is_activated before.now now.now touched.now interest.now }
-{
-    !is_among(touched, &interest.package)
-        && (has_hit(before, touched, &interest.name) || has_hit(now, touched, &interest.name))
+    hits.iter()
+        .rev()
+        .take_while(|h| h.package.as_str() != interest.package.as_str())
+        .any(|h| is_among(h.names.as_slice(), &interest.name))
 }
 
 // The interests that are activated.
 fn activated(
     alloc: Global,
+    hits: &[Hits],
     interests: &[Interest],
-    before: &[Hits],
-    now: &[Hits],
-    touched: &[Text],
 ) -> Result<Vec<Interest>, AllocError>
-    ensures { IfOk result (λ found. found.items
-        ≡ activated before.now now.now touched.now interests.now) }
+    ensures { IfOk result (λ found. found.items ≡ activated hits.now interests.now) }
 {
     let mut found = Vec::new(alloc);
     for interest in interests {
-        if is_activated(before, now, touched, interest) {
-            found.push(Interest {
-                package: interest.package.copy()?,
-                name: interest.name.copy()?,
-            })?;
+        if is_activated(hits, interest) {
+            found.push(interest.copy()?)?;
         }
     }
     Ok(found)
@@ -110,8 +96,8 @@ fn add_activation(
     Ok(())
 }
 
-// Those of interests, package after package.
-fn activations_by(alloc: Global, interests: &[Interest]) -> Result<Vec<Activation>, AllocError>
+/// Those of interests, package after package.
+pub fn activations_by(alloc: Global, interests: &[Interest]) -> Result<Vec<Activation>, AllocError>
     ensures { IfOk result (λ found. found.items ≡ activations_by interests.now) }
 {
     let packages = packages_of(alloc, interests)?;
@@ -125,44 +111,70 @@ fn activations_by(alloc: Global, interests: &[Interest]) -> Result<Vec<Activatio
 // The same of the interests that are activated.
 fn activations_between(
     alloc: Global,
-    watch: &TriggerWatch,
-    now: &[Hits],
-    touched: &[Text],
+    hits: &[Hits],
+    interests: &[Interest],
 ) -> Result<Vec<Activation>, AllocError>
-    ensures { IfOk result (λ found. found.items ≡ activations_by
-        (activated watch.now.before.items now.now touched.now watch.now.interests.items)) }
+    ensures { IfOk result (λ found. found.items
+        ≡ activations_by (activated hits.now interests.now)) }
 {
-    let interests = activated(
-        alloc,
-        watch.interests.as_slice(),
-        watch.before.as_slice(),
-        now,
-        touched,
-    )?;
+    let interests = activated(alloc, hits, interests)?;
     activations_by(alloc, interests.as_slice())
 }
 
-/// What is activated by packages that were touched since a watch was taken: of each other package
-/// that is interested, the triggers that they hit then or hit now. No script is called.
-pub fn activations<H: Host>(
+// What is activated of these interests.
+fn activations_among<H: Host>(
     alloc: Global,
     host: &mut H,
     lists: &FileLists,
     by_files: bool,
     watch: &TriggerWatch,
-    touched: &[Text],
+    interests: &[Interest],
+    touches: &[Touch],
 ) -> Result<Vec<Activation>, HostFault>
-    ensures looks { Looks result (λ found w. found.items
-        ≡ activations_of w lists.now.lists by_files watch.now touched.now) (H.state host.old)
-        (H.state host.new) }
+    ensures looks { Looks result
+        (λ found w. found.items ≡ activations_by (activated
+        (touching_hits w lists.now.lists by_files watch.now.before.items interests.now touches.now)
+        interests.now)) (H.state host.old) (H.state host.new) }
 {
-    let now = read_hits(
+    let hits = read_touching_hits(
         alloc,
         host,
         lists,
         by_files,
-        watch.interests.as_slice(),
-        touched,
+        watch.before.as_slice(),
+        interests,
+        touches,
     )?;
-    Ok(activations_between(alloc, watch, now.as_slice(), touched)?)
+    Ok(activations_between(alloc, hits.as_slice(), interests)?)
+}
+
+/// What was activated by units since a watch was taken, of the packages that are installed now: the
+/// triggers that a package hit, then or now, which a unit touched behind the last one that touched
+/// the interested package itself. No script is called.
+pub fn activations<H: Host>(
+    alloc: Global,
+    host: &mut H,
+    database: &NotedDatabase,
+    lists: &FileLists,
+    by_files: bool,
+    watch: &TriggerWatch,
+    touches: &[Touch],
+) -> Result<Vec<Activation>, HostFault>
+    ensures looks { Looks result
+        (λ found w. found.items ≡ activations_of w database.now.records lists.now.lists by_files
+        watch.now touches.now) (H.state host.old) (H.state host.new) }
+{
+    let interests = read_installed(alloc, host, database.records())?;
+    match activations_among(
+        alloc,
+        host,
+        lists,
+        by_files,
+        watch,
+        interests.as_slice(),
+        touches,
+    ) {
+        Ok(found) => Ok(found),
+        Err(fault) => Err(fault),
+    }
 }

@@ -19,8 +19,12 @@ pub struct Hits {
     pub names: Texts,
 }
 
-// The paths of a package that count.
-fn counted_paths<'a>(lists: &'a FileLists, by_files: bool, package: &Text) -> &'a [RootPath]
+/// The paths of a package that count.
+pub(crate) fn counted_paths<'a>(
+    lists: &'a FileLists,
+    by_files: bool,
+    package: &Text,
+) -> &'a [RootPath]
     ensures { result.now ≡ counted_paths lists.now.lists by_files «package».now }
 {
     if by_files {
@@ -29,8 +33,8 @@ fn counted_paths<'a>(lists: &'a FileLists, by_files: bool, package: &Text) -> &'
     &[]
 }
 
-// The names that paths hit, or that are activated beside them.
-fn names_hit(
+/// The names that paths hit, or that are activated beside them.
+pub(crate) fn names_hit(
     alloc: Global,
     interests: &[Interest],
     paths: &[RootPath],

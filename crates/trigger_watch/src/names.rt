@@ -12,7 +12,7 @@ pub(crate) fn is_among(names: &[Text], name: &Text) -> bool
 }
 
 /// Each name once: a second mention is dropped.
-pub(crate) fn each_once(alloc: Global, names: Vec<Text>) -> Result<Vec<Text>, AllocError>
+pub fn each_once(alloc: Global, names: Vec<Text>) -> Result<Vec<Text>, AllocError>
     ensures { IfOk result (λ list. list.items ≡ each_once names.items) }
 {
     let mut list: Vec<Text> = Vec::new(alloc);

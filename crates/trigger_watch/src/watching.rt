@@ -15,10 +15,9 @@ use std::alloc::{AllocError, Global};
 use texts::Text;
 use trigger_interests::{Interest, read_interests};
 
-/// What packages were interested in before a command, and what each recorded package hit of it.
+/// What each recorded package hit before a command, of what installed packages were interested in.
 #[derive(Drop)]
 pub struct TriggerWatch {
-    pub interests: Vec<Interest>,
     pub before: Vec<Hits>,
 }
 
@@ -44,8 +43,8 @@ fn names_of(alloc: Global, records: &[Record]) -> Result<Vec<Text>, AllocError>
     Ok(names)
 }
 
-// The interests of all installed packages.
-fn read_installed<H: Host>(
+/// The interests of all installed packages.
+pub(crate) fn read_installed<H: Host>(
     alloc: Global,
     host: &mut H,
     records: &[Record],
@@ -74,8 +73,7 @@ fn read_recorded<H: Host>(
     read_hits(alloc, host, lists, by_files, interests, names.as_slice())
 }
 
-/// The interests of all installed packages, and what each recorded package hits of them. No script
-/// is called.
+/// What each recorded package hits of the interests of all installed packages. No script is called.
 pub fn watch<H: Host>(
     alloc: Global,
     host: &mut H,
@@ -95,7 +93,7 @@ pub fn watch<H: Host>(
         by_files,
         interests.as_slice(),
     ) {
-        Ok(before) => Ok(TriggerWatch { interests, before }),
+        Ok(before) => Ok(TriggerWatch { before }),
         Err(fault) => Err(fault),
     }
 }

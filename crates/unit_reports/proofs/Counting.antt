@@ -9,9 +9,9 @@ use Rattle.undo_rows.specs.declared.failure.Failure.TheVariants.{OfCall, OfFiles
 use Rattle.undo_rows.specs.declared.fall.StepFault.{StepFault}
 use Rattle.undo_rows.specs.declared.fall.StepFault.TheVariants as step
 use Rattle.unit_reports.specs.Units.{CountsCause, CountsLast, CountsReply, CountsStepFault, IsBroken, IsBrokenBy, breakage_of}
-use Rattle.unit_reports.specs.declared.report.Breakage.TheVariants.{Device, NoMemory, Declined, Closed}
+use Rattle.unit_reports.specs.declared.report.Breakage.TheVariants.{Device, NoMemory, Declined, Damaged, Closed}
 use Rattle.unit_reports.specs.declared.report.Reply.{Reply}
-use Rattle.unit_reports.specs.declared.report.Reply.TheVariants.{Done, Refused, Failed, Broken}
+use Rattle.unit_reports.specs.declared.report.Reply.TheVariants.{Done, Refused, Failed, Looped, Broken}
 use Rattle.unit_reports.specs.declared.report.Unit.{Unit as AUnit}
 
 pub no_fault_here : (s : State) → NoFault s s
@@ -49,9 +49,11 @@ pub counts_from : (reply : Reply) (a b c : State) → NoFault a b → CountsRepl
 counts_from Done a b c same counts = no_fault_then a b c same counts
 counts_from (Refused refusal) a b c same counts = no_fault_then a b c same counts
 counts_from (Failed failure) a b c same counts = cause_from failure.cause a b c same counts
+counts_from (Looped cycle) a b c same counts = no_fault_then a b c same counts
 counts_from (Broken Device) a b c same counts = failed_from a b c same counts
 counts_from (Broken NoMemory) a b c same counts = no_fault_then a b c same counts
 counts_from (Broken Declined) a b c same counts = declined_then a b c same counts
+counts_from (Broken Damaged) a b c same counts = no_fault_then a b c same counts
 counts_from (Broken Closed) a b c same counts = no_fault_then a b c same counts
 
 pub last_from : (last : Option AUnit) (a b c : State) → NoFault a b → CountsLast b c last → CountsLast a c last
@@ -77,6 +79,7 @@ counts_whole (Broken breakage) a b whole counts = absurd (whole tt)
 counts_whole Done a b whole counts = counts
 counts_whole (Refused refusal) a b whole counts = counts
 counts_whole (Failed failure) a b whole counts = cause_whole failure.cause a b counts
+counts_whole (Looped cycle) a b whole counts = counts
 
 -- one that was, by a fault of the host
 

@@ -14,9 +14,9 @@ use Rattle.undo_rows.specs.declared.rows.Called.{Called}
 use Rattle.unit_reports.specs.Held.{Held}
 use Rattle.unit_reports.specs.declared.refusal.Rule.{Rule}
 use Rattle.unit_reports.specs.declared.report.Breakage.{Breakage}
-use Rattle.unit_reports.specs.declared.report.Breakage.TheVariants.{Device, NoMemory, Declined, Closed}
+use Rattle.unit_reports.specs.declared.report.Breakage.TheVariants.{Device, NoMemory, Declined, Damaged, Closed}
 use Rattle.unit_reports.specs.declared.report.Reply.{Reply}
-use Rattle.unit_reports.specs.declared.report.Reply.TheVariants.{Done, Refused, Failed, Broken}
+use Rattle.unit_reports.specs.declared.report.Reply.TheVariants.{Done, Refused, Failed, Looped, Broken}
 use Rattle.unit_reports.specs.declared.report.Report.{Report}
 use Rattle.unit_reports.specs.declared.report.Touched.{Touched}
 use Rattle.unit_reports.specs.declared.report.Unit.{Unit as AUnit}
@@ -49,6 +49,7 @@ IsBroken (Broken breakage) = Unit {0}
 IsBroken Done = ⊥
 IsBroken (Refused refusal) = ⊥
 IsBroken (Failed failure) = ⊥
+IsBroken (Looped cycle) = ⊥
 
 abbrev pub IsBrokenBy : Breakage → Reply → Type 0
 IsBrokenBy breakage reply = reply ≡ Broken breakage
@@ -77,10 +78,12 @@ abbrev pub CountsReply : State → State → Reply → Type 0
 CountsReply old new (Broken Device) = HasFailed old new
 CountsReply old new (Broken NoMemory) = NoFault old new
 CountsReply old new (Broken Declined) = HasDeclined old new
+CountsReply old new (Broken Damaged) = NoFault old new
 CountsReply old new (Broken Closed) = NoFault old new
 CountsReply old new Done = NoFault old new
 CountsReply old new (Refused refusal) = NoFault old new
 CountsReply old new (Failed failure) = CountsCause old new failure.cause
+CountsReply old new (Looped cycle) = NoFault old new
 
 -- the same of the units of a command, of which the last may be broken off
 abbrev pub CountsLast : State → State → Option AUnit → Type 0

@@ -7,7 +7,7 @@ mod units;
 mod watching;
 
 pub use refusal::{Refusal, Rule};
-pub use report::{Breakage, Failure, Reply, Report, Touched, Unit};
+pub use report::{Breakage, Cycle, Failure, Reply, Report, Touched, Unit};
 pub use units::{
     breakage_of, broken, is_broken, record_of, refresh, refused, touched_at, touched_of,
 };

@@ -19,13 +19,21 @@ pub struct Failure {
     pub cause: Cause,
 }
 
+/// A package whose triggers were abandoned, since processing them leads to this trigger of it again and again.
+#[derive(Drop)]
+pub struct Cycle {
+    pub package: Text,
+    pub trigger: Text,
+}
+
 /// Why a unit was broken off: a device fault, want of memory, a step that was declined where it
-/// can't be undone, or a session that is closed since one of these.
+/// can't be undone, a table of diversions that can't be read, or a session that is closed since one of these.
 #[derive(Clone, Copy)]
 pub enum Breakage {
     Device,
     NoMemory,
     Declined,
+    Damaged,
     Closed,
 }
 
@@ -34,6 +42,7 @@ pub enum Reply {
     Done,
     Refused(Refusal),
     Failed(Failure),
+    Looped(Cycle),
     Broken(Breakage),
 }
 

@@ -86,6 +86,7 @@ pub fn is_broken(unit: &Unit) -> bool
         Reply::Done => false,
         Reply::Refused(_) => false,
         Reply::Failed(_) => false,
+        Reply::Looped(_) => false,
     }
 }
 

@@ -1,13 +1,11 @@
 -- What is in `info` as a unit leaves it: each entry is as before, nothing, or a file at a name that no opening refuses.
-use Rattle.std.proofs.Common.{◌≡◌, ◌≢◌, ◌&&◌, ◌||◌, ◌⊎◌, inl, inr, IsTrue, ℕ, nat_le, length, zero, suc, Bool, true, false, not, List, [], ◌∷◌, ◌++◌, Option, Some, None, Contains, codes, drop, nat_eq, refl, sym, ap, subst, ◌∙◌, arith}
+use Rattle.std.proofs.Common.{◌≡◌, ◌≢◌, ◌⊎◌, inl, inr, IsTrue, ℕ, nat_le, length, zero, suc, Bool, true, false, List, ◌∷◌, ◌++◌, Option, Some, None, Contains, codes, drop, refl, sym, ap, subst, ◌∙◌, arith}
 use Rattle.std.specs.Prelude.{IsSome}
-use Rattle.std.specs.List.{ends_with, list_all, list_any}
 use Rattle.std.specs.Str.{IsUtf8, bytes_eq}
-use Rattle.std.proofs.lemmas.Bool.{and_parts, eqb-true, true≢false}
-use Rattle.std.proofs.lemmas.List.Folds.{list_any-append}
+use Rattle.std.proofs.lemmas.Bool.{true≢false}
 use Rattle.std.proofs.lemmas.Slice.Eq.{bytes_eq-Decides}
 use Rattle.std.proofs.lemmas.Str.{IsUtf8-append, IsUtf8-from_ascii}
-use Rattle.texts.specs.PackageNames.{is_name_sign, is_package_name}
+use Rattle.texts.specs.PackageNames.{is_package_name}
 use Rattle.texts.proofs.PackageNames.{signs_ascii, signs_of_name}
 use Rattle.host_core.specs.Paths.{Path, is_path}
 use Rattle.host_core.specs.Tree.{IsOdd, has_slash}
@@ -22,14 +20,14 @@ use Rattle.administration.specs.Directories.{HasBadName}
 use Rattle.administration.specs.Places.{info_path, list_name, list_path, stored_name, temporary}
 use Rattle.administration.proofs.NamePaths.{list_is_path, list_spare_is_path}
 use Rattle.undo_rows.specs.Transcripts.{Ended, Committed, Unwound}
-use Rattle.control_members.specs.Names.{is_member_name, is_member_sign}
+use Rattle.control_members.specs.Names.{is_member_name}
 use Rattle.control_members.specs.Stored.{stored_member_path}
 use Rattle.control_members.specs.Members.{member_node, member_of, node_of}
 use Rattle.control_members.specs.declared.member.Member.{Member}
 use Rattle.control_members.proofs.Apart.{no_list, no_temporary, same_stored}
 use Rattle.control_members.proofs.Lookup.{member_file}
-use Rattle.control_members.proofs.MemberNames.{script_is_member, signs_of, stored_is_path, stored_name_plain, stored_spare_is_path, stored_utf8}
-use Rattle.file_lists.specs.Info.{AreLoose, AreSound, IsLink, entry_path, is_foreign}
+use Rattle.control_members.proofs.MemberNames.{script_is_member, stored_is_path, stored_name_plain, stored_spare_is_path, stored_utf8}
+use Rattle.file_lists.specs.Info.{AreLoose, AreSound, IsLink, entry_path}
 use Rattle.file_lists.specs.Lists.{HasLists, IsReadable}
 use Rattle.file_lists.specs.Taking.{IsNoList}
 use Rattle.file_lists.specs.declared.paths.PackageList.{PackageList}
@@ -58,38 +56,19 @@ use Rattle.undo_rows.specs.Place.{Place}
 use Rattle.unpack_engine.proofs.Frames.{come_same}
 use Rattle.unpack_engine.proofs.Losing.{loser_named}
 
--- a name that no opening refuses: text that makes a path, without a colon
+-- a name that no opening refuses: text that makes a path
 record IsTame (entry : Path) : Type 0 where
   text : IsUtf8 entry
   fits : is_path (entry_path entry) ≡ true
-  colonless : list_any (λ b. nat_eq b 58) entry ≡ false
 
--- one that it may refuse
-abbrev IsStrange : Path → Type 0
-IsStrange entry = IsOdd info_path entry ⊎ (is_foreign entry ≡ true)
+tame_or_odd : (entry : Path) → IsTame entry → IsOdd info_path entry → ⊥
+tame_or_odd entry tame (inl no_text) = no_text tame.text
+tame_or_odd entry tame (inr no_path) = true≢false (sym tame.fits ∙ no_path)
 
-tame_or_strange : (entry : Path) → IsTame entry → IsStrange entry → ⊥
-tame_or_strange entry tame (inl (inl no_text)) = no_text tame.text
-tame_or_strange entry tame (inl (inr no_path)) = true≢false (sym tame.fits ∙ no_path)
-tame_or_strange entry tame (inr foreign) = true≢false (sym foreign ∙ ap (λ b. b && not (ends_with nat_eq entry (codes ".dpkg-inst"))) tame.colonless)
-
-strange_apart : (entry other : Path) → IsStrange entry → IsTame other → entry_path entry ≢ entry_path other
-strange_apart entry other strange tame e = let same : entry ≡ other = ap (λ (l : Path). drop 19 l) e in tame_or_strange other tame (subst IsStrange same strange)
+odd_apart : (entry other : Path) → IsOdd info_path entry → IsTame other → entry_path entry ≢ entry_path other
+odd_apart entry other odd tame e = let same : entry ≡ other = ap (λ (l : Path). drop 19 l) e in tame_or_odd other tame (subst (IsOdd info_path) same odd)
 
 -- the names of lists and control files, and their temporary names, are tame
-
-no_sign : (P : ℕ → Bool) (s b : ℕ) (t : Bool) → P s ≡ false → nat_eq b s ≡ t → P b ≡ true → t ≡ false
-no_sign P s b true none e sign = absurd (true≢false (sym sign ∙ ap P (eqb-true b s e) ∙ none))
-no_sign P s b false none e sign = refl
-
-without : (P : ℕ → Bool) (s : ℕ) → P s ≡ false → (name : Path) → list_all P name ≡ true → list_any (λ b. nat_eq b s) name ≡ false
-without P s none [] e = refl
-without P s none (b ∷ bs) e =
-    let parts = and_parts (P b) (list_all P bs) e in
-    ap (λ t. t || list_any (λ b. nat_eq b s) bs) (no_sign P s b (nat_eq b s) none refl parts.0) ∙ without P s none bs parts.1
-
-colonless-append : (a b : Path) → list_any (λ x. nat_eq x 58) a ≡ false → list_any (λ x. nat_eq x 58) b ≡ false → list_any (λ x. nat_eq x 58) (a ++ b) ≡ false
-colonless-append a b first second = list_any-append (λ x. nat_eq x 58) a b ∙ ap (λ t. t || list_any (λ x. nat_eq x 58) b) first ∙ second
 
 suffix_text : IsUtf8 (codes ".dpkg-inst")
 suffix_text = IsUtf8-from_ascii (codes ".dpkg-inst") (signs_ascii (codes ".dpkg-inst") refl)
@@ -98,35 +77,28 @@ module _ (name : Path) (named : is_package_name name ≡ true) where
   name_text : IsUtf8 name
   name_text = IsUtf8-from_ascii name (signs_ascii name (signs_of_name name named))
 
-  name_colonless : list_any (λ b. nat_eq b 58) name ≡ false
-  name_colonless = without is_name_sign 58 refl name (signs_of_name name named)
-
   list_tame : IsTame (list_name name)
   list_tame = record {
     text = IsUtf8-append name (codes ".list") name_text (IsUtf8-from_ascii (codes ".list") (signs_ascii (codes ".list") refl));
     fits = list_is_path name named;
-    colonless = colonless-append name (codes ".list") name_colonless refl;
   }
 
   list_spare_tame : IsTame (list_name name ++ codes ".dpkg-inst")
   list_spare_tame = record {
     text = IsUtf8-append (list_name name) (codes ".dpkg-inst") list_tame.text suffix_text;
     fits = list_spare_is_path name named;
-    colonless = colonless-append (list_name name) (codes ".dpkg-inst") list_tame.colonless refl;
   }
 
   member_tame : (member : Path) → is_member_name member ≡ true → IsTame (name ++ 46 ∷ member)
   member_tame member is = record {
     text = stored_utf8 name member named is;
     fits = stored_is_path name member named is;
-    colonless = colonless-append name (46 ∷ member) name_colonless (without is_member_sign 58 refl member (signs_of member is));
   }
 
   member_spare_tame : (member : Path) → is_member_name member ≡ true → IsTame ((name ++ 46 ∷ member) ++ codes ".dpkg-inst")
   member_spare_tame member is = record {
     text = IsUtf8-append (name ++ 46 ∷ member) (codes ".dpkg-inst") (member_tame member is).text suffix_text;
     fits = stored_spare_is_path name member named is;
-    colonless = colonless-append (name ++ 46 ∷ member) (codes ".dpkg-inst") (member_tame member is).colonless refl;
   }
 
 -- an entry that is no list of these packages and no control file of the first, nor a temporary name of one
@@ -139,14 +111,14 @@ each_named own losers first rest q (zero, lt, e) = subst (λ (x : List ℕ). is_
 each_named own losers first rest q (suc k, lt, e) = rest q (k, omega (arith, lt), e)
 
 -- so is one that an opening may refuse
-strange_aside : (own : List ℕ) (losers : List (List ℕ)) (entry : Path) → is_package_name own ≡ true → ((q : List ℕ) → Contains losers q → is_package_name q ≡ true) → IsStrange entry → IsAside own losers entry
-strange_aside own losers entry named all strange = record {
+odd_aside : (own : List ℕ) (losers : List (List ℕ)) (entry : Path) → is_package_name own ≡ true → ((q : List ℕ) → Contains losers q → is_package_name q ≡ true) → IsOdd info_path entry → IsAside own losers entry
+odd_aside own losers entry named all odd = record {
   lists = λ name has.
       let is = each_named own losers named all name has in
-      (strange_apart entry (list_name name) strange (list_tame name is), strange_apart entry (list_name name ++ codes ".dpkg-inst") strange (list_spare_tame name is));
+      (odd_apart entry (list_name name) odd (list_tame name is), odd_apart entry (list_name name ++ codes ".dpkg-inst") odd (list_spare_tame name is));
   members = λ member is. (
-    strange_apart entry (own ++ 46 ∷ member) strange (member_tame own named member is),
-    strange_apart entry ((own ++ 46 ∷ member) ++ codes ".dpkg-inst") strange (member_spare_tame own named member is),
+    odd_apart entry (own ++ 46 ∷ member) odd (member_tame own named member is),
+    odd_apart entry ((own ++ 46 ∷ member) ++ codes ".dpkg-inst") odd (member_spare_tame own named member is),
   );
 }
 
@@ -223,7 +195,7 @@ module _ (g : Ground) (p : Planned) (named : is_package_name (package_name g p) 
 
   -- each name in it is text still
   pub text_left : (HasBadName old info_path → ⊥) → HasBadName new info_path → ⊥
-  text_left text bad = text (bad.0, bad.1, bad.2, subst IsSome (aside_same bad.0 (strange_aside own c.losers bad.0 named losers_named (inl bad.2))) bad.3)
+  text_left text bad = text (bad.0, bad.1, bad.2, subst IsSome (aside_same bad.0 (odd_aside own c.losers bad.0 named losers_named bad.2)) bad.3)
 
   -- no link takes the place of a script of the package
 
@@ -258,11 +230,6 @@ module _ (g : Ground) (p : Planned) (named : is_package_name (package_name g p) 
   module _ (before after : List (List ℕ)) (found : (r : Record) → p.found ≡ Some r → Contains before own) (known : (q : List ℕ) → Contains after q → Contains before q ⊎ (q ≡ own))
       (gone : Contains after own → p.found ≡ None → is_gone p.found (length p.others) place ≡ true)
       (sound : AreSound old before) (loose : AreLoose new) (lists : List PackageList) (listed : HasLists new after lists) where
-    colon_left : (entry : Path) → has_slash entry ≡ false → IsSome (new (entry_path entry)) → (b : Bool) → is_foreign entry ≡ b → b ≡ false
-    colon_left entry whole some false e = refl
-    colon_left entry whole some true e =
-        absurd (true≢false (sym e ∙ (sound entry whole).colon (subst IsSome (aside_same entry (strange_aside own c.losers entry named losers_named (inr e))) some)))
-
     script_left : (entry : Path) → has_slash entry ≡ false → (script : Script) (q : List ℕ) → Contains after q → entry ≡ stored_name q script → IsLink (new (entry_path entry)) → (b : Bool) → bytes_eq q own ≡ b → ⊥
     script_left entry whole script q has is link true e =
         let same : q ≡ own = (bytes_eq-Decides q own).0 e in
@@ -278,7 +245,6 @@ module _ (g : Ground) (p : Planned) (named : is_package_name (package_name g p) 
 
     pub sound_left : AreSound new after
     sound_left entry whole = record {
-      colon = λ some. colon_left entry whole some (is_foreign entry) refl;
       loose = loose entry whole;
       list = λ of. subst (λ (x : Path). IsReadable (new (entry_path x))) (sym of.2) (listed.readable of.0 of.1);
       script = λ of link. script_left entry whole of.0 of.1 of.2 of.3 link (bytes_eq of.1 own) refl;

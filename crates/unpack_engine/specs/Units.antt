@@ -71,7 +71,7 @@ given «package» records lists ways = given_beside «package» records lists wa
 -- with the scripts of the old version that are stored
 abbrev pub job_of : Given → Present → Job
 job_of g stored =
-    record { «package» = g.«package»; records = g.records; lists = g.lists; ways = g.ways; stored = stored; others = g.others }
+    record { «package» = g.«package»; records = g.records; lists = g.lists; ways = g.ways; stored = stored; others = g.others; yields = g.yields }
 
 -- which scripts are stored with a package, by its record: without one none is looked for
 abbrev pub IsSeen : Option Record → List ℕ → World → Present → Type 0

@@ -50,7 +50,7 @@ use Rattle.unpack_steps.proofs.Standing.{record_below}
 use Rattle.unpack_engine.specs.Units.{Given, Ground, HasCarriedOut, HasLeft, HasUnpacked, changes, commit_records, ground_of, job_of, last_place, package_name, task_from}
 use Rattle.unpack_engine.proofs.Apart.{tmp_beside}
 use Rattle.unpack_laws.specs.Done.{IsClear, IsClearBeside, LeavesNoOldFile}
-use Rattle.unpack_laws.specs.InHand.{unit_found, unit_listed, unit_name, unit_works}
+use Rattle.unpack_laws.specs.InHand.{unit_found, unit_listed, unit_name, unit_works, unit_yielding}
 use Rattle.unpack_laws.proofs.Clear.{clear_at, clear_none, cleared_clear, name_clear}
 use Rattle.unpack_laws.proofs.Marks.{each_at}
 use Rattle.unpack_laws.proofs.MarksLeaving.{wrote_then}
@@ -190,7 +190,7 @@ module _ (g : Given) (stored : Present) (p : Planned) (plan : IsPlanned (job_of 
   pub no_old_file : (works : List Work) (lists : List PackageList) (after : List Record) (last followed : World) → HasCommitted (changes here p works lists) g.ways lists after last followed → LeavesNoOldFile g followed
   no_old_file works lists after last followed has = record {
     fresh = p.fresh;
-    is_fresh = subst (λ f. IsFresh g.«package» f p.fresh) plan.records_are.found_is plan.records_are.fresh_is;
+    is_fresh = subst (λ f. IsFresh (unit_yielding g) g.«package» f p.fresh) plan.records_are.found_is plan.records_are.fresh_is;
     paths = p.new_list;
     are = plan.lists_are.new_is;
     none = λ path there plain goes.

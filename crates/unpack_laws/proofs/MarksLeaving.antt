@@ -60,7 +60,7 @@ use Rattle.unpack_engine.specs.Units.{Given, Ground, IsAmidUnit, IsRunning, IsSt
 use Rattle.unpack_engine.proofs.Begun.{dropped_same, may_drop_same}
 use Rattle.unpack_engine.proofs.Dropping.{laying_records}
 use Rattle.unpack_engine.proofs.Losing.{loser_other}
-use Rattle.unpack_laws.specs.InHand.{unit_found, unit_listed, unit_name}
+use Rattle.unpack_laws.specs.InHand.{unit_found, unit_listed, unit_name, unit_yielding}
 use Rattle.unpack_laws.specs.Marked.{IsAccounted, IsListedSo, IsMarkedAmid, IsRestored}
 use Rattle.unpack_laws.specs.Whole.{IsWorkBack}
 use Rattle.unpack_laws.proofs.Alone.{Based, based_amid, beginning_beside, calls_since}
@@ -337,7 +337,7 @@ module _ (g : Given) (stored : Present) (p : Planned) (plan : IsPlanned (job_of 
           table = held;
           records = records;
           fresh = p.fresh;
-          is_fresh = subst (λ f. IsFresh g.«package» f p.fresh) plan.records_are.found_is plan.records_are.fresh_is;
+          is_fresh = subst (λ f. IsFresh (unit_yielding g) g.«package» f p.fresh) plan.records_are.found_is plan.records_are.fresh_is;
           own = ap (record_in held) (sym plan.records_are.own) ∙ is;
           paths = p.new_list;
           are = plan.lists_are.new_is;

@@ -32,7 +32,7 @@ use Rattle.unpack_engine.specs.Others.{AreOthers}
 use Rattle.unpack_engine.specs.Units.{Given, Ground, IsAmid, IsAmidUnit, ground_of, last_place, lists_after, package_name, stage_records, unit_losers}
 use Rattle.unpack_engine.proofs.Losing.{loser_other}
 use Rattle.unpack_engine.proofs.Ready.{kept_opens}
-use Rattle.unpack_laws.specs.InHand.{KeepsPlaces, unit_found, unit_name}
+use Rattle.unpack_laws.specs.InHand.{KeepsPlaces, unit_found, unit_name, unit_yielding}
 use Rattle.unpack_laws.specs.NextOpening.{HasRecordsAmid, IsBesideRows, IsOtherRecord, IsOwnRecord, MayLoseConffiles}
 use Rattle.unpack_laws.proofs.NotedRecords.{AreGoodRows, IsGoodNote, record_amid}
 use Rattle.unpack_laws.proofs.Passing.{keeps_or_loses, loses_places}
@@ -95,7 +95,7 @@ module _ (g : Given) (others : AreOthers (unit_name g) g.records g.others) (plac
     own_amid : IsOwnRecord g (record_in table (unit_name g))
     own_amid = record_amid Own Own (unit_name g) here amid.plan apart (λ o is. is)
         (λ works begun moved has. absurd (no_own_loser works (lists_after here amid.plan Committed begun) has))
-        (λ same. IsOwnRecord.committed amid.plan.fresh (subst (λ f. IsFresh g.«package» f amid.plan.fresh) found_is amid.plan_for.planned.records_are.fresh_is) refl)
+        (λ same. IsOwnRecord.committed amid.plan.fresh (subst (λ f. IsFresh (unit_yielding g) g.«package» f amid.plan.fresh) found_is amid.plan_for.planned.records_are.fresh_is) refl)
         own_rows (IsOwnRecord.stayed refl) old so_far now amid.under_way.stage
 
     -- another package's

@@ -52,7 +52,7 @@ use Rattle.unpack_laws.proofs.Alone.{Based, based_amid}
 use Rattle.unpack_engine.specs.Units.{Given, Ground, HasDropped, HasFollowed, IsAmidUnit, IsRunning, IsStage, MayDrop, MayFollow, MayLeave, MayLeaveBy, changes, commit_records, ground_of, job_of, last_place, package_name, table_after, task_from, unit_losers}
 use Rattle.unpack_engine.proofs.Frames.{put_list}
 use Rattle.unpack_engine.proofs.Losing.{loser_other}
-use Rattle.unpack_laws.specs.InHand.{unit_found, unit_listed, unit_name}
+use Rattle.unpack_laws.specs.InHand.{unit_found, unit_listed, unit_name, unit_yielding}
 use Rattle.unpack_laws.specs.Whole.{IsOwnList}
 use Rattle.unpack_laws.proofs.NotedRecords.{AreGoodRows, IsGoodNote, record_at}
 
@@ -84,7 +84,7 @@ module _ (g : Given) (stored : Present) (p : Planned) (plan : IsPlanned (job_of 
   restores before now is = IsOwnList.restored (is ∙ ap (λ (l : List Path). Some (list_file l)) listed_is)
 
   renews : (before : Option Node) (now : Option Node) → now ≡ Some (list_file p.new_list) → IsOwnList g before now
-  renews before now is = IsOwnList.renewed p.fresh p.new_list (subst (λ f. IsFresh g.«package» f p.fresh) found_is plan.records_are.fresh_is) plan.lists_are.new_is is
+  renews before now is = IsOwnList.renewed p.fresh p.new_list (subst (λ f. IsFresh (unit_yielding g) g.«package» f p.fresh) found_is plan.records_are.fresh_is) plan.lists_are.new_is is
 
   module _ (begun : State) where
     abbrev task : Task

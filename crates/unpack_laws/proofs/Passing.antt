@@ -44,7 +44,7 @@ use Rattle.unpack_steps.proofs.Standing.{record_below}
 use Rattle.unpack_engine.specs.Others.{is_other_package, yields_beside}
 use Rattle.unpack_engine.specs.Units.{Given, Ground, ground_of, job_of, package_name, task_from, unit_losers}
 use Rattle.unpack_engine.proofs.Losing.{among_kept, kept_passes}
-use Rattle.unpack_laws.specs.InHand.{IsNoCut, IsNoLeaving, IsPassedBy, KeepsPlaces, LosesPlaces, file_places, unit_file_places, unit_found, unit_listed, unit_name, unit_works, unit_yields}
+use Rattle.unpack_laws.specs.InHand.{IsNoCut, IsNoLeaving, IsPassedBy, KeepsPlaces, LosesPlaces, file_places, unit_file_places, unit_found, unit_listed, unit_name, unit_works, unit_yielding, unit_yields}
 use Rattle.unpack_laws.proofs.Alone.{IsAlone}
 
 -- what is outside the administration's directory
@@ -201,8 +201,8 @@ module _ (g : Given) (stored : Present) (p : Planned) (plan : IsPlanned (job_of 
       ∙ ap (λ f. old_leaving g.ways g.lists (unit_name g) f p.new_list p.listed) plan.records_are.found_is
       ∙ ap (λ (l : List Path). old_leaving g.ways g.lists (unit_name g) (unit_found g) p.new_list l) plan.lists_are.listed_is
 
-  fresh_told : IsFresh g.«package» (unit_found g) p.fresh
-  fresh_told = subst (λ f. IsFresh g.«package» f p.fresh) plan.records_are.found_is plan.records_are.fresh_is
+  fresh_told : IsFresh (unit_yielding g) g.«package» (unit_found g) p.fresh
+  fresh_told = subst (λ f. IsFresh (unit_yielding g) g.«package» f p.fresh) plan.records_are.found_is plan.records_are.fresh_is
 
   pub no_leaving : (q : Path) → IsNoLeaving g q → is_leaving_place p.leaving q ≡ false
   no_leaving q stays = ap (λ xs. is_leaving_place xs q) leaving_told ∙ stays p.fresh p.new_list fresh_told plan.lists_are.new_is

@@ -12,7 +12,7 @@ use Rattle.status_records.specs.declared.record.Record.{Record}
 use Rattle.unpack_engine.specs.Units.{Given}
 use Rattle.unpack_plan.specs.Lists.{IsAfter, entry_paths}
 use Rattle.unpack_plan.specs.Records.{IsFresh, entries_of}
-use Rattle.unpack_laws.specs.InHand.{unit_found, unit_listed, unit_name}
+use Rattle.unpack_laws.specs.InHand.{unit_found, unit_listed, unit_name, unit_yielding}
 
 -- neither a file nor a link stands there
 abbrev pub IsClear : Option Node → Type 0
@@ -27,7 +27,7 @@ pub record IsClearBeside (w : World) (x : Work) : Type 0 where
 -- found, or its place is the root, in the administration, or one that the new list or another package's has
 pub record LeavesNoOldFile (g : Given) (w : World) : Type 0 where
   pub fresh : Record
-  pub is_fresh : IsFresh g.«package» (unit_found g) fresh
+  pub is_fresh : IsFresh (unit_yielding g) g.«package» (unit_found g) fresh
   pub paths : List Path
   pub are : IsAfter g.«package».files fresh paths
   pub none : (path : Path) → Contains (unit_listed g) path → list_any (bytes_eq path) (entry_paths (entries_of (unit_found g))) ≡ false

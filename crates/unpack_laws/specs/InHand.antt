@@ -18,6 +18,7 @@ use Rattle.unpack_plan.specs.Lists.{IsAfter, old_leaving}
 use Rattle.unpack_plan.specs.Names.{cut_names, known_conffiles, left_names}
 use Rattle.unpack_plan.specs.Planned.{pairs_of}
 use Rattle.unpack_plan.specs.Records.{IsFresh}
+use Rattle.unpack_plan.specs.Yielded.{Yielding, yielding}
 use Rattle.unpack_steps.specs.FileMoves.{places_of}
 
 -- the places of the files and links among these works
@@ -48,6 +49,10 @@ module _ (g : Given) where
   abbrev pub unit_yields : List (List ℕ)
   unit_yields = yields_of g.records ++ g.yields
 
+  -- what may yield conffiles to it (Policy 10.7.4)
+  abbrev pub unit_yielding : Yielding
+  unit_yielding = yielding g.ways unit_name g.yields g.records
+
   -- a package that keeps its places: it doesn't yield, or none of its paths has its place where a file or a link is shipped
   -- (Policy 7.6.1)
   abbrev pub KeepsPlaces : List ℕ → Type 0
@@ -61,12 +66,12 @@ module _ (g : Given) where
 
   -- it is no place of an old path that goes, whichever the new list is (Policy 6.6, step 6)
   abbrev pub IsNoLeaving : Path → Type 0
-  IsNoLeaving q = (fresh : Record) (paths : List Path) → IsFresh g.«package» unit_found fresh → IsAfter g.«package».files fresh paths
+  IsNoLeaving q = (fresh : Record) (paths : List Path) → IsFresh unit_yielding g.«package» unit_found fresh → IsAfter g.«package».files fresh paths
       → is_leaving_place (old_leaving g.ways g.lists unit_name unit_found paths unit_listed) q ≡ false
 
   -- nor, behind a unit that was cut, the name beside such a place at which a conffile waited that the cut unit shipped
   abbrev pub IsNoCut : Path → Type 0
-  IsNoCut q = (fresh : Record) (paths : List Path) → IsFresh g.«package» unit_found fresh → IsAfter g.«package».files fresh paths
+  IsNoCut q = (fresh : Record) (paths : List Path) → IsFresh unit_yielding g.«package» unit_found fresh → IsAfter g.«package».files fresh paths
       → is_among (cut_names unit_found (old_leaving g.ways g.lists unit_name unit_found paths unit_listed)) q ≡ false
 
   -- a path outside the administration's directory at which the unit does nothing: nothing is shipped there, and neither does an

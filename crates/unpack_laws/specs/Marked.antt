@@ -24,7 +24,7 @@ use Rattle.unpack_plan.specs.Records.{IsFresh, IsIncoming}
 use Rattle.unpack_rows.specs.Kinds.{own_of}
 use Rattle.unpack_rows.specs.Notes.{half_installed}
 use Rattle.unpack_laws.specs.Done.{IsClear}
-use Rattle.unpack_laws.specs.InHand.{unit_found, unit_listed, unit_name, unit_works}
+use Rattle.unpack_laws.specs.InHand.{unit_found, unit_listed, unit_name, unit_works, unit_yielding}
 use Rattle.unpack_laws.specs.Whole.{IsWorkBack}
 
 module _ (g : Given) where
@@ -66,7 +66,7 @@ module _ (g : Given) where
       pub table : List Record
       pub records : HasRecords now table
       pub fresh : Record
-      pub is_fresh : IsFresh g.«package» (unit_found g) fresh
+      pub is_fresh : IsFresh (unit_yielding g) g.«package» (unit_found g) fresh
       pub own : record_in table (unit_name g) ≡ Some fresh
       pub paths : List Path
       pub are : IsAfter g.«package».files fresh paths

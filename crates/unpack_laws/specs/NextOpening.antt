@@ -11,7 +11,7 @@ use Rattle.unpack_plan.specs.Records.{IsFresh, IsIncoming}
 use Rattle.unpack_rows.specs.ForwardRows.{records_of}
 use Rattle.unpack_rows.specs.Kinds.{own_of}
 use Rattle.unpack_rows.specs.Notes.{half_configured, half_installed, unpacked}
-use Rattle.unpack_laws.specs.InHand.{KeepsPlaces, LosesPlaces, unit_found, unit_name}
+use Rattle.unpack_laws.specs.InHand.{KeepsPlaces, LosesPlaces, unit_found, unit_name, unit_yielding}
 
 module _ (g : Given) where
   -- the record of the package that is unpacked: that of before, or the tree's where there was none, in a state that is noted
@@ -21,7 +21,7 @@ module _ (g : Given) where
     deconfigured : (incoming : Record) → IsIncoming g.«package» incoming → now ≡ Some (half_configured (own_of (unit_found g) incoming)) → IsOwnRecord now
     begun : (incoming : Record) → IsIncoming g.«package» incoming → now ≡ Some (half_installed (own_of (unit_found g) incoming)) → IsOwnRecord now
     put_back : (incoming : Record) → IsIncoming g.«package» incoming → now ≡ Some (unpacked (own_of (unit_found g) incoming)) → IsOwnRecord now
-    committed : (fresh : Record) → IsFresh g.«package» (unit_found g) fresh → now ≡ Some fresh → IsOwnRecord now
+    committed : (fresh : Record) → IsFresh (unit_yielding g) g.«package» (unit_found g) fresh → now ≡ Some fresh → IsOwnRecord now
 
   -- that of another package: the one of before; one that has a row may be half-configured
   pub data IsOtherRecord (q : List ℕ) (now : Option Record) : Type 0 where

@@ -15,7 +15,7 @@ use Rattle.unpack_engine.specs.Units.{Given}
 use Rattle.unpack_plan.specs.Lists.{IsAfter, IsUnion}
 use Rattle.unpack_plan.specs.Names.{known_conffiles, left_names}
 use Rattle.unpack_plan.specs.Records.{IsFresh}
-use Rattle.unpack_laws.specs.InHand.{IsNoCut, IsNoLeaving, unit_found, unit_listed, unit_name}
+use Rattle.unpack_laws.specs.InHand.{IsNoCut, IsNoLeaving, unit_found, unit_listed, unit_name, unit_yielding}
 
 -- What stands at a target where nothing is written or all is put back, and script calls changed so much since the world of before:
 -- what they made of what stood there; or, where a made directory had to stay, what they made of it since.
@@ -58,4 +58,4 @@ module _ (g : Given) where
     gone : unit_found g ≡ None → now ≡ None → IsOwnList before now
     restored : now ≡ Some (list_file (unit_listed g)) → IsOwnList before now
     joined : (union : List Path) → IsUnion (unit_listed g) (shipped_paths g.«package».files) union → now ≡ Some (list_file union) → IsOwnList before now
-    renewed : (fresh : Record) (paths : List Path) → IsFresh g.«package» (unit_found g) fresh → IsAfter g.«package».files fresh paths → now ≡ Some (list_file paths) → IsOwnList before now
+    renewed : (fresh : Record) (paths : List Path) → IsFresh (unit_yielding g) g.«package» (unit_found g) fresh → IsAfter g.«package».files fresh paths → now ≡ Some (list_file paths) → IsOwnList before now

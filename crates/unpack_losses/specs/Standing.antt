@@ -12,7 +12,7 @@ use Rattle.unpack_engine.specs.Units.{Given}
 use Rattle.unpack_plan.specs.Records.{IsFresh, IsIncoming}
 use Rattle.unpack_rows.specs.Kinds.{own_of}
 use Rattle.unpack_rows.specs.Notes.{half_installed}
-use Rattle.unpack_laws.specs.InHand.{unit_found, unit_name, unit_works}
+use Rattle.unpack_laws.specs.InHand.{unit_found, unit_name, unit_works, unit_yielding}
 
 module _ (g : Given) where
   -- The next opening finds the package neither marked as half-installed, to be installed again, nor unpacked by this unit: as it
@@ -21,7 +21,7 @@ module _ (g : Given) where
     pub table : List Record
     pub records : HasRecords left table
     pub unmarked : (incoming : Record) → IsIncoming g.«package» incoming → record_in table (unit_name g) ≢ Some (half_installed (own_of (unit_found g) incoming))
-    pub unnoted : (fresh : Record) → IsFresh g.«package» (unit_found g) fresh → record_in table (unit_name g) ≢ Some fresh
+    pub unnoted : (fresh : Record) → IsFresh (unit_yielding g) g.«package» (unit_found g) fresh → record_in table (unit_name g) ≢ Some fresh
 
   -- a path that is no name beside a place of the unit's, where what had stood is kept aside, and no directory that it makes, which
   -- may have to stay

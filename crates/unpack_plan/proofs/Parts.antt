@@ -12,16 +12,16 @@ use Rattle.unpack_rows.specs.Kinds.{kinds_of}
 use Rattle.unpack_plan.specs.Lists.{IsAfter, IsUnion, old_leaving}
 use Rattle.unpack_plan.specs.Members.{scripts_in}
 use Rattle.unpack_plan.specs.Names.{cleared_names}
-use Rattle.unpack_plan.specs.Planned.{name_of, ArePlannedLists, ArePlannedNames, ArePlannedRecords, ArePlannedRows, Job, Planned}
+use Rattle.unpack_plan.specs.Planned.{name_of, yielding_of, ArePlannedLists, ArePlannedNames, ArePlannedRecords, ArePlannedRows, Job, Planned}
 use Rattle.unpack_plan.specs.Records.{IsFresh, IsIncoming}
 use Rattle.unpack_plan.proofs.Own.{own_named}
 
 module _ (j : Job) (p : Planned) (found : Option Record) (same : p.found ≡ found) where
-  pub records_planned : is_package_name (name_of j) ≡ true → found ≡ record_in j.records (name_of j) → IsIncoming j.«package» p.incoming → IsFresh j.«package» found p.fresh → ArePlannedRecords j p
+  pub records_planned : is_package_name (name_of j) ≡ true → found ≡ record_in j.records (name_of j) → IsIncoming j.«package» p.incoming → IsFresh (yielding_of j) j.«package» found p.fresh → ArePlannedRecords j p
   records_planned named is incoming fresh = record {
     found_is = same ∙ is;
     incoming_is = incoming;
-    fresh_is = subst (λ (f : Option Record). IsFresh j.«package» f p.fresh) (sym same) fresh;
+    fresh_is = subst (λ (f : Option Record). IsFresh (yielding_of j) j.«package» f p.fresh) (sym same) fresh;
     named = named;
     own = own_named j.records (name_of j) p.found p.incoming (same ∙ is) incoming.name_is;
   }

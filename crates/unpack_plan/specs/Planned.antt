@@ -31,10 +31,12 @@ use Rattle.unpack_plan.specs.Lists.{IsAfter, IsUnion, old_leaving}
 use Rattle.unpack_plan.specs.Members.{AreMembersOf, scripts_in}
 use Rattle.unpack_plan.specs.Names.{cleared_names}
 use Rattle.unpack_plan.specs.Records.{IsFresh, IsIncoming}
+use Rattle.unpack_plan.specs.Yielded.{Yielding, yielding}
 use Rattle.unpack_plan.specs.declared.plan.Plan.{Plan}
 use Rattle.unpack_plan.specs.declared.plan.PlannedCommit.{PlannedCommit}
 
--- the tree, what the administration says, which scripts of the old version are stored, and the other packages that have rows
+-- the tree, what the administration says, which scripts of the old version are stored, the other packages that have rows, and the
+-- names of those that let this one take paths of theirs
 pub record Job : Type 0 where
   pub «package» : Package
   pub records : List Record
@@ -42,6 +44,7 @@ pub record Job : Type 0 where
   pub ways : Ways
   pub stored : Present
   pub others : List OtherPackage
+  pub yields : List (List ℕ)
 
 pub record Planned : Type 0 where
   -- the record that the package has, the one that is noted where it has none, and that of the unpacked package
@@ -93,11 +96,15 @@ pairs_of files = map (λ f. (f.path, f.node)) files
 abbrev pub name_of : Job → List ℕ
 name_of j = j.«package».name
 
+-- what may yield conffiles to it
+abbrev pub yielding_of : Job → Yielding
+yielding_of j = yielding j.ways (name_of j) j.yields j.records
+
 -- the records of the package (Policy 6.6)
 pub record ArePlannedRecords (j : Job) (p : Planned) : Type 0 where
   pub found_is : p.found ≡ record_in j.records (name_of j)
   pub incoming_is : IsIncoming j.«package» p.incoming
-  pub fresh_is : IsFresh j.«package» p.found p.fresh
+  pub fresh_is : IsFresh (yielding_of j) j.«package» p.found p.fresh
   pub named : is_package_name (name_of j) ≡ true
   pub own : (own_of p.found p.incoming).name ≡ name_of j
 

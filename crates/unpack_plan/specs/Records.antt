@@ -12,6 +12,7 @@ use Rattle.status_records.specs.declared.entries.ConffileEntry.{ConffileEntry}
 use Rattle.status_records.specs.declared.entries.PendingDigest.{PendingDigest}
 use Rattle.status_records.specs.declared.record.Record.{Record}
 use Rattle.unpack_plan.specs.Digests.{shipped_digests, told_digest}
+use Rattle.unpack_plan.specs.Yielded.{Yielding, counted_entries}
 
 -- the conffiles that the record found has; none where the package has no record
 abbrev pub entries_of : Option Record → List ConffileEntry
@@ -32,7 +33,7 @@ abbrev pub IsIncoming : Package → Record → Type 0
 IsIncoming p r = IsUnpackedOf p.name p.version p.control None [] [] r
 
 -- The record of the unpacked package. The shipped digests aren't settled yet; the entries are those of before and of the shipped
--- conffiles (Policy 10.7.3).
-pub record IsFresh (p : Package) (found : Option Record) (r : Record) : Type 0 where
+-- conffiles (Policy 10.7.3), where of those that other packages yield their digests count as recorded (Policy 10.7.4).
+pub record IsFresh (y : Yielding) (p : Package) (found : Option Record) (r : Record) : Type 0 where
   pub pending : map told_digest r.pending ≡ shipped_digests p.conffiles p.files
-  pub is : IsUnpackedOf p.name p.version p.control found (committed_entries (entries_of found) r.pending p.flagged (is_shipped p.files)) r.pending r
+  pub is : IsUnpackedOf p.name p.version p.control found (committed_entries (counted_entries y (entries_of found) r.pending) r.pending p.flagged (is_shipped p.files)) r.pending r

@@ -4,12 +4,15 @@ ghost use Rattle.std.specs.Option.{option_copied};
 ghost use Rattle.unpack_commit.specs.Takeover.{yields_of};
 ghost use Rattle.unpack_plan.specs.Members.{scripts_in};
 ghost use Rattle.unpack_plan.specs.Records.{IsFresh, IsIncoming};
+ghost use Rattle.unpack_plan.specs.Yielded.{yielding};
 ghost use Rattle.unpack_rows.specs.ForwardRows.{others_rows, records_of, rows_of};
 ghost use Rattle.unpack_rows.specs.Kinds.{kinds_of};
 
 use crate::others::{Others, all_yields};
 use crate::records::{OwnRecords, own_records};
 use crate::rows::{OwnRows, own_rows};
+use crate::yielded::Yielding;
+use diversions::Diversions;
 use package_tree::Package;
 use status_db::NotedDatabase;
 use status_records::Record;
@@ -30,6 +33,7 @@ pub(crate) fn own_calls(
     alloc: Global,
     tree: &Package,
     database: &NotedDatabase,
+    diversions: &Diversions,
     found: Option<&Record>,
     stored: Present,
     others: Others,
@@ -37,7 +41,9 @@ pub(crate) fn own_calls(
     ensures found { IfOk result (λ c. c.records.found ≡ option_copied found.entry) }
     ensures incoming { IfOk result (λ c. IsIncoming tree.now c.records.incoming) }
     ensures fresh { IfOk result (λ c.
-        IsFresh tree.now (option_copied found.entry) c.records.fresh) }
+        IsFresh
+        (yielding diversions.now.ways tree.now.name others.yields database.now.records)
+        tree.now (option_copied found.entry) c.records.fresh) }
     ensures rows { IfOk result (λ c. c.rows.rows.items
         ≡ rows_of (option_copied found.entry) c.records.incoming stored
         (scripts_in tree.now.scripts) (others_rows others.packages.items)) }
@@ -49,13 +55,19 @@ pub(crate) fn own_calls(
 {
     let Others { packages, yields } = others;
     let beside = yields.as_slice();
-    let yields = all_yields(alloc, database, beside)?;
-    let records = own_records(alloc, tree, found)?;
+    let all = all_yields(alloc, database, beside)?;
+    let giving = Yielding {
+        diversions,
+        incoming: &tree.name,
+        names: beside,
+        records: database.records(),
+    };
+    let records = own_records(alloc, tree, found, &giving)?;
     let incoming = &records.incoming;
     let rows = own_rows(alloc, found, incoming, stored, &tree.scripts, packages)?;
     Ok(OwnCalls {
         records,
         rows,
-        yields,
+        yields: all,
     })
 }

@@ -7,7 +7,9 @@
 //! `plan_of`, what an unpack is going to do, each part by its definition over the tree, records,
 //! lists and diversions (`IsPlanned`): rows, works, the three lists, old paths that go, names that
 //! are cleared, control files, and the record of the unpacked package; and the packages with which
-//! no path clashes: those of which only conffiles are left, and those that are given (`yields`).
+//! no path clashes: those of which only conffiles are left, and those that are given (`yields`). Where one of these records a
+//! digest of a conffile's place, and the package has no entry of it, that digest counts as recorded
+//! (Policy 10.7.4, `IsFresh`).
 #![tactic(auto)]
 
 mod calls;
@@ -24,6 +26,7 @@ mod records;
 mod rows;
 mod texts_of;
 mod works;
+mod yielded;
 
 pub use others::Others;
 pub use plan::{Plan, PlannedCommit, plan_of};

@@ -114,13 +114,16 @@ pub fn plan_of(
           ways = diversions.now.ways;
           stored = stored;
           others = others.packages.items;
+          yields = others.yields;
         })
         (planned p)) }
     ensures yields { IfOk result (λ p. p.rows.yields
         ≡ yields_of database.now.records ++ others.yields) }
 {
     let found = database.get(&incoming.name);
-    let calls = own_calls(alloc, &incoming, database, found, stored, others)?;
+    let calls = own_calls(
+        alloc, &incoming, database, diversions, found, stored, others,
+    )?;
     let fresh = &calls.records.fresh;
     let files = own_files(alloc, lists, diversions, incoming, found, fresh)?;
     Ok(plan_from(calls, files))

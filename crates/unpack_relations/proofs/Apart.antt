@@ -1,12 +1,11 @@
 -- The names that an unpack deconfigures or removes are apart.
-use Rattle.std.proofs.Common.{◌≡◌, ℕ, ◌<◌, Bool, true, List, [], ◌∷◌, ◌++◌, length, get_or, map, is_some, refl, sym, ap, subst, ◌∙◌, arith}
+use Rattle.std.proofs.Common.{◌≡◌, ℕ, ◌<◌, Bool, true, false, List, [], ◌∷◌, ◌++◌, length, get_or, map, is_some, refl, sym, ap, subst, ◌∙◌, arith}
 use Rattle.std.specs.List.{All, Contains}
 use Rattle.std.specs.Str.{bytes_eq}
 use Rattle.std.proofs.lemmas.Bool.{false≢true, not-true}
 use Rattle.std.proofs.lemmas.List.{get_or-map, length-map, map-append}
 use Rattle.std.proofs.lemmas.List.Elements.{Contains-get_or}
 use Rattle.std.proofs.lemmas.Slice.Eq.{bytes_eq-Decides}
-use Rattle.dependency_check.specs.Deconfigured.{IsPlan}
 use Rattle.dependency_check.specs.declared.plan.Plan.{Plan}
 use Rattle.recorded_packages.specs.Packages.{ArePackagesOf}
 use Rattle.relation_index.specs.Packages.{AreInNameOrder}
@@ -14,11 +13,11 @@ use Rattle.relation_index.specs.declared.package.Package.{Package}
 use Rattle.status_records.specs.Records.{record_in}
 use Rattle.status_records.specs.declared.record.Record.{Record}
 use Rattle.unpack_relations.specs.Beside.{IsBeside, name_at}
-use Rattle.unpack_relations.specs.Checks.{names_beside, AreApart, AreBesideApart, AreDistinct, IsCheckedBy}
+use Rattle.unpack_relations.specs.Checks.{names_beside, AreApart, AreBesideApart, AreDistinct, IsCheckedBy, IsPlannedWhere}
 use Rattle.unpack_relations.specs.declared.beside.Beside.{Beside}
 use Rattle.unpack_relations.specs.declared.checking.Checked.{Checked}
 use Rattle.unpack_relations.specs.declared.checking.Checked.TheVariants.{Refused, Planned}
-use Rattle.unpack_relations.proofs.Members.{behind, numbers_beside, plan_other, plan_unlike, AreUnlike, IsOtherAt}
+use Rattle.unpack_relations.proofs.Members.{behind, numbers_beside, plan_other, plan_unlike, with_all, with_none, AreUnlike, IsOtherAt, IsSomePlan}
 use Rattle.unpack_relations.proofs.Named.{is_recorded, named_apart}
 use Rattle.unpack_relations.proofs.Numbered.{name_here, named_dependents}
 
@@ -43,7 +42,7 @@ other_named packages incoming x other same =
     let equal : p.name ≡ incoming.name = sym (name_here packages x p other.1 other.2) ∙ same in
     false≢true (sym (not-true (bytes_eq p.name incoming.name) other.3) ∙ (bytes_eq-Decides p.name incoming.name).1 equal)
 
-module _ (records : List Record) (packages : List Package) (incoming : Package) (plan : Plan) (b : Beside) (are : ArePackagesOf records packages) (is : IsPlan packages incoming plan)
+module _ (records : List Record) (packages : List Package) (incoming : Package) (plan : Plan) (b : Beside) (are : ArePackagesOf records packages) (is : IsSomePlan packages incoming plan)
     (named : IsBeside packages incoming plan b) where
   names_numbered : names_beside b ≡ map (name_at packages) (numbers_beside plan)
   names_numbered =
@@ -72,7 +71,11 @@ module _ (records : List Record) (packages : List Package) (incoming : Package) 
         );
   }
 
-pub checked_apart : (records : List Record) (packages : List Package) (incoming : Package) (auto_deconfigure : Bool) (checked : Checked) → AreInNameOrder packages → ArePackagesOf records packages
-    → IsCheckedBy packages incoming auto_deconfigure checked → AreBesideApart incoming.name records checked
-checked_apart records packages incoming auto_deconfigure (Refused rule) order are by = tt
-checked_apart records packages incoming auto_deconfigure (Planned b) order are by = beside_apart records packages incoming by.0 b are by.1.2 by.2 order
+plan_where : (ignore : Bool) (packages : List Package) (incoming : Package) (auto_deconfigure : Bool) (plan : Plan) → IsPlannedWhere ignore packages incoming auto_deconfigure plan → IsSomePlan packages incoming plan
+plan_where false packages incoming auto_deconfigure plan is = with_all packages incoming plan is.2
+plan_where true packages incoming auto_deconfigure plan is = with_none packages incoming auto_deconfigure plan is
+
+pub checked_apart : (records : List Record) (packages : List Package) (incoming : Package) (ignore auto_deconfigure : Bool) (checked : Checked) → AreInNameOrder packages → ArePackagesOf records packages
+    → IsCheckedBy ignore packages incoming auto_deconfigure checked → AreBesideApart incoming.name records checked
+checked_apart records packages incoming ignore auto_deconfigure (Refused rule) order are by = tt
+checked_apart records packages incoming ignore auto_deconfigure (Planned b) order are by = beside_apart records packages incoming by.0 b are (plan_where ignore packages incoming auto_deconfigure by.0 by.1) by.2 order

@@ -2,3 +2,4 @@ pub mod Numbered
 pub mod Members
 pub mod Named
 pub mod Apart
+pub mod Unheeded

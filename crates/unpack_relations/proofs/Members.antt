@@ -1,5 +1,5 @@
 -- The numbers of a plan are packages', and no number stands twice.
-use Rattle.std.proofs.Common.{◌≡◌, ℕ, ◌<◌, true, false, ◌&&◌, ◌||◌, not, suc, List, [], ◌∷◌, ◌++◌, length, get_or, map, refl, sym, ◌∙◌, ⊎_elim, arith}
+use Rattle.std.proofs.Common.{◌≡◌, ℕ, ◌<◌, Bool, true, false, ◌&&◌, ◌||◌, not, suc, List, [], ◌∷◌, ◌++◌, length, get_or, map, refl, sym, subst, ◌∙◌, ⊎_elim, arith}
 use Rattle.std.specs.Prelude.{IsTrue}
 use Rattle.std.specs.List.{All, AllPairs, Contains}
 use Rattle.std.proofs.lemmas.Bool.{and_parts, false≢true, not-true}
@@ -15,10 +15,11 @@ use Rattle.dependency_check.proofs.MeetingLaws.{those_at, those_is}
 use Rattle.relation_index.specs.Packages.{is_installed, is_present}
 use Rattle.relation_index.specs.declared.package.Package.{Package}
 use Rattle.unpack_relations.specs.Beside.{IsNumbered}
+use Rattle.unpack_relations.specs.Checks.{IsPlannedIgnoring}
 
 -- within the packages
 
-role_within : (role : Role) (packages : List Package) (incoming : Package) (x : ℕ) → IsTrue (of_role role incoming packages x) → x < length packages
+pub role_within : (role : Role) (packages : List Package) (incoming : Package) (x : ℕ) → IsTrue (of_role role incoming packages x) → x < length packages
 role_within role packages incoming x t = (those_is (plays role incoming) packages x t).1
 
 pub role_listed : (role : Role) (packages : List Package) (incoming : Package) (list : List ℕ) → IsListing (λ x. IsTrue (of_role role incoming packages x)) list → All (λ x. x < length packages) list
@@ -103,15 +104,41 @@ unlike_append (x ∷ xs) ys one other apart = (
 abbrev pub numbers_beside : Plan → List ℕ
 numbers_beside plan = plan.broken ++ (map (λ d. d.number) plan.dependents.items ++ plan.conflicting)
 
-module _ (packages : List Package) (incoming : Package) (plan : Plan) (is : IsPlan packages incoming plan) where
+-- a plan of which dependents may be left out
+pub record IsSomePlan (packages : List Package) (incoming : Package) (plan : Plan) : Type 0 where
+  pub broken : IsListing (λ x. IsTrue (of_role Broken incoming packages x)) plan.broken
+  pub increasing : AllPairs (λ a b. a < b) (map (λ d. d.number) plan.dependents.items)
+  pub dependents : (x : ℕ) → Contains (map (λ d. d.number) plan.dependents.items) x → IsDependent packages incoming x
+  pub conflicting : IsListing (λ x. IsTrue (of_role Conflicting incoming packages x)) plan.conflicting
+
+pub with_all : (packages : List Package) (incoming : Package) (plan : Plan) → IsPlan packages incoming plan → IsSomePlan packages incoming plan
+with_all packages incoming plan is = record {
+  broken = is.broken;
+  increasing = is.dependents.0.0;
+  dependents = λ x inside. (is.dependents.0.1 x).0 inside;
+  conflicting = is.conflicting;
+}
+
+pub with_none : (packages : List Package) (incoming : Package) (auto_deconfigure : Bool) (plan : Plan) → IsPlannedIgnoring packages incoming auto_deconfigure plan → IsSomePlan packages incoming plan
+with_none packages incoming auto_deconfigure plan is = record {
+  broken = is.broken;
+  increasing = subst (λ (ds : List Numbered). AllPairs (λ a b. a < b) (map (λ d. d.number) ds)) (sym is.dependents) (λ i j d lt within. absurd (omega (arith, within)));
+  dependents = λ x inside. absurd (nothing_inside x (subst (λ (ds : List Numbered). Contains (map (λ d. d.number) ds) x) is.dependents inside));
+  conflicting = is.conflicting;
+}
+  where
+    nothing_inside : (x : ℕ) → Contains (map (λ (d : Numbered). d.number) []) x → ⊥
+    nothing_inside x c = omega (arith, c.1)
+
+module _ (packages : List Package) (incoming : Package) (plan : Plan) (is : IsSomePlan packages incoming plan) where
   pub plan_unlike : AreUnlike (numbers_beside plan)
   plan_unlike =
       let numbers : List ℕ = map (λ d. d.number) plan.dependents.items in
       unlike_append plan.broken (numbers ++ plan.conflicting) (increasing_unlike plan.broken is.broken.0)
-      (unlike_append numbers plan.conflicting (increasing_unlike numbers is.dependents.0.0) (increasing_unlike plan.conflicting is.conflicting.0)
-      (λ x d c. dependent_conflicting packages incoming x ((is.dependents.0.1 x).0 d) ((is.conflicting.1 x).0 c)))
+      (unlike_append numbers plan.conflicting (increasing_unlike numbers is.increasing) (increasing_unlike plan.conflicting is.conflicting.0)
+      (λ x d c. dependent_conflicting packages incoming x (is.dependents x d) ((is.conflicting.1 x).0 c)))
       (λ x b rest. ⊎_elim
-      (λ (d : Contains numbers x). dependent_broken packages incoming x ((is.dependents.0.1 x).0 d) ((is.broken.1 x).0 b))
+      (λ (d : Contains numbers x). dependent_broken packages incoming x (is.dependents x d) ((is.broken.1 x).0 b))
       (λ (c : Contains plan.conflicting x). broken_conflicting packages incoming x ((is.broken.1 x).0 b) ((is.conflicting.1 x).0 c))
       (Contains-append_cases numbers plan.conflicting x rest))
 
@@ -121,7 +148,7 @@ module _ (packages : List Package) (incoming : Package) (plan : Plan) (is : IsPl
       ⊎_elim
       (λ (b : Contains plan.broken x). broken_other packages incoming x ((is.broken.1 x).0 b))
       (λ (rest : Contains (numbers ++ plan.conflicting) x). ⊎_elim
-      (λ (d : Contains numbers x). dependent_other packages incoming x ((is.dependents.0.1 x).0 d))
+      (λ (d : Contains numbers x). dependent_other packages incoming x (is.dependents x d))
       (λ (c : Contains plan.conflicting x). conflicting_other packages incoming x ((is.conflicting.1 x).0 c))
       (Contains-append_cases numbers plan.conflicting x rest))
       (Contains-append_cases plan.broken (numbers ++ plan.conflicting) x inside)

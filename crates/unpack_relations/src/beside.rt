@@ -1,7 +1,7 @@
 // What an unpack does to other packages, by their names.
-ghost use Rattle.std.specs.Prelude.{IfOk};
-ghost use Rattle.dependency_check.specs.Deconfigured.{IsPlan};
-ghost use Rattle.unpack_relations.specs.Beside.{IsBeside};
+ghost use Rattle.std.specs.Prelude.{◌<◌, IfOk, length};
+ghost use Rattle.unpack_relations.specs.Beside.{IsBeside, IsNumbered};
+ghost use Rattle.std.specs.List.{All};
 
 use crate::names::{dependents_at, names_at};
 use crate::replaced::replaced_names;
@@ -36,7 +36,9 @@ pub(crate) fn beside_of(
     incoming: &Package,
     plan: &Plan,
 ) -> Result<Beside, AllocError>
-    requires { IsPlan packages.now incoming.now plan.now }
+    requires broken { All (λ x. x < length packages.now) plan.now.broken }
+    requires dependents { All (IsNumbered packages.now) plan.now.dependents.items }
+    requires conflicting { All (λ x. x < length packages.now) plan.now.conflicting }
     ensures { IfOk result (IsBeside packages.now incoming.now plan.now) }
 {
     Ok(Beside {

@@ -1,11 +1,13 @@
 // Whether a tree can be unpacked beside the recorded packages.
-ghost use Rattle.std.specs.Prelude.{◌≡◌, IfOk, List, option_copied};
+ghost use Rattle.std.specs.Prelude.{◌≡◌, false, IfOk, List, option_copied};
 ghost use Rattle.recorded_packages.specs.Packages.{ArePackagesOf};
 ghost use Rattle.status_records.specs.declared.record.Record.{Record as ARecord};
 ghost use Rattle.unpack_relations.specs.Checks.{AreBesideApart, IsChecked, IsCheckedBy, other_architecture};
 
 use crate::beside::{Beside, beside_of};
+use crate::ignoring::{checked_ignoring, without_pre_depends};
 use crate::incoming::incoming_package;
+use crate::options::UnpackOptions;
 use crate::refusal::rule_of;
 use dependency_check::{CheckFault, check_unpack};
 use package_tree::Package;
@@ -23,13 +25,14 @@ pub enum Checked {
     Planned(Beside),
 }
 
-fn checked_by(
+// Where Depends and Pre-Depends are heeded.
+fn checked_heeding(
     alloc: Global,
     packages: &Packages,
     incoming: &relation_index::Package,
     auto_deconfigure: bool,
 ) -> Result<Checked, AllocError>
-    ensures checked { IfOk result (IsCheckedBy packages.now incoming.now auto_deconfigure) }
+    ensures checked { IfOk result (IsCheckedBy false packages.now incoming.now auto_deconfigure) }
     ensures apart { IfOk result (λ checked. (records : List ARecord)
         → ArePackagesOf records packages.now → AreBesideApart incoming.now.name records checked) }
 {
@@ -41,6 +44,27 @@ fn checked_by(
         }
         Err(CheckFault::NoMemory) => Err(AllocError),
     }
+}
+
+// Where they are heeded or ignored.
+fn checked_where(
+    alloc: Global,
+    packages: &Packages,
+    incoming: relation_index::Package,
+    options: UnpackOptions,
+) -> Result<Checked, AllocError>
+    ensures checked { IfOk result (IsCheckedBy options.ignore_depends packages.now incoming
+        options.auto_deconfigure) }
+    ensures apart { IfOk result (λ checked. (records : List ARecord)
+        → ArePackagesOf records packages.now → AreBesideApart incoming.name records checked) }
+{
+    if options.ignore_depends {
+        let package = without_pre_depends(alloc, incoming)?;
+        let ignoring = checked_ignoring(alloc, packages, &package, options.auto_deconfigure)?;
+        return Ok(ignoring);
+    }
+    let heeding = checked_heeding(alloc, packages, &incoming, options.auto_deconfigure)?;
+    Ok(heeding)
 }
 
 // The architecture of a package, where it is another one than that of the root.
@@ -60,10 +84,10 @@ pub fn check(
     alloc: Global,
     packages: &Packages,
     incoming: &Package,
-    auto_deconfigure: bool,
+    options: UnpackOptions,
 ) -> Result<Checked, AllocError>
     ensures checked { IfOk result (λ checked. (records : List ARecord)
-        → ArePackagesOf records packages.now → IsChecked records incoming.now auto_deconfigure
+        → ArePackagesOf records packages.now → IsChecked records incoming.now options
         checked) }
     ensures apart { IfOk result (λ checked. (records : List ARecord)
         → ArePackagesOf records packages.now → AreBesideApart incoming.now.name records checked) }
@@ -74,6 +98,6 @@ pub fn check(
         return Ok(Checked::Refused(Rule::Architecture(other)));
     }
     let package = incoming_package(alloc, root, incoming)?;
-    let checked = checked_by(alloc, packages, &package, auto_deconfigure)?;
+    let checked = checked_where(alloc, packages, package, options)?;
     Ok(checked)
 }

@@ -15,10 +15,13 @@
 
 mod beside;
 mod checking;
+mod ignoring;
 mod incoming;
 mod names;
+mod options;
 mod refusal;
 mod replaced;
 
 pub use beside::{Beside, Dependent};
 pub use checking::{Checked, check};
+pub use options::UnpackOptions;

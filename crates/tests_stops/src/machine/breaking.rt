@@ -11,6 +11,7 @@ mod conflict_rows;
 mod deconfigured_rows;
 mod disappearing_rows;
 mod diversion_rows;
+mod dpkg_rows;
 mod file_rows;
 mod first_rows;
 mod merged_rows;
@@ -48,13 +49,15 @@ struct Row {
     again: Again,
 }
 
-// How the device fails: behind so many steps, for good or once, or behind so many reads. Or the step behind so many is declined.
+// How the device fails: behind so many steps, for good or once, or behind so many reads. Or the step behind so many is declined. Or
+// two second names are, for each of which a copy stands in that takes three steps, and the device fails for good behind so many.
 #[derive(Clone, Copy, Debug)]
 enum Break {
     Stop(usize, Effect),
     Fault(usize, Effect),
     Read(usize),
     Decline(usize),
+    Copy(usize, Effect),
 }
 
 // What a loss of power leaves: so many of the steps on names since the last barrier, and this byte in unsynced files.
@@ -116,6 +119,11 @@ fn plan(host: &mut MemoryHost, how: Break) -> Result<(), AllocError> {
         Break::Fault(before, effect) => host.fail_step(before, effect),
         Break::Read(before) => host.fail_read(before),
         Break::Decline(before) => host.decline_step(before)?,
+        Break::Copy(before, effect) => {
+            host.decline_step(0)?;
+            host.decline_step(3)?;
+            host.stop_step(before, effect);
+        }
     }
     Ok(())
 }
@@ -162,10 +170,21 @@ fn is_behind(name: &str, path: &str) -> bool {
 // What tells behind the units that a step was declined while their notes were merged.
 const LEFT_NOTES: &str = "|notes left: /var/lib/dpkg/updates: declined\n|2\n";
 
-// Whether something stands in where this second name is declined: a backup's, or that of a node that a diversion moves.
+// Whether something stands in where this second name is declined: a backup's, that of a node that a diversion moves, or that of a
+// control file whose name has an architecture.
 fn is_second_name(answer: &str, name: &str) -> bool {
     name.ends_with(".dpkg-tmp")
         || (answer == "done\n||0\n" && ["/usr/bin/v", "/usr/bin/v.real"].contains(&name))
+        || (is_opened(answer) && is_short_name(name))
+}
+
+// Whether a row that begins with such control files answers so where it isn't broken off.
+fn is_opened(answer: &str) -> bool {
+    answer == OPENED || dpkg_rows::ANSWERS.contains(&answer)
+}
+
+fn is_short_name(name: &str) -> bool {
+    name == "/var/lib/dpkg/info/alpha.list" || name == "/var/lib/dpkg/info/alpha.postrm"
 }
 
 // Whether an answer tells that a step at this name was declined: the unit failed for the path, or it or the merging of notes
@@ -409,7 +428,9 @@ impl Machine {
         self.plan(how)?;
         let answer = self.answer(line)?;
         let ran = self.ran(answer.as_str());
-        self.judge_denial(answer.as_str(), text)?;
+        if !matches!(how, Break::Copy(..)) {
+            self.judge_denial(answer.as_str(), text)?;
+        }
         self.recover(loss)?;
         if ran.ended {
             self.judge_notes(text)?;
@@ -466,23 +487,22 @@ fn check_stops(rt: &(impl Abort + AllocGlobal), row: &Row, before: usize) -> Res
     Ok(ran.met)
 }
 
-// A loss behind so many steps that keeps so many names.
+// A loss behind such a stop that keeps so many names.
 fn check_loss(
     rt: &(impl Abort + AllocGlobal),
     row: &Row,
-    before: usize,
+    how: Break,
     keep: usize,
 ) -> Result<Ran, Fail> {
-    let how = Break::Stop(before, Effect::Whole);
     check(rt, row, how, Some(Loss { keep, fill: 0 }))?;
     check(rt, row, how, Some(Loss { keep, fill: 255 }))
 }
 
-// Each loss behind so many steps.
-fn check_losses(rt: &(impl Abort + AllocGlobal), row: &Row, before: usize) -> Result<bool, Fail> {
-    let ran = check_loss(rt, row, before, 0)?;
+// Each loss behind such a stop.
+fn check_losses(rt: &(impl Abort + AllocGlobal), row: &Row, how: Break) -> Result<bool, Fail> {
+    let ran = check_loss(rt, row, how, 0)?;
     for keep in 0..ran.names {
-        check_loss(rt, row, before, keep.saturating_add(1))?;
+        check_loss(rt, row, how, keep.saturating_add(1))?;
     }
     Ok(ran.met)
 }
@@ -512,6 +532,19 @@ fn check_read(rt: &(impl Abort + AllocGlobal), row: &Row, before: usize) -> Resu
     Ok(check(rt, row, Break::Read(before), None)?.met)
 }
 
+// Stops and losses behind so many steps of a command of which two second names are declined.
+fn check_copies(rt: &(impl Abort + AllocGlobal), row: &Row, before: usize) -> Result<(), Fail> {
+    check(rt, row, Break::Copy(before, Effect::None), None)?;
+    let ran = check(rt, row, Break::Copy(before, Effect::Whole), None)?;
+    if ran.wrote {
+        for effect in FRONTS {
+            check(rt, row, Break::Copy(before, *effect), None)?;
+        }
+    }
+    check_losses(rt, row, Break::Copy(before, Effect::Whole))?;
+    Ok(())
+}
+
 // Each step of the row's command is declined in turn, until one is met no more: how often a unit failed for one of its files.
 fn decline_each_step(rt: &(impl Abort + AllocGlobal), row: &Row) -> Result<usize, Fail> {
     let mut failed: usize = 0;
@@ -536,7 +569,7 @@ fn lose_at_steps(
 ) -> Result<(), Fail> {
     for turn in 0..LIMIT {
         let before = turn.saturating_mul(many).saturating_add(first);
-        if !check_losses(rt, row, before)? {
+        if !check_losses(rt, row, Break::Stop(before, Effect::Whole))? {
             return Ok(());
         }
     }

@@ -16,6 +16,14 @@ pub(crate) const ROWS: &[(&[u8], &str)] = &[
         b"Package: aa\nDescription: x\n more\n",
         "paragraph\nPackage: aa\nDescription: x\n more\n",
     ),
+    (
+        b"Package: aa\nVersion: 1  \nDescription: short \n long \t\n .  \n last\t \nTag:  x, \n b \t\n",
+        "paragraph\nPackage: aa\nVersion: 1\nDescription: short \n long \t\n .  \n last\nTag: x, \n b\n",
+    ),
+    (
+        b"Package: aa\nDescription: x \t\n \t\nPackage: bb",
+        "paragraph\nPackage: aa\nDescription: x\nparagraph\nPackage: bb\n",
+    ),
 ];
 
 pub(crate) const ONE_PARAGRAPH_ROWS: &[(&[u8], &str)] = &[

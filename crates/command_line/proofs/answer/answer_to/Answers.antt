@@ -5,12 +5,12 @@ use Rattle.command_words.specs.declared.words.Asked.TheVariants.{CompareVersions
 use Rattle.command_line.specs.Reports.{comparison_answer, memory_answer, names_answer, prints, trees_answer, usage_answer, version_answer, work_answer}
 use Rattle.command_line.specs.declared.answer.Answer.{Answer}
 use Rattle.command_line.proofs.Held.{appends_nothing}
-use Rattle.command_line.specs.Packages.{policy_of}
+use Rattle.command_line.specs.Packages.{options_of}
 use Rattle.command_line.specs.Roots.{Around, around}
 use Rattle.command_line.proofs.Helped.{help_told}
 use Rattle.command_line.proofs.Named.{divert_owner}
 use Rattle.command_line.proofs.Printed.{left_none, or_else, quiet_comparison, quiet_left}
-use Rattle.command_line.proofs.Trees.{with_policy}
+use Rattle.command_line.proofs.Trees.{with_options}
 use Rattle.command_line.proofs.answer.answer_to.Goals as goal
 
 pub returns-in-Ok-Names-clause-answered : goal.returns-in-Ok-Names-clause-answered
@@ -77,7 +77,7 @@ returns-in-Ok-Install-clause-answered g c =
     let new = c.unpacked-in-Ok-Install.new.hosts in
     let a : Around = around g.S.Hosts old new in
     let ended = c.unpacked-in-Ok-Install.ensures.ended in
-    let as_forced = with_policy a c.policy_of-policy.result (policy_of unpacking.forced) unpacking ended.0 c.policy_of-policy.ensures ended.1 in
+    let as_forced = with_options a c.options_of-options.result (options_of unpacking.forced) unpacking ended.0 c.options_of-options.ensures ended.1 in
     (trees_answer ended.0, rw asked (inl (ended.0, as_forced, refl)), ended.2)
 
 pub returns-in-Ok-Configure-clause-answered : goal.returns-in-Ok-Configure-clause-answered

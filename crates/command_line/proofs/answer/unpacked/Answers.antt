@@ -21,11 +21,11 @@ returns-in-Ok-clause-ended g c =
     let printed = g.O.Write.contents c.unpack_telling-ended.new.printer.out.now in
     let left = c.units_left.ensures.left lines held printed (c.in-Ok.ensures.told refl) in
     let ran = ended.2.ran.ran in
-    let off = breaks_off _ ran.watch (last_in done) _ came.triggered _ _ _ _ ran.triggered in
+    let off = breaks_off _ ran.known (last_in done) _ came.triggered _ _ _ _ ran.triggered in
     let same : units_answer lines c.last_behind-last.result.now c.max-status.result ≡ with_triggers came.triggered (done_answer done) =
     units_answer_as lines (c.last_behind-last.ensures ∙ ap (λ (last : Option AUnit). last_behind last came.triggered) c.last.ensures) (search rules)
     ∙ triggered_answer (units_of done) (last_in done) came.triggered (done_answer done).status off
-    ∙ ap (λ (a : Answer). with_triggers came.triggered a) (sym (done_lines _ c.args.policy c.args.unpacking.now done _ _ _ _ ran.run)) in
+    ∙ ap (λ (a : Answer). with_triggers came.triggered a) (sym (done_lines _ c.args.options c.args.unpacking.now done _ _ _ _ ran.run)) in
     let notes = came.left in
     (Ok came, ended, subst (λ (h : Option (List ℕ)). IsLeft (with_notes notes (with_triggers came.triggered (done_answer done))) held h c.units_left.result) (search rules) (subst (λ (a : Answer). IsLeft (with_notes notes a) held printed c.units_left.result) same left))
 

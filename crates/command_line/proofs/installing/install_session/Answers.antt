@@ -1,5 +1,8 @@
-use Rattle.std.proofs.Common.{refl}
+use Rattle.std.proofs.Common.{refl, subst}
 use Rattle.std.specs.Vec.Iter.{into_iter_items}
+use Rattle.dpkg_session.specs.Installs.{HasInstalledThrough}
+use Rattle.unit_reports.specs.Held.{held_by}
+use Rattle.unpack_relations.specs.declared.options.UnpackOptions.{UnpackOptions}
 use Rattle.command_line.specs.Reading.{words_before}
 use Rattle.command_line.proofs.Steps.{reads_keep}
 use Rattle.command_line.proofs.Trees.{gone_on, read_for}
@@ -19,7 +22,7 @@ returns-clause-done g c =
       candidates = run.0;
       left = into_iter_items new.left.now;
       read = read_for _ g.S.Hosts (λ t. t.hosts.now) (λ t. into_iter_items t.left.now) (λ t. t.asked.now) (λ t. t.words.now) (λ s x t h. (h.1, h.2, h.3, h.4, h.5)) old.asked.now _ run.0 old new refl c.requires.behind run.1;
-      all = record { install = run.2; counts = c.install.ensures.counts c.requires.open; told = c.install.ensures.told };
+      all = record { install = subst (λ (o : UnpackOptions). HasInstalledThrough o run.0 (into_iter_items new.left.now) c.args.options c.install.result.unpacked c.install.result.configured (held_by c.args.session.now.administration c.args.session.now.diversions) (held_by c.install.new.self.administration c.install.new.self.diversions) (g.S.Opened.Host.state c.args.session.now.host) (g.S.Opened.Host.state c.install.new.self.host)) c.allowed_of-allowed.ensures run.2; counts = c.install.ensures.counts c.requires.open; told = c.install.ensures.told };
     }
 
 pub returns-clause-on : goal.returns-clause-on

@@ -13,5 +13,5 @@ returns-in-Ok-clause-done g c =
     IfOk-weaker c.install_rounds.result _ _ (λ reports runs. record {
       rounds = map (λ v. v.items) c.in-Ok.rounds.items;
       order = order_within (around g.S.Hosts old new) (around g.S.Hosts old mid) (within_first g.S.Hosts old mid new c.install_rounds.ensures.on) asked _ _ c.in-Ok.ensures.rounds;
-      runs = rounds_within (around g.S.Hosts old new) (around g.S.Hosts mid new) (within_rest g.S.Hosts old mid new c.rounds_for.ensures.on) asked c.args.policy [] _ reports.items _ _ _ _ runs;
+      runs = rounds_within (around g.S.Hosts old new) (around g.S.Hosts mid new) (within_rest g.S.Hosts old mid new c.rounds_for.ensures.on) asked c.args.options [] _ reports.items _ _ _ _ runs;
     }) c.install_rounds.ensures.done

@@ -6,6 +6,7 @@ use Rattle.command_line.specs.Packages.{HasWorked, selections_of}
 use Rattle.command_line.specs.declared.packages.Work.{Work}
 use Rattle.command_line.specs.declared.packages.Work.TheVariants as work
 use Rattle.unit_reports.specs.Held.{held_by}
+use Rattle.command_line.proofs.Begun.{nothing_done}
 use Rattle.command_line.proofs.packages.carry_out.Goals as goal
 
 pub returns-in_ok-names-in-Configure-clause-done : goal.returns-in_ok-names-in-Configure-clause-done
@@ -17,7 +18,7 @@ returns-in_ok-names-in-Configure-clause-done g c =
     let end = g.H.Host.state c.configure.new.self.host in
     let done = c.configure.ensures in
     subst (λ (asked : Work). HasWorked asked c.configure.result before after begun end) (sym c.in-Configure.is)
-    (subst (λ (names : Option (List (List ℕ))). HasWorked (work.Configure names c.in-Configure.policy) c.configure.result before after begun end) (c.in_ok-names-in-Configure.ensures) record {
+    (subst (λ (names : Option (List (List ℕ))). HasWorked (work.Configure names c.in-Configure.options) c.configure.result before after begun end) (c.in_ok-names-in-Configure.ensures) record {
       part = done.part c.requires;
       whole = λ none. done.whole c.requires none;
       counts = done.counts c.requires;
@@ -34,7 +35,7 @@ returns-in_ok-names-in-Remove-clause-done g c =
     let end = g.H.Host.state c.remove.new.self.host in
     let done = c.remove.ensures in
     subst (λ (asked : Work). HasWorked asked c.remove.result before after begun end) (sym c.in-Remove.is)
-    (subst (λ (names : List (List ℕ)). HasWorked (work.Remove names) c.remove.result before after begun end) (c.in_ok-names-in-Remove.ensures ∙ c.as_slice.ensures) record {
+    (subst (λ (names : List (List ℕ)). HasWorked (work.Remove names c.in-Remove.ignore_depends) c.remove.result before after begun end) (c.in_ok-names-in-Remove.ensures ∙ c.as_slice.ensures) record {
       part = done.part c.requires;
       whole = λ none. done.whole c.requires none;
       counts = done.counts c.requires;
@@ -51,7 +52,7 @@ returns-in_ok-names-in-Purge-clause-done g c =
     let end = g.H.Host.state c.purge.new.self.host in
     let done = c.purge.ensures in
     subst (λ (asked : Work). HasWorked asked c.purge.result before after begun end) (sym c.in-Purge.is)
-    (subst (λ (names : List (List ℕ)). HasWorked (work.Purge names) c.purge.result before after begun end) (c.in_ok-names-in-Purge.ensures ∙ c.as_slice-in-Purge.ensures) record {
+    (subst (λ (names : List (List ℕ)). HasWorked (work.Purge names c.in-Purge.ignore_depends) c.purge.result before after begun end) (c.in_ok-names-in-Purge.ensures ∙ c.as_slice-in-Purge.ensures) record {
       part = done.part c.requires;
       whole = λ none. done.whole c.requires none;
       counts = done.counts c.requires;
@@ -97,13 +98,5 @@ returns-in-ProcessTriggers-clause-done g c =
     let session = c.args.session.now in
     let before = held_by session.administration session.diversions in
     let begun = g.H.Host.state session.host in
-    let after = held_by c.process_triggers.new.self.administration c.process_triggers.new.self.diversions in
-    let end = g.H.Host.state c.process_triggers.new.self.host in
-    let done = c.process_triggers.ensures in
-    subst (λ (asked : Work). HasWorked asked c.process_triggers.result before after begun end) (sym c.in-ProcessTriggers.is) record {
-      part = done.part c.requires;
-      whole = λ none. done.whole c.requires none;
-      counts = done.counts c.requires;
-      told = done.told;
-      any_moment = done.any_moment c.requires;
-    }
+    let idle = c.idle.ensures in
+    subst (λ (asked : Work). HasWorked asked c.idle.result before before begun begun) (sym c.in-ProcessTriggers.is) (nothing_done c.idle.result before begun idle)

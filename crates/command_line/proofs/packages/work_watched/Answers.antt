@@ -20,7 +20,7 @@ returns-clause-done g c =
       worked = c.in_ok-done.ensures.done;
       after = held_by behind.administration behind.diversions;
       behind = g.H.Host.state behind.host;
-      triggered = c.trigger_behind-triggered.ensures.triggered (touched_of us) (subst (λ (l : List AUnit). IfOk c.touched_in-touched.result (λ names. names.items ≡ touched_of l)) c.as_slice.ensures.value c.touched_in-touched.ensures);
+      triggered = c.trigger_behind-triggered.ensures.triggered (touched_of us) (subst (λ (l : List AUnit). IfOk c.touched_in-touched.result (λ touches. touches.items ≡ touched_of l)) c.as_slice.ensures.value c.touched_in-touched.ensures);
       ending = subst (λ (last : Option AUnit). HasEnded last behind.administration.database c.end-left.result (g.H.Host.state behind.host) (g.H.Host.state c.end-left.new.session.host)) c.last_behind.ensures c.end-left.ensures;
     }
 

@@ -1,23 +1,26 @@
-use Rattle.std.proofs.Common.{◌≡◌, ◌∙◌, Option, Some, None, subst, sym, refl}
-use Rattle.std.specs.Prelude.{IsNone}
+use Rattle.std.proofs.Common.{◌≡◌, ◌∙◌, ◌++◌, List, Option, Some, None, subst, sym, refl}
+use Rattle.std.specs.Prelude.{IfOk, IsNone}
 use Rattle.unit_reports.specs.Held.{held_by}
 use Rattle.unit_reports.specs.declared.report.Unit.{Unit as AUnit}
 use Rattle.command_line.specs.Triggering.{HasTriggeredBehind, last_behind}
+use Rattle.command_line.specs.TriggerTurns.{names_told, pending_owners}
 use Rattle.command_line.specs.declared.triggering.Triggered.{Triggered}
 use Rattle.command_line.proofs.Behind.{both_none, told_idle}
 use Rattle.command_line.proofs.triggering.trigger_behind.Goals as goal
 
 pub returns-in-None-clause-triggered : goal.returns-in-None-clause-triggered
-returns-in-None-clause-triggered g c = λ names is.
+returns-in-None-clause-triggered g c = λ touches is.
     let came : Triggered = record { noted = c.note-noted.result; processed = c.process-processed.result } in
     let old = c.args.session.now in
     let mid = c.note-noted.new.session in
     let new = c.process-processed.new.session in
-    subst (λ (last : Option AUnit). HasTriggeredBehind c.args.triggering c.args.watch.now last names came (held_by old.administration old.diversions) (held_by new.administration new.diversions) (g.H.Host.state old.host) (g.H.Host.state new.host)) (sym c.in-None.is) record {
+    let owners = pending_owners old.administration.database.records in
+    let told = subst (λ (us : List AUnit). IfOk c.with_told-names.result (λ all. all.items ≡ owners ++ names_told us)) c.as_slice.ensures.value (c.with_told-names.ensures owners c.pending_owners-first.ensures) in
+    subst (λ (last : Option AUnit). HasTriggeredBehind c.args.triggering c.args.known.now last touches came (held_by old.administration old.diversions) (held_by new.administration new.diversions) (g.H.Host.state old.host) (g.H.Host.state new.host)) (sym c.in-None.is) record {
       mid = held_by mid.administration mid.diversions;
       noting = g.H.Host.state mid.host;
-      noted = c.note-noted.ensures.noted names is;
-      processed = c.process-processed.ensures.processed;
+      noted = c.note-noted.ensures.noted touches is;
+      processed = c.process-processed.ensures.processed (owners ++ names_told c.note-noted.result.units.items) told;
     }
 
 pub returns-in-None-clause-open : goal.returns-in-None-clause-open
@@ -30,11 +33,11 @@ pub returns-in-None-clause-watched : goal.returns-in-None-clause-watched
 returns-in-None-clause-watched g c = (c.note-noted.new.watcher, c.note-noted.ensures.watched, c.process-processed.ensures.watched)
 
 pub returns-in-Some-clause-triggered : goal.returns-in-Some-clause-triggered
-returns-in-Some-clause-triggered g c = λ names is.
+returns-in-Some-clause-triggered g c = λ touches is.
     let old = c.args.session.now in
     let before = held_by old.administration old.diversions in
     let begun = g.H.Host.state old.host in
-    subst (λ (last : Option AUnit). HasTriggeredBehind c.args.triggering c.args.watch.now last names c.untriggered.result before before begun begun) (sym c.in-Some.is) (c.untriggered.ensures, refl, refl)
+    subst (λ (last : Option AUnit). HasTriggeredBehind c.args.triggering c.args.known.now last touches c.untriggered.result before before begun begun) (sym c.in-Some.is) (c.untriggered.ensures, refl, refl)
 
 pub returns-in-Some-clause-open : goal.returns-in-Some-clause-open
 returns-in-Some-clause-open g c = λ none.

@@ -1,5 +1,8 @@
 use Rattle.std.proofs.Common.{List, ℕ, [], refl, subst, ◌∙◌, sym}
 use Rattle.std.specs.Vec.Iter.{into_iter_items}
+use Rattle.dpkg_session.specs.Run.{HasRunThrough}
+use Rattle.unit_reports.specs.Held.{held_by}
+use Rattle.unpack_relations.specs.declared.options.UnpackOptions.{UnpackOptions}
 use Rattle.command_line.specs.Reading.{AreReadFor}
 use Rattle.command_line.specs.Roots.{Around, around}
 use Rattle.command_line.proofs.Steps.{reads_keep}
@@ -22,7 +25,7 @@ returns-clause-done g c =
       left = into_iter_items new.left.now;
       read = subst (λ (words : List (List ℕ)). AreReadFor a old.asked.now.owners [] words run.0 (into_iter_items new.left.now)) c.requires.unread
           (read_for _ g.S.Hosts (λ t. t.hosts.now) (λ t. into_iter_items t.left.now) (λ t. t.asked.now) (λ t. t.words.now) (λ s x t h. (h.1, h.2, h.3, h.4, h.5)) old.asked.now [] run.0 old new refl (c.requires.all ∙ sym c.requires.unread) run.1);
-      all = record { run = run.2; counts = c.run.ensures.counts c.requires.open; told = c.run.ensures.told };
+      all = record { run = subst (λ (o : UnpackOptions). HasRunThrough o run.0 (into_iter_items new.left.now) c.run.result (held_by c.args.session.now.administration c.args.session.now.diversions) (held_by c.run.new.self.administration c.run.new.self.diversions) (g.S.Opened.Host.state c.args.session.now.host) (g.S.Opened.Host.state c.run.new.self.host)) c.allowed_of-allowed.ensures run.2; counts = c.run.ensures.counts c.requires.open; told = c.run.ensures.told };
     }
 
 pub returns-clause-on : goal.returns-clause-on

@@ -30,8 +30,8 @@ returns-clause-done g c =
       ran = c.in_ok-done.ensures.done;
       after = held_behind;
       behind = state;
-      triggered = subst (λ (t : Triggering). HasTriggeredBehind t c.args.watch.now (last_in c.in_ok-done.done) touched came held_mid held_behind done state) c.triggering_for-triggering.ensures
-          (subst (λ (last : Option AUnit). HasTriggeredBehind c.triggering_for-triggering.result c.args.watch.now last touched came held_mid held_behind done state) c.last-last.ensures (c.trigger_behind-triggered.ensures.triggered touched c.touched_in-touched.ensures));
+      triggered = subst (λ (t : Triggering). HasTriggeredBehind t c.args.known.now (last_in c.in_ok-done.done) touched came held_mid held_behind done state) c.triggering_for-triggering.ensures
+          (subst (λ (last : Option AUnit). HasTriggeredBehind c.triggering_for-triggering.result c.args.known.now last touched came held_mid held_behind done state) c.last-last.ensures (c.trigger_behind-triggered.ensures.triggered touched c.touched_in-touched.ensures));
       ending = subst (λ (last : Option AUnit). HasEnded last behind.administration.database c.end-left.result state (g.S.Opened.Host.state c.end-left.new.session.host))
           (c.last_behind.ensures ∙ ap (λ (last : Option AUnit). last_behind last came) c.last-last.ensures) c.end-left.ensures;
     }

@@ -6,5 +6,5 @@ use Rattle.command_words.proofs.command.with_fifth.Goals as goal
 pub returns : goal.returns
 returns c =
     IfOk-weaker c.with-3.result _ _ (λ r e. three_added (app_of c.args.whole) (app_of c.in_ok-whole.whole) (app_of c.in_ok-whole-2.whole) (app_of r)
-    (app_of c.in_ok-select_command.field-0) (app_of c.in_ok-rooted.field-0) (app_of c.in_ok-asking.field-0) _ _ _
-    c.in_ok-whole.ensures c.in_ok-select_command.ensures.app c.in_ok-whole-2.ensures c.in_ok-rooted.ensures.app e c.in_ok-asking.ensures.app) c.with-3.ensures
+    (app_of c.in_ok-select_command.field-0) (app_of c.in_ok-matching.field-0) (app_of c.in_ok-asking.field-0) _ _ _
+    c.in_ok-whole.ensures c.in_ok-select_command.ensures.app c.in_ok-whole-2.ensures c.in_ok-matching.ensures.app e c.in_ok-asking.ensures.app) c.with-3.ensures

@@ -1,10 +1,10 @@
+use Rattle.std.proofs.Common.{◌∙◌, ap}
 use Rattle.std.proofs.lemmas.Result.{IfOk-weaker}
-use Rattle.clap.specs.Words.{app_of, rule_of}
-use Rattle.command_words.proofs.Adding.{three_ruled}
+use Rattle.clap.specs.Words.{App, Rule, app_of, rule_of, with_rule}
+use Rattle.command_words.specs.CommandLine.{with_conffiles_forced}
 use Rattle.command_words.proofs.command.with_forced.Goals as goal
 
 pub returns-clause-app : goal.returns-clause-app
 returns-clause-app c =
-    IfOk-weaker c.with_arg-3.result _ _ (λ r e. three_ruled (app_of c.args.command) (app_of c.in_ok-command.command) (app_of c.in_ok-command-2.command) (app_of r)
-    (rule_of c.flag.result) (rule_of c.flag-2.result) (rule_of c.flag-3.result) _ _ _
-    c.in_ok-command.ensures.app c.flag.ensures c.in_ok-command-2.ensures.app c.flag-2.ensures e c.flag-3.ensures) c.with_arg-3.ensures.app
+    IfOk-weaker c.with_arg.result _ _ (λ r e. e ∙ ap (λ (a : App). with_rule a (rule_of c.flag.result)) c.in_ok-with_conffiles_forced.ensures.app
+    ∙ ap (λ (x : Rule). with_rule (with_conffiles_forced (app_of c.args.command)) x) c.flag.ensures) c.with_arg.ensures.app

@@ -31,7 +31,7 @@ pub returns-in-Ok-run_and_renew-clause-told : goal.returns-in-Ok-run_and_renew-c
 returns-in-Ok-run_and_renew-clause-told g c = tells_then (g.H.Host.state c.args.host.now) (g.H.Host.state c.begun.new.host) (g.H.Host.state c.run_and_renew.new.host) [] (calls_of c.refuse_first.new.units.items) (calls_of c.run_and_renew.new.units.items) (tells_silent (g.H.Host.state c.args.host.now) (g.H.Host.state c.begun.new.host) [] (calls_of c.refuse_first.new.units.items) c.begun.ensures.looks.silent (refused_calls (early_refusals c.args.administration.now.database.records (each_once c.args.names.now)) c.refuse_first.new.units.items c.in-Ok.ensures.ok)) c.in-Ok-run_and_renew.ensures.told
 
 pub returns-in-Ok-run_and_renew-clause-any_moment : goal.returns-in-Ok-run_and_renew-clause-any_moment
-returns-in-Ok-run_and_renew-clause-any_moment g c = since_run c.args.names.now c.args.policy (held_by c.args.administration.now c.args.diversions.now) (has c.in-Ok-begun.silent.items) c.in-Ok-begun.queue (g.H.Host.state c.args.host.now) (g.H.Host.state c.begun.new.host) (g.H.Host.state c.run_and_renew.new.host) (record { begun = c.in-Ok-begun.ensures.begun; looks = c.begun.ensures.looks.reads; quiet = c.begun.ensures.looks.silent; seen = c.in-Ok-begun.ensures.looks.found }) c.run_and_renew.ensures.any_moment
+returns-in-Ok-run_and_renew-clause-any_moment g c = since_run c.args.names.now c.args.options (held_by c.args.administration.now c.args.diversions.now) (has c.in-Ok-begun.silent.items) c.in-Ok-begun.queue (g.H.Host.state c.args.host.now) (g.H.Host.state c.begun.new.host) (g.H.Host.state c.run_and_renew.new.host) (record { begun = c.in-Ok-begun.ensures.begun; looks = c.begun.ensures.looks.reads; quiet = c.begun.ensures.looks.silent; seen = c.in-Ok-begun.ensures.looks.found }) c.run_and_renew.ensures.any_moment
 
 pub returns-in-Ok-run_and_renew-clause-no_fault : goal.returns-in-Ok-run_and_renew-clause-no_fault
 returns-in-Ok-run_and_renew-clause-no_fault g c = no_fault_then _ _ _ c.in-Ok-begun.ensures.looks.counts c.in-Ok-run_and_renew.ensures.no_fault
@@ -43,7 +43,7 @@ pub returns-in-Err-run_and_renew-clause-told_broken : goal.returns-in-Err-run_an
 returns-in-Err-run_and_renew-clause-told_broken g c = tells_then (g.H.Host.state c.args.host.now) (g.H.Host.state c.begun.new.host) (g.H.Host.state c.run_and_renew.new.host) [] (calls_of c.refuse_first.new.units.items) (calls_of c.run_and_renew.new.units.items ++ c.in-Err-run_and_renew.unit.calls.items) (tells_silent (g.H.Host.state c.args.host.now) (g.H.Host.state c.begun.new.host) [] (calls_of c.refuse_first.new.units.items) c.begun.ensures.looks.silent (refused_calls (early_refusals c.args.administration.now.database.records (each_once c.args.names.now)) c.refuse_first.new.units.items c.in-Ok.ensures.ok)) c.in-Err-run_and_renew.ensures.told_broken
 
 pub returns-in-Err-run_and_renew-clause-any_moment : goal.returns-in-Err-run_and_renew-clause-any_moment
-returns-in-Err-run_and_renew-clause-any_moment g c = since_run c.args.names.now c.args.policy (held_by c.args.administration.now c.args.diversions.now) (has c.in-Ok-begun.silent.items) c.in-Ok-begun.queue (g.H.Host.state c.args.host.now) (g.H.Host.state c.begun.new.host) (g.H.Host.state c.run_and_renew.new.host) (record { begun = c.in-Ok-begun.ensures.begun; looks = c.begun.ensures.looks.reads; quiet = c.begun.ensures.looks.silent; seen = c.in-Ok-begun.ensures.looks.found }) c.run_and_renew.ensures.any_moment
+returns-in-Err-run_and_renew-clause-any_moment g c = since_run c.args.names.now c.args.options (held_by c.args.administration.now c.args.diversions.now) (has c.in-Ok-begun.silent.items) c.in-Ok-begun.queue (g.H.Host.state c.args.host.now) (g.H.Host.state c.begun.new.host) (g.H.Host.state c.run_and_renew.new.host) (record { begun = c.in-Ok-begun.ensures.begun; looks = c.begun.ensures.looks.reads; quiet = c.begun.ensures.looks.silent; seen = c.in-Ok-begun.ensures.looks.found }) c.run_and_renew.ensures.any_moment
 
 pub returns-in-Err-run_and_renew-clause-counts : goal.returns-in-Err-run_and_renew-clause-counts
 returns-in-Err-run_and_renew-clause-counts g c = counts_from c.in-Err-run_and_renew.unit.reply (g.H.Host.state c.args.host.now) (g.H.Host.state c.begun.new.host) (g.H.Host.state c.run_and_renew.new.host) c.in-Ok-begun.ensures.looks.counts c.in-Err-run_and_renew.ensures.counts
@@ -55,7 +55,7 @@ pub returns-in-Err-begun-clause-told_broken : goal.returns-in-Err-begun-clause-t
 returns-in-Err-begun-clause-told_broken g c = tells_no_more (g.H.Host.state c.args.host.now) (g.H.Host.state c.begun.new.host) [] (calls_of c.refuse_first.new.units.items) c.broken.result.calls.items (tells_silent (g.H.Host.state c.args.host.now) (g.H.Host.state c.begun.new.host) [] (calls_of c.refuse_first.new.units.items) c.begun.ensures.looks.silent (refused_calls (early_refusals c.args.administration.now.database.records (each_once c.args.names.now)) c.refuse_first.new.units.items c.in-Ok.ensures.ok)) (c.broken.ensures.told ∙ c.new.ensures.items)
 
 pub returns-in-Err-begun-clause-any_moment : goal.returns-in-Err-begun-clause-any_moment
-returns-in-Err-begun-clause-any_moment g c = since_run_reads c.args.names.now c.args.policy (held_by c.args.administration.now c.args.diversions.now) (g.H.Host.state c.args.host.now) (g.H.Host.state c.begun.new.host) c.begun.ensures.looks.reads
+returns-in-Err-begun-clause-any_moment g c = since_run_reads c.args.names.now c.args.options (held_by c.args.administration.now c.args.diversions.now) (g.H.Host.state c.args.host.now) (g.H.Host.state c.begun.new.host) c.begun.ensures.looks.reads
 
 pub returns-in-Err-begun-clause-counts : goal.returns-in-Err-begun-clause-counts
 returns-in-Err-begun-clause-counts g c = counts_broken_by c.begun.result c.in-Err-begun.fault c.broken.result.reply (g.H.Host.state c.args.host.now) (g.H.Host.state c.begun.new.host) c.in-Err-begun.is (c.broken.ensures.reply ∙ ap Broken c.breakage_of.ensures) c.begun.ensures.looks.counts
@@ -70,7 +70,7 @@ pub returns-in-Err-clause-told_broken : goal.returns-in-Err-clause-told_broken
 returns-in-Err-clause-told_broken g c = tells_no_more (g.H.Host.state c.args.host.now) (g.H.Host.state c.args.host.now) [] (calls_of c.refuse_first.new.units.items) c.no_memory.result.calls.items (tells_silent (g.H.Host.state c.args.host.now) (g.H.Host.state c.args.host.now) [] (calls_of c.refuse_first.new.units.items) (silent_here (g.H.Host.state c.args.host.now)) (some_refused_calls (early_refusals c.args.administration.now.database.records (each_once c.args.names.now)) c.refuse_first.new.units.items c.in-Err.ensures.err)) c.no_memory.ensures.told
 
 pub returns-in-Err-clause-any_moment : goal.returns-in-Err-clause-any_moment
-returns-in-Err-clause-any_moment g c = since_run_start c.args.names.now c.args.policy (held_by c.args.administration.now c.args.diversions.now) (g.H.Host.state c.args.host.now)
+returns-in-Err-clause-any_moment g c = since_run_start c.args.names.now c.args.options (held_by c.args.administration.now c.args.diversions.now) (g.H.Host.state c.args.host.now)
 
 pub returns-in-Err-clause-counts : goal.returns-in-Err-clause-counts
 returns-in-Err-clause-counts g c = counts_no_memory c.no_memory.result.reply (g.H.Host.state c.args.host.now) (g.H.Host.state c.args.host.now) (no_fault_here (g.H.Host.state c.args.host.now)) c.no_memory.ensures.reply

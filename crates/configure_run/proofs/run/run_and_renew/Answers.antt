@@ -23,7 +23,7 @@ returns-in-Ok-renew-clause-indexed g c =
     (named_alone c.args.names.now records c.args.queue c.requires.begun c.run_turns.new.administration.database.records c.in-Ok.ensures.others)
 
 pub returns-in-Err-renew-clause-err : goal.returns-in-Err-renew-clause-err
-returns-in-Err-renew-clause-err g c = stop_of_end c.args.policy (has c.args.silent.items) c.args.queue (held_by c.args.administration.now c.args.diversions.now) (g.H.Host.state c.args.host.now) (g.H.Host.state c.run_turns.new.host) c.args.units.now.items c.run_turns.new.units.items (held_by c.run_turns.new.administration c.args.diversions.now) (Some c.no_memory.result) c.in-Ok.ensures.ok
+returns-in-Err-renew-clause-err g c = stop_of_end c.args.options (has c.args.silent.items) c.args.queue (held_by c.args.administration.now c.args.diversions.now) (g.H.Host.state c.args.host.now) (g.H.Host.state c.run_turns.new.host) c.args.units.now.items c.run_turns.new.units.items (held_by c.run_turns.new.administration c.args.diversions.now) (Some c.no_memory.result) c.in-Ok.ensures.ok
     (record { broken = broken_by _ c.no_memory.result.reply c.no_memory.ensures.reply; untouched = c.no_memory.ensures.touched; none = no_calls c.no_memory.result (g.H.Host.state c.run_turns.new.host) c.no_memory.ensures.told })
 
 pub returns-in-Err-renew-clause-told_broken : goal.returns-in-Err-renew-clause-told_broken

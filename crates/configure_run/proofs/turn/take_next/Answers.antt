@@ -1,7 +1,6 @@
-use Rattle.std.proofs.Common.{[], Some, inl, refl, subst, sym, false, ◌∙◌}
+use Rattle.std.proofs.Common.{[], ℕ, Option, inl, refl, subst, sym, false, ◌∙◌}
 use Rattle.std.proofs.lemmas.Bool.{true≢false}
-use Rattle.std.specs.Prelude.{IfSome}
-use Rattle.dependency_check.specs.Waiting.{IsConfigurableNow, IsNextOfConfigurable}
+use Rattle.std.specs.Prelude.{IfSome, IsTrue, MatchOption}
 use Rattle.dependency_sets.specs.Sets.{has}
 use Rattle.host_core.proofs.Moments.{since_start, since_weaker}
 use Rattle.unit_reports.specs.Held.{held_by}
@@ -10,6 +9,7 @@ use Rattle.unit_runs.specs.Turns as runs
 use Rattle.configure_run.specs.Starting.{AreWaiting}
 use Rattle.configure_run.specs.Taking.{IsAmidTurnOf}
 use Rattle.configure_run.specs.Turns.{IsAmidTurn, IsTurn, after_turn}
+use Rattle.configure_run.specs.Whose.{IsNobodysTurn, IsWhoseTurn}
 use Rattle.configure_run.proofs.Moments.{silent_here}
 use Rattle.configure_run.proofs.Replies.{broken_by}
 use Rattle.configure_run.proofs.Taking.{amid_next, broken_at, lhs, takes_one}
@@ -19,20 +19,20 @@ use Rattle.configure_run.proofs.turn.take_next.Goals as goal
 use Rattle.host_core.proofs.Barriers.{answered_here}
 use Rattle.unit_reports.proofs.Counting.{counts_no_memory, no_memory_not_closed, no_fault_here}
 
-pub take_turn-requires-clause-member : goal.take_turn-requires-clause-member
-take_turn-requires-clause-member g c = subst (λ n. IsConfigurableNow c.args.queue.now n) (sym c.in-Ok-Some.number-is) (subst (λ o. IfSome o (IsConfigurableNow c.args.queue.now)) c.in-Ok-Some.field-0-is c.in-Ok-Some.ensures.member)
+pub take_turn-requires-clause-waits : goal.take_turn-requires-clause-waits
+take_turn-requires-clause-waits g c = subst (λ n. IsTrue (has c.args.queue.now.waiting n)) (sym c.in-Ok-Some.number-is) (subst (λ (o : Option ℕ). IfSome o (λ n. IsTrue (has c.args.queue.now.waiting n))) c.in-Ok-Some.field-0-is c.in-Ok-Some.ensures.waits)
 
 pub returns-in-Ok-clause-taken : goal.returns-in-Ok-clause-taken
 returns-in-Ok-clause-taken g c =
-    subst (λ b. IsTurn c.args.policy (has c.args.silent.now) c.args.queue.now (held_by c.args.administration.now c.args.diversions.now) c.in-Ok.unit (after_turn b (lhs c.in-Ok-Some.number-is) c.args.queue.now) (held_by c.take_turn.new.administration c.args.diversions.now) (g.H.Host.state c.args.host.now) (g.H.Host.state c.take_turn.new.host)) (sym c.is_done.ensures)
-    (takes_one c.args.policy (has c.args.silent.now) c.args.queue.now (lhs c.in-Ok-Some.number-is) (held_by c.args.administration.now c.args.diversions.now) (held_by c.take_turn.new.administration c.args.diversions.now) (g.H.Host.state c.args.host.now) (g.H.Host.state c.take_turn.new.host) c.in-Ok.unit
-    (subst (λ n. IsNextOfConfigurable c.args.queue.now (has c.args.silent.now) (Some n)) (sym c.in-Ok-Some.number-is) (subst (λ o. IsNextOfConfigurable c.args.queue.now (has c.args.silent.now) o) c.in-Ok-Some.field-0-is c.in-Ok-Some.ensures.next)) (subst (λ n. IsConfigurableNow c.args.queue.now n) (sym c.in-Ok-Some.number-is) (subst (λ o. IfSome o (IsConfigurableNow c.args.queue.now)) c.in-Ok-Some.field-0-is c.in-Ok-Some.ensures.member)) c.in-Ok.ensures.ok)
+    subst (λ b. IsTurn c.args.options (has c.args.silent.now) c.args.queue.now (held_by c.args.administration.now c.args.diversions.now) c.in-Ok.unit (after_turn b (lhs c.in-Ok-Some.number-is) c.args.queue.now) (held_by c.take_turn.new.administration c.args.diversions.now) (g.H.Host.state c.args.host.now) (g.H.Host.state c.take_turn.new.host)) (sym c.is_done.ensures)
+    (takes_one c.args.options (has c.args.silent.now) c.args.queue.now (lhs c.in-Ok-Some.number-is) (held_by c.args.administration.now c.args.diversions.now) (held_by c.take_turn.new.administration c.args.diversions.now) (g.H.Host.state c.args.host.now) (g.H.Host.state c.take_turn.new.host) c.in-Ok.unit
+    (subst (λ n. IsWhoseTurn c.args.options.ignore_depends (has c.args.silent.now) c.args.queue.now n) (sym c.in-Ok-Some.number-is) (subst (λ (o : Option ℕ). MatchOption o (IsNobodysTurn c.args.options.ignore_depends (has c.args.silent.now) c.args.queue.now) (IsWhoseTurn c.args.options.ignore_depends (has c.args.silent.now) c.args.queue.now)) c.in-Ok-Some.field-0-is c.in-Ok-Some.ensures.next)) c.in-Ok.ensures.ok)
 
-pub returns-in-Ok-clause-member : goal.returns-in-Ok-clause-member
-returns-in-Ok-clause-member g c = subst (λ n. IsConfigurableNow c.args.queue.now n) (sym c.in-Ok-Some.number-is) (subst (λ o. IfSome o (IsConfigurableNow c.args.queue.now)) c.in-Ok-Some.field-0-is c.in-Ok-Some.ensures.member)
+pub returns-in-Ok-clause-waits : goal.returns-in-Ok-clause-waits
+returns-in-Ok-clause-waits g c = subst (λ n. IsTrue (has c.args.queue.now.waiting n)) (sym c.in-Ok-Some.number-is) (subst (λ (o : Option ℕ). IfSome o (λ n. IsTrue (has c.args.queue.now.waiting n))) c.in-Ok-Some.field-0-is c.in-Ok-Some.ensures.waits)
 
 pub returns-in-Ok-clause-found : goal.returns-in-Ok-clause-found
-returns-in-Ok-clause-found g c = (((lhs c.in-Ok-Some.number-is), c.is_done.result), refl, subst (λ n. IsConfigurableNow c.args.queue.now n) (sym c.in-Ok-Some.number-is) (subst (λ o. IfSome o (IsConfigurableNow c.args.queue.now)) c.in-Ok-Some.field-0-is c.in-Ok-Some.ensures.member))
+returns-in-Ok-clause-found g c = (((lhs c.in-Ok-Some.number-is), c.is_done.result), refl, subst (λ n. IsTrue (has c.args.queue.now.waiting n)) (sym c.in-Ok-Some.number-is) (subst (λ (o : Option ℕ). IfSome o (λ n. IsTrue (has c.args.queue.now.waiting n))) c.in-Ok-Some.field-0-is c.in-Ok-Some.ensures.waits))
 
 pub returns-in-Ok-clause-room : goal.returns-in-Ok-clause-room
 returns-in-Ok-clause-room g c none = absurd (true≢false (sym c.in-Ok.ensures.room ∙ none))
@@ -47,22 +47,22 @@ pub returns-in-Ok-clause-told : goal.returns-in-Ok-clause-told
 returns-in-Ok-clause-told g c = c.in-Ok.ensures.told
 
 pub returns-in-Ok-clause-any_moment : goal.returns-in-Ok-clause-any_moment
-returns-in-Ok-clause-any_moment g c = since_weaker (IsAmidTurnOf c.args.policy c.args.queue.now (lhs c.in-Ok-Some.number-is) (held_by c.args.administration.now c.args.diversions.now) (g.H.Host.state c.args.host.now).world) (runs.IsAmidNext (λ left later. IsAmidTurn c.args.policy (has c.args.silent.now) left) c.args.queue.now c.args.queue.now (held_by c.args.administration.now c.args.diversions.now) (g.H.Host.state c.args.host.now).world) (g.H.Host.state c.args.host.now) (g.H.Host.state c.take_turn.new.host) (λ x w amid. amid_next c.args.policy (has c.args.silent.now) c.args.queue.now (lhs c.in-Ok-Some.number-is) c.args.queue.now (held_by c.args.administration.now c.args.diversions.now) (g.H.Host.state c.args.host.now).world x w (subst (λ n. IsNextOfConfigurable c.args.queue.now (has c.args.silent.now) (Some n)) (sym c.in-Ok-Some.number-is) (subst (λ o. IsNextOfConfigurable c.args.queue.now (has c.args.silent.now) o) c.in-Ok-Some.field-0-is c.in-Ok-Some.ensures.next)) amid) c.take_turn.ensures.any_moment
+returns-in-Ok-clause-any_moment g c = since_weaker (IsAmidTurnOf c.args.options.policy c.args.queue.now (lhs c.in-Ok-Some.number-is) (held_by c.args.administration.now c.args.diversions.now) (g.H.Host.state c.args.host.now).world) (runs.IsAmidNext (λ left later. IsAmidTurn c.args.options (has c.args.silent.now) left) c.args.queue.now c.args.queue.now (held_by c.args.administration.now c.args.diversions.now) (g.H.Host.state c.args.host.now).world) (g.H.Host.state c.args.host.now) (g.H.Host.state c.take_turn.new.host) (λ x w amid. amid_next c.args.options (has c.args.silent.now) c.args.queue.now (lhs c.in-Ok-Some.number-is) c.args.queue.now (held_by c.args.administration.now c.args.diversions.now) (g.H.Host.state c.args.host.now).world x w (subst (λ n. IsWhoseTurn c.args.options.ignore_depends (has c.args.silent.now) c.args.queue.now n) (sym c.in-Ok-Some.number-is) (subst (λ (o : Option ℕ). MatchOption o (IsNobodysTurn c.args.options.ignore_depends (has c.args.silent.now) c.args.queue.now) (IsWhoseTurn c.args.options.ignore_depends (has c.args.silent.now) c.args.queue.now)) c.in-Ok-Some.field-0-is c.in-Ok-Some.ensures.next)) amid) c.take_turn.ensures.any_moment
 
 pub returns-in-Err-take_turn-clause-taken : goal.returns-in-Err-take_turn-clause-taken
-returns-in-Err-take_turn-clause-taken g c = broken_at c.args.policy (has c.args.silent.now) c.args.queue.now (lhs c.in-Ok-Some.number-is) _ (held_by c.args.administration.now c.args.diversions.now) (g.H.Host.state c.args.host.now) (g.H.Host.state c.take_turn.new.host) c.in-Err-take_turn.unit (subst (λ n. IsNextOfConfigurable c.args.queue.now (has c.args.silent.now) (Some n)) (sym c.in-Ok-Some.number-is) (subst (λ o. IsNextOfConfigurable c.args.queue.now (has c.args.silent.now) o) c.in-Ok-Some.field-0-is c.in-Ok-Some.ensures.next)) c.in-Err-take_turn.ensures.broken_off
+returns-in-Err-take_turn-clause-taken g c = broken_at c.args.options (has c.args.silent.now) c.args.queue.now (lhs c.in-Ok-Some.number-is) _ (held_by c.args.administration.now c.args.diversions.now) (g.H.Host.state c.args.host.now) (g.H.Host.state c.take_turn.new.host) c.in-Err-take_turn.unit (subst (λ n. IsWhoseTurn c.args.options.ignore_depends (has c.args.silent.now) c.args.queue.now n) (sym c.in-Ok-Some.number-is) (subst (λ (o : Option ℕ). MatchOption o (IsNobodysTurn c.args.options.ignore_depends (has c.args.silent.now) c.args.queue.now) (IsWhoseTurn c.args.options.ignore_depends (has c.args.silent.now) c.args.queue.now)) c.in-Ok-Some.field-0-is c.in-Ok-Some.ensures.next)) c.in-Err-take_turn.ensures.broken_off
 
 pub returns-in-Err-take_turn-clause-told : goal.returns-in-Err-take_turn-clause-told
 returns-in-Err-take_turn-clause-told g c = c.in-Err-take_turn.ensures.told_broken
 
 pub returns-in-Err-take_turn-clause-any_moment : goal.returns-in-Err-take_turn-clause-any_moment
-returns-in-Err-take_turn-clause-any_moment g c = since_weaker (IsAmidTurnOf c.args.policy c.args.queue.now (lhs c.in-Ok-Some.number-is) (held_by c.args.administration.now c.args.diversions.now) (g.H.Host.state c.args.host.now).world) (runs.IsAmidNext (λ left later. IsAmidTurn c.args.policy (has c.args.silent.now) left) c.args.queue.now c.args.queue.now (held_by c.args.administration.now c.args.diversions.now) (g.H.Host.state c.args.host.now).world) (g.H.Host.state c.args.host.now) (g.H.Host.state c.take_turn.new.host) (λ x w amid. amid_next c.args.policy (has c.args.silent.now) c.args.queue.now (lhs c.in-Ok-Some.number-is) c.args.queue.now (held_by c.args.administration.now c.args.diversions.now) (g.H.Host.state c.args.host.now).world x w (subst (λ n. IsNextOfConfigurable c.args.queue.now (has c.args.silent.now) (Some n)) (sym c.in-Ok-Some.number-is) (subst (λ o. IsNextOfConfigurable c.args.queue.now (has c.args.silent.now) o) c.in-Ok-Some.field-0-is c.in-Ok-Some.ensures.next)) amid) c.take_turn.ensures.any_moment
+returns-in-Err-take_turn-clause-any_moment g c = since_weaker (IsAmidTurnOf c.args.options.policy c.args.queue.now (lhs c.in-Ok-Some.number-is) (held_by c.args.administration.now c.args.diversions.now) (g.H.Host.state c.args.host.now).world) (runs.IsAmidNext (λ left later. IsAmidTurn c.args.options (has c.args.silent.now) left) c.args.queue.now c.args.queue.now (held_by c.args.administration.now c.args.diversions.now) (g.H.Host.state c.args.host.now).world) (g.H.Host.state c.args.host.now) (g.H.Host.state c.take_turn.new.host) (λ x w amid. amid_next c.args.options (has c.args.silent.now) c.args.queue.now (lhs c.in-Ok-Some.number-is) c.args.queue.now (held_by c.args.administration.now c.args.diversions.now) (g.H.Host.state c.args.host.now).world x w (subst (λ n. IsWhoseTurn c.args.options.ignore_depends (has c.args.silent.now) c.args.queue.now n) (sym c.in-Ok-Some.number-is) (subst (λ (o : Option ℕ). MatchOption o (IsNobodysTurn c.args.options.ignore_depends (has c.args.silent.now) c.args.queue.now) (IsWhoseTurn c.args.options.ignore_depends (has c.args.silent.now) c.args.queue.now)) c.in-Ok-Some.field-0-is c.in-Ok-Some.ensures.next)) amid) c.take_turn.ensures.any_moment
 
 pub returns-in-Ok-None-clause-taken : goal.returns-in-Ok-None-clause-taken
 returns-in-Ok-None-clause-taken g c = record {
   ended = record {
     untaken = refl;
-    next = subst (λ o. IsNextOfConfigurable c.args.queue.now (has c.args.silent.now) o) c.in-Ok-None.field-0-is c.in-Ok-None.ensures.next;
+    next = subst (λ (o : Option ℕ). MatchOption o (IsNobodysTurn c.args.options.ignore_depends (has c.args.silent.now) c.args.queue.now) (IsWhoseTurn c.args.options.ignore_depends (has c.args.silent.now) c.args.queue.now)) c.in-Ok-None.field-0-is c.in-Ok-None.ensures.next;
     none_left = c.in-Ok-None.ensures.none_left c.in-Ok-None.field-0-is;
   };
   held = refl;
@@ -76,7 +76,7 @@ pub returns-in-Ok-None-clause-told : goal.returns-in-Ok-None-clause-told
 returns-in-Ok-None-clause-told g c = tells_silent (g.H.Host.state c.args.host.now) (g.H.Host.state c.args.host.now) [] [] (silent_here (g.H.Host.state c.args.host.now)) refl
 
 pub returns-in-Ok-None-clause-any_moment : goal.returns-in-Ok-None-clause-any_moment
-returns-in-Ok-None-clause-any_moment g c = since_start (runs.IsAmidNext (λ left later. IsAmidTurn c.args.policy (has c.args.silent.now) left) c.args.queue.now c.args.queue.now (held_by c.args.administration.now c.args.diversions.now) (g.H.Host.state c.args.host.now).world) (g.H.Host.state c.args.host.now) (inl (still_here (g.H.Host.state c.args.host.now).world))
+returns-in-Ok-None-clause-any_moment g c = since_start (runs.IsAmidNext (λ left later. IsAmidTurn c.args.options (has c.args.silent.now) left) c.args.queue.now c.args.queue.now (held_by c.args.administration.now c.args.diversions.now) (g.H.Host.state c.args.host.now).world) (g.H.Host.state c.args.host.now) (inl (still_here (g.H.Host.state c.args.host.now).world))
 
 pub returns-in-Err-clause-taken : goal.returns-in-Err-clause-taken
 returns-in-Err-clause-taken g c = record { broken = broken_by _ c.no_memory.result.reply c.no_memory.ensures.reply; untouched = c.no_memory.ensures.touched; called = inl (no_calls c.no_memory.result (g.H.Host.state c.args.host.now) c.no_memory.ensures.told) }
@@ -85,7 +85,7 @@ pub returns-in-Err-clause-told : goal.returns-in-Err-clause-told
 returns-in-Err-clause-told g c = tells_silent (g.H.Host.state c.args.host.now) (g.H.Host.state c.args.host.now) [] c.no_memory.result.calls.items (silent_here (g.H.Host.state c.args.host.now)) c.no_memory.ensures.told
 
 pub returns-in-Err-clause-any_moment : goal.returns-in-Err-clause-any_moment
-returns-in-Err-clause-any_moment g c = since_start (runs.IsAmidNext (λ left later. IsAmidTurn c.args.policy (has c.args.silent.now) left) c.args.queue.now c.args.queue.now (held_by c.args.administration.now c.args.diversions.now) (g.H.Host.state c.args.host.now).world) (g.H.Host.state c.args.host.now) (inl (still_here (g.H.Host.state c.args.host.now).world))
+returns-in-Err-clause-any_moment g c = since_start (runs.IsAmidNext (λ left later. IsAmidTurn c.args.options (has c.args.silent.now) left) c.args.queue.now c.args.queue.now (held_by c.args.administration.now c.args.diversions.now) (g.H.Host.state c.args.host.now).world) (g.H.Host.state c.args.host.now) (inl (still_here (g.H.Host.state c.args.host.now).world))
 
 pub returns-in-Err-clause-counts : goal.returns-in-Err-clause-counts
 returns-in-Err-clause-counts g c = counts_no_memory c.no_memory.result.reply (g.H.Host.state c.args.host.now) (g.H.Host.state c.args.host.now) (no_fault_here (g.H.Host.state c.args.host.now)) c.no_memory.ensures.reply

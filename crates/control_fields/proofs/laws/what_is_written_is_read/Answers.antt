@@ -1,8 +1,7 @@
 use Rattle.control_fields.proofs.Again.{again, all_again}
-use Rattle.control_fields.proofs.Written.{writable, one_line}
+use Rattle.control_fields.proofs.Written.{writable, one_line, IsTrimmedMore}
 use Rattle.std.proofs.Common.{sym, subst, List, ℕ}
 use Rattle.std.specs.List.{AllByRecursion}
-use Rattle.control_fields.specs.Spelling.{IsMore}
 use Rattle.control_fields.proofs.laws.what_is_written_is_read.Goals as goal
 
 pub returns-clause-one : goal.returns-clause-one
@@ -15,4 +14,4 @@ pub returns-clause-writable : goal.returns-clause-writable
 returns-clause-writable c = writable
 
 pub returns-clause-one_line : goal.returns-clause-one_line
-returns-clause-one_line c = λ f name no_colon utf8 line ending beginning more. one_line f name no_colon utf8 line ending beginning (subst (λ (l : List (List ℕ)). AllByRecursion IsMore l) (sym more) tt)
+returns-clause-one_line c = λ f name no_colon utf8 line ending beginning more. one_line f name no_colon utf8 line ending beginning (subst (λ (l : List (List ℕ)). AllByRecursion IsTrimmedMore l) (sym more) tt)

@@ -12,7 +12,7 @@ returns-then-is_err-clause-fault c =
 pub returns-then-is_empty-clause-fault : goal.returns-then-is_empty-clause-fault
 returns-then-is_empty-clause-fault c =
     let utf8 : IsUtf8 c.args.line.now = search rules in (
-      orphaned c.args.line.now c.trim_end-text.result.now (at c.args.done.now.items c.args.begun.now.line c.args.begun.now.paragraph) utf8 c.trim_end-text.ensures c.in-len1-up.len_at_least (sym c.is_blank.ensures ∙ c.if-is_blank.true)
+      orphaned c.args.line.now c.trim_end.result.now (at c.args.done.now.items c.args.begun.now.line c.args.begun.now.paragraph) utf8 c.trim_end.ensures c.in-len1-up.len_at_least (sym c.is_blank.ensures ∙ c.if-is_blank.true)
           (sym c.is_empty.ensures ∙ c.if-is_empty.true),
       refl,
     )
@@ -20,14 +20,14 @@ returns-then-is_empty-clause-fault c =
 pub returns-in-len1-up-clause-takes : goal.returns-in-len1-up-clause-takes
 returns-in-len1-up-clause-takes c =
     let utf8 : IsUtf8 c.args.line.now = search rules in
-    continues c.args.number c.args.line.now c.trim_end-text.result.now c.args.done.now.items c.args.begun.now.line c.add_line.new.begun.line c.args.begun.now.paragraph c.add_line.new.begun.paragraph utf8 c.trim_end-text.ensures c.in-len1-up.len_at_least
+    continues c.args.number c.args.line.now c.trim_end.result.now c.args.done.now.items c.args.begun.now.line c.add_line.new.begun.line c.args.begun.now.paragraph c.add_line.new.begun.paragraph utf8 c.trim_end.ensures c.in-len1-up.len_at_least
     (sym c.is_blank.ensures ∙ c.if-is_blank.true) (sym c.is_empty.ensures ∙ c.if-is_empty.false) c.in_ok-add_line-in-len1-up.ensures.line c.in_ok-add_line-in-len1-up.ensures.paragraph
 
 pub returns-in_default-cut-clause-fault : goal.returns-in_default-cut-clause-fault
 returns-in_default-cut-clause-fault c =
     let utf8 : IsUtf8 c.args.line.now = search rules in (
-      no_colon c.args.line.now (at c.args.done.now.items c.args.begun.now.line c.args.begun.now.paragraph) utf8 (has_bytes c.args.line.now c.trim_end-text.result.now c.trim_end-text.ensures c.in-len1-up.len_at_least)
-          (unblank c.args.line.now c.trim_end-text.result.now c.trim_end-text.ensures (sym c.is_blank.ensures ∙ c.if-is_blank.false)) (rw (← c.trim_end-text.ensures) c.in_default-cut.ensures.none),
+      no_colon c.args.line.now (at c.args.done.now.items c.args.begun.now.line c.args.begun.now.paragraph) utf8 (has_bytes c.args.line.now c.trim_end.result.now c.trim_end.ensures c.in-len1-up.len_at_least)
+          (unblank c.args.line.now c.trim_end.result.now c.trim_end.ensures (sym c.is_blank.ensures ∙ c.if-is_blank.false)) c.in_default-cut.ensures.none,
       refl,
     )
 
@@ -36,8 +36,8 @@ returns-then-not-is_name-clause-fault c =
     let utf8 : IsUtf8 c.args.line.now = search rules in
     let bad : IsName c.in-Some.name.now → ⊥ = search rules in (
       bad_name c.args.line.now (at c.args.done.now.items c.args.begun.now.line c.args.begun.now.paragraph) c.in-Some.name.now c.in-Some.value.now utf8
-          (record { parts = sym c.trim_end-text.ensures ∙ c.in-Some.ensures.some.0; first = c.in-Some.ensures.some.1 })
-          (unblank c.args.line.now c.trim_end-text.result.now c.trim_end-text.ensures (sym c.is_blank.ensures ∙ c.if-is_blank.false)) bad,
+          (record { parts = c.in-Some.ensures.some.0; first = c.in-Some.ensures.some.1 })
+          (unblank c.args.line.now c.trim_end.result.now c.trim_end.ensures (sym c.is_blank.ensures ∙ c.if-is_blank.false)) bad,
       refl,
     )
 
@@ -46,8 +46,8 @@ returns-then-has-clause-fault c =
     let utf8 : IsUtf8 c.args.line.now = search rules in
     let good : IsName c.in-Some.name.now = search rules in (
       twice c.args.line.now (at c.args.done.now.items c.args.begun.now.line c.args.begun.now.paragraph) c.in-Some.name.now c.in-Some.value.now utf8
-          (record { parts = sym c.trim_end-text.ensures ∙ c.in-Some.ensures.some.0; first = c.in-Some.ensures.some.1 })
-          (unblank c.args.line.now c.trim_end-text.result.now c.trim_end-text.ensures (sym c.is_blank.ensures ∙ c.if-is_blank.false)) good (sym c.has.ensures ∙ c.if-has.true),
+          (record { parts = c.in-Some.ensures.some.0; first = c.in-Some.ensures.some.1 })
+          (unblank c.args.line.now c.trim_end.result.now c.trim_end.ensures (sym c.is_blank.ensures ∙ c.if-is_blank.false)) good (sym c.has.ensures ∙ c.if-has.true),
       refl,
     )
 
@@ -56,4 +56,4 @@ returns-in_default-clause-takes c =
     let utf8 : IsUtf8 c.args.line.now = search rules in
     let good : IsName c.in-Some.name.now = search rules in
     takes_field c.args.number c.args.line.now c.args.done.now.items c.args.done.now.items c.args.begun.now.line c.add_field.new.begun.line c.args.begun.now.paragraph c.add_field.new.begun.paragraph c.in-Some.name.now c.in-Some.value.now utf8
-    (sym c.trim_end-text.ensures ∙ c.in-Some.ensures.some.0) c.in-Some.ensures.some.1 good (sym c.has.ensures ∙ c.if-has.false) refl c.in_ok-add_field-in_default.ensures.line c.in_ok-add_field-in_default.ensures.paragraph
+    c.in-Some.ensures.some.0 c.in-Some.ensures.some.1 good (sym c.has.ensures ∙ c.if-has.false) refl c.in_ok-add_field-in_default.ensures.line c.in_ok-add_field-in_default.ensures.paragraph

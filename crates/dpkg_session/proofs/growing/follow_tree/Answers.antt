@@ -1,19 +1,16 @@
 use Rattle.std.proofs.Common.{◌≡◌, List, ap, subst, ◌∙◌}
-use Rattle.diversions.specs.Ways.{Ways}
 use Rattle.host_core.specs.Paths.{Path}
 use Rattle.opening.proofs.Followed.{on_ok}
 use Rattle.package_tree.specs.ShipMap.{paths_of}
-use Rattle.unit_reports.specs.Held.{Held}
 use Rattle.dpkg_session.specs.Growth.{AreAdded}
 use Rattle.dpkg_session.proofs.growing.follow_tree.Goals as goal
 
 pub returns-clause-added : goal.returns-clause-added
 returns-clause-added g c =
-    let a = c.args.administration.now in
     let same : c.as_slice-2.result.now ≡ paths_of c.args.incoming.now.files = c.as_slice-2.ensures.value ∙ c.in_ok-paths.ensures ∙ ap paths_of c.as_slice.ensures in
     on_ok c.follow_paths.result (λ (added, ways, read). (
       added,
-      ap (λ (w : Ways). record { records = a.database; lists = a.lists.lists; ways = w }) ways,
+      ways,
       λ h. subst (λ (ps : List Path). AreAdded (g.H.Host.state c.args.host.now).world ps c.args.diversions.now.ways.aliases added) same (read h),
     )) c.follow_paths.ensures.added
 

@@ -11,7 +11,7 @@ use Rattle.dpkg_session.proofs.installing.unpack_and_configure.Goals as goal
 pub returns-then-is_some-clause-run : goal.returns-then-is_some-clause-run
 returns-then-is_some-clause-run g c =
     let run = c.unpack_trees-unpacked.ensures.run in
-    (run.0, run.1, installed_part c.args.auto_deconfigure run.0 _ c.args.policy c.unpack_trees-unpacked.result c.empty_report.result _ _ _ _ (sym c.is_some.ensures ∙ c.if-is_some.true) c.empty_report.ensures (g.H.Host.settled c.unpack_trees-unpacked.new.host) run.2)
+    (run.0, run.1, installed_part c.args.allowed run.0 _ c.args.options c.unpack_trees-unpacked.result c.empty_report.result _ _ _ _ (sym c.is_some.ensures ∙ c.if-is_some.true) c.empty_report.ensures (g.H.Host.settled c.unpack_trees-unpacked.new.host) run.2)
 
 pub returns-then-is_some-clause-watched : goal.returns-then-is_some-clause-watched
 returns-then-is_some-clause-watched g c =
@@ -27,7 +27,7 @@ returns-clause-run g c =
     let configured = c.configure_done-configured.ensures in (
       run.0,
       run.1,
-      installed_both c.args.auto_deconfigure run.0 _ c.args.policy c.unpack_trees-unpacked.result c.configure_done-configured.result c.as_slice-2.result.now c.as_slice.result.now
+      installed_both c.args.allowed run.0 _ c.args.options c.unpack_trees-unpacked.result c.configure_done-configured.result c.as_slice-2.result.now c.as_slice.result.now
           _ (held_by c.unpack_trees-unpacked.new.administration c.unpack_trees-unpacked.new.diversions) _ _ _ _ (c.as_slice.ensures ∙ run.3 none) told none (g.H.Host.settled c.configure_done-configured.new.host) run.2 configured.whole configured.part configured.any_moment,
     )
 
@@ -37,12 +37,12 @@ returns-clause-watched g c =
     let none = sym c.is_some.ensures ∙ c.if-is_some.false in
     c.what_is_told_in_turn.ensures.more (g.H.Host.state c.args.host.now) (g.H.Host.state first.new.host) c.args.watcher.now first.new.watcher c.configure_done-configured.new.watcher first.result.units.items c.configure_done-configured.result.units.items
     first.ensures.watched (tells_units (g.H.Host.state c.args.host.now) (g.H.Host.state first.new.host) first.result none first.ensures.told)
-    (run_answered c.args.auto_deconfigure first.ensures.run.0 first.result.units.items (held_by c.args.administration.now c.args.diversions.now) (held_by first.new.administration first.new.diversions) (g.H.Host.state c.args.host.now) (g.H.Host.state first.new.host) (first.ensures.run.2.whole none)) c.configure_done-configured.ensures.watched
+    (run_answered c.args.allowed first.ensures.run.0 first.result.units.items (held_by c.args.administration.now c.args.diversions.now) (held_by first.new.administration first.new.diversions) (g.H.Host.state c.args.host.now) (g.H.Host.state first.new.host) (first.ensures.run.2.whole none)) c.configure_done-configured.ensures.watched
 
 pub returns-clause-answered : goal.returns-clause-answered
 returns-clause-answered g c = λ none.
     let first = sym c.is_some.ensures ∙ c.if-is_some.false in
-    answered_both c.args.auto_deconfigure c.unpack_trees-unpacked.ensures.run.0 c.unpack_trees-unpacked.result.units.items _ _ _ _ _ (c.unpack_trees-unpacked.ensures.run.2.whole first)
+    answered_both c.args.allowed c.unpack_trees-unpacked.ensures.run.0 c.unpack_trees-unpacked.result.units.items _ _ _ _ _ (c.unpack_trees-unpacked.ensures.run.2.whole first)
     (c.configure_done-configured.ensures.answered (none_both c.unpack_trees-unpacked.result.last c.configure_done-configured.result.last first none))
 
 pub returns-clause-order : goal.returns-clause-order

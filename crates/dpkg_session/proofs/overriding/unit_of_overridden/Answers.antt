@@ -19,7 +19,7 @@ returns-in-Ok-clause-unit g c =
     let t = g.H.Host.state c.unit_by.new.host in
     elim c.unit_by.ensures.unit [
       | inl broken ↦ inl broken
-      | inr is ↦ inr (overridden_unit s m looked.reads looked.silent c.args.auto_deconfigure c.args.incoming (held_by c.args.administration.now c.args.diversions.now) c.in-Ok.read looked.found
+      | inr is ↦ inr (overridden_unit s m looked.reads looked.silent c.args.allowed c.args.incoming (held_by c.args.administration.now c.args.diversions.now) c.in-Ok.read looked.found
           c.unit_by.result t c.unit_by.ensures.any_moment.honest (held_by c.unit_by.new.administration c.args.diversions.now) is)
     ]
 
@@ -29,7 +29,7 @@ returns-in-Ok-clause-told g c =
     let s = g.H.Host.state c.args.host.now in
     let m = g.H.Host.state c.read_overrides.new.host in
     let t = g.H.Host.state c.unit_by.new.host in
-    overridden_called s m looked.reads looked.silent c.args.auto_deconfigure c.args.incoming (held_by c.args.administration.now c.args.diversions.now) c.in-Ok.read looked.found c.unit_by.result t c.unit_by.ensures.any_moment.honest c.unit_by.ensures.told
+    overridden_called s m looked.reads looked.silent c.args.allowed c.args.incoming (held_by c.args.administration.now c.args.diversions.now) c.in-Ok.read looked.found c.unit_by.result t c.unit_by.ensures.any_moment.honest c.unit_by.ensures.told
 
 pub returns-in-Ok-clause-any_moment : goal.returns-in-Ok-clause-any_moment
 returns-in-Ok-clause-any_moment g c =
@@ -37,7 +37,7 @@ returns-in-Ok-clause-any_moment g c =
     let s = g.H.Host.state c.args.host.now in
     let m = g.H.Host.state c.read_overrides.new.host in
     let t = g.H.Host.state c.unit_by.new.host in
-    overridden_moments s m looked.reads looked.silent c.args.auto_deconfigure c.args.incoming (held_by c.args.administration.now c.args.diversions.now) c.in-Ok.read looked.found c.unit_by.result t c.unit_by.ensures.any_moment.honest looked.counts c.unit_by.ensures.any_moment
+    overridden_moments s m looked.reads looked.silent c.args.allowed c.args.incoming (held_by c.args.administration.now c.args.diversions.now) c.in-Ok.read looked.found c.unit_by.result t c.unit_by.ensures.any_moment.honest looked.counts c.unit_by.ensures.any_moment
 
 pub returns-in-Ok-clause-answered : goal.returns-in-Ok-clause-answered
 returns-in-Ok-clause-answered g c =
@@ -55,4 +55,4 @@ returns-in-Err-clause-told g c = inl (record { silent = c.read_overrides.ensures
 
 pub returns-in-Err-clause-any_moment : goal.returns-in-Err-clause-any_moment
 returns-in-Err-clause-any_moment g c =
-    looked_overridden c.args.auto_deconfigure c.args.incoming (held_by c.args.administration.now c.args.diversions.now) (g.H.Host.state c.args.host.now) (g.H.Host.state c.read_overrides.new.host) c.read_overrides.ensures.looks.reads
+    looked_overridden c.args.allowed c.args.incoming (held_by c.args.administration.now c.args.diversions.now) (g.H.Host.state c.args.host.now) (g.H.Host.state c.read_overrides.new.host) c.read_overrides.ensures.looks.reads

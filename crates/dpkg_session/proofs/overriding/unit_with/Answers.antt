@@ -19,13 +19,13 @@ pub returns-in-Ok-Some-clause-unit : goal.returns-in-Ok-Some-clause-unit
 returns-in-Ok-Some-clause-unit g c =
     let h = held_by c.args.administration.now c.args.diversions.now in
     let is = taken_owner c.args.overrides.now c.args.incoming c.in-Ok-Some.path _ c.in-Ok-Some.field-0-is c.in-Ok-Some.ensures in
-    inr (taken_refused c.args.auto_deconfigure c.args.incoming.name (taken_from c.args.overrides.now c.args.incoming) (OwnerUnknown c.in-Ok-Some.path) h c.refused.result _ is c.refused.ensures)
+    inr (taken_refused c.args.allowed c.args.incoming.name (taken_from c.args.overrides.now c.args.incoming) (OwnerUnknown c.in-Ok-Some.path) h c.refused.result _ is c.refused.ensures)
 
 pub returns-in-Ok-Some-clause-any_moment : goal.returns-in-Ok-Some-clause-any_moment
-returns-in-Ok-Some-clause-any_moment g c = since_taken_start c.args.auto_deconfigure (taken_from c.args.overrides.now c.args.incoming) (held_by c.args.administration.now c.args.diversions.now) (g.H.Host.state c.args.host.now)
+returns-in-Ok-Some-clause-any_moment g c = since_taken_start c.args.allowed (taken_from c.args.overrides.now c.args.incoming) (held_by c.args.administration.now c.args.diversions.now) (g.H.Host.state c.args.host.now)
 
 pub returns-in-Ok-Some-clause-told : goal.returns-in-Ok-Some-clause-told
-returns-in-Ok-Some-clause-told g c = not_begun_taken c.args.auto_deconfigure (taken_from c.args.overrides.now c.args.incoming) (held_by c.args.administration.now c.args.diversions.now) c.refused.result _ c.refused.ensures.calls
+returns-in-Ok-Some-clause-told g c = not_begun_taken c.args.allowed (taken_from c.args.overrides.now c.args.incoming) (held_by c.args.administration.now c.args.diversions.now) c.refused.result _ c.refused.ensures.calls
 
 pub returns-in-Ok-Some-clause-counts : goal.returns-in-Ok-Some-clause-counts
 returns-in-Ok-Some-clause-counts g c = counts_refused _ _ c.refused.result (g.H.Host.state c.args.host.now) c.refused.ensures
@@ -34,10 +34,10 @@ pub returns-in-Ok-Some-clause-answered : goal.returns-in-Ok-Some-clause-answered
 returns-in-Ok-Some-clause-answered g c = inr (answered_here (g.H.Host.state c.args.host.now))
 
 pub returns-in-Err-clause-any_moment : goal.returns-in-Err-clause-any_moment
-returns-in-Err-clause-any_moment g c = since_taken_start c.args.auto_deconfigure (taken_from c.args.overrides.now c.args.incoming) (held_by c.args.administration.now c.args.diversions.now) (g.H.Host.state c.args.host.now)
+returns-in-Err-clause-any_moment g c = since_taken_start c.args.allowed (taken_from c.args.overrides.now c.args.incoming) (held_by c.args.administration.now c.args.diversions.now) (g.H.Host.state c.args.host.now)
 
 pub returns-in-Err-clause-told : goal.returns-in-Err-clause-told
-returns-in-Err-clause-told g c = not_begun_taken c.args.auto_deconfigure (taken_from c.args.overrides.now c.args.incoming) (held_by c.args.administration.now c.args.diversions.now) c.broken.result _ (c.broken.ensures.told ∙ c.new.ensures.items)
+returns-in-Err-clause-told g c = not_begun_taken c.args.allowed (taken_from c.args.overrides.now c.args.incoming) (held_by c.args.administration.now c.args.diversions.now) c.broken.result _ (c.broken.ensures.told ∙ c.new.ensures.items)
 
 pub returns-in-Err-clause-counts : goal.returns-in-Err-clause-counts
 returns-in-Err-clause-counts g c = counts_no_memory c.broken.result.reply (g.H.Host.state c.args.host.now) (g.H.Host.state c.args.host.now) (no_fault_here (g.H.Host.state c.args.host.now)) c.broken.ensures.reply
@@ -51,15 +51,15 @@ returns-in-Ok-None-clause-unit g c =
     let whole = taken_whole c.args.overrides.now c.args.incoming c.override_accesses-overridden.result _ c.in-Ok-None.field-0-is c.in-Ok-None.ensures c.override_accesses-overridden.ensures in
     elim c.unit_of_followed.ensures.unit [
       | inl broken ↦ inl broken
-      | inr is ↦ inr (subst (λ (r : Result Package Rule). IsTakenUnit c.args.auto_deconfigure c.args.incoming.name r h after c.unit_of_followed.result s t) (sym whole) is)
+      | inr is ↦ inr (subst (λ (r : Result Package Rule). IsTakenUnit c.args.allowed c.args.incoming.name r h after c.unit_of_followed.result s t) (sym whole) is)
     ]
 
 pub returns-in-Ok-None-clause-told : goal.returns-in-Ok-None-clause-told
 returns-in-Ok-None-clause-told g c =
     let whole = taken_whole c.args.overrides.now c.args.incoming c.override_accesses-overridden.result _ c.in-Ok-None.field-0-is c.in-Ok-None.ensures c.override_accesses-overridden.ensures in
-    subst (λ (r : Result Package Rule). HasCalledTaken c.args.auto_deconfigure r (held_by c.args.administration.now c.args.diversions.now) c.unit_of_followed.result (g.H.Host.state c.args.host.now) (g.H.Host.state c.unit_of_followed.new.host)) (sym whole) c.unit_of_followed.ensures.told
+    subst (λ (r : Result Package Rule). HasCalledTaken c.args.allowed r (held_by c.args.administration.now c.args.diversions.now) c.unit_of_followed.result (g.H.Host.state c.args.host.now) (g.H.Host.state c.unit_of_followed.new.host)) (sym whole) c.unit_of_followed.ensures.told
 
 pub returns-in-Ok-None-clause-any_moment : goal.returns-in-Ok-None-clause-any_moment
 returns-in-Ok-None-clause-any_moment g c =
     let whole = taken_whole c.args.overrides.now c.args.incoming c.override_accesses-overridden.result _ c.in-Ok-None.field-0-is c.in-Ok-None.ensures c.override_accesses-overridden.ensures in
-    subst (λ (r : Result Package Rule). AtEachMomentOf (IsAmidTaken c.args.auto_deconfigure r (held_by c.args.administration.now c.args.diversions.now)) (g.H.Host.state c.args.host.now) (g.H.Host.state c.unit_of_followed.new.host)) (sym whole) c.unit_of_followed.ensures.any_moment
+    subst (λ (r : Result Package Rule). AtEachMomentOf (IsAmidTaken c.args.allowed r (held_by c.args.administration.now c.args.diversions.now)) (g.H.Host.state c.args.host.now) (g.H.Host.state c.unit_of_followed.new.host)) (sym whole) c.unit_of_followed.ensures.any_moment

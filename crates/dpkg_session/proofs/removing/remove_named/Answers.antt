@@ -11,4 +11,4 @@ returns-in-Ok-clause-open g c = λ none.
     record { noting = is.noting; listing = is.listing; kept = is.kept }
 
 pub returns-in-Err-clause-any_moment : goal.returns-in-Err-clause-any_moment
-returns-in-Err-clause-any_moment g c = since_none_removed c.args.names.items c.args.extents (held_by c.args.administration.now c.args.diversions.now) (g.H.Host.state c.args.host.now)
+returns-in-Err-clause-any_moment g c = since_none_removed c.args.names.items c.args.options (held_by c.args.administration.now c.args.diversions.now) (g.H.Host.state c.args.host.now)

@@ -18,19 +18,19 @@ pub returns-in-Ok-Planned-clause-unit : goal.returns-in-Ok-Planned-clause-unit
 returns-in-Ok-Planned-clause-unit g c = by_unpacked _ _ c.in-Ok-Planned.beside _ (held_by c.args.administration.now c.args.diversions.now) _ c.unpack_unit.result _ _ (c.in-Ok-Planned.ensures.decided c.args.administration.now.database.records c.requires.indexed) c.in-Ok-Planned.field-0-is c.unpack_unit.ensures.unit
 
 pub returns-in-Ok-Refused-clause-any_moment : goal.returns-in-Ok-Refused-clause-any_moment
-returns-in-Ok-Refused-clause-any_moment g c = since_decided_start c.args.auto_deconfigure c.args.incoming (held_by c.args.administration.now c.args.diversions.now) (g.H.Host.state c.args.host.now)
+returns-in-Ok-Refused-clause-any_moment g c = since_decided_start c.args.allowed c.args.incoming (held_by c.args.administration.now c.args.diversions.now) (g.H.Host.state c.args.host.now)
 
 pub returns-in-Err-clause-any_moment : goal.returns-in-Err-clause-any_moment
-returns-in-Err-clause-any_moment g c = since_decided_start c.args.auto_deconfigure c.args.incoming (held_by c.args.administration.now c.args.diversions.now) (g.H.Host.state c.args.host.now)
+returns-in-Err-clause-any_moment g c = since_decided_start c.args.allowed c.args.incoming (held_by c.args.administration.now c.args.diversions.now) (g.H.Host.state c.args.host.now)
 
 pub returns-in-Ok-Planned-clause-any_moment : goal.returns-in-Ok-Planned-clause-any_moment
-returns-in-Ok-Planned-clause-any_moment g c = since_decided c.args.auto_deconfigure c.args.incoming c.in-Ok-Planned.beside _ (held_by c.args.administration.now c.args.diversions.now) _ _ (c.in-Ok-Planned.ensures.decided c.args.administration.now.database.records c.requires.indexed) c.in-Ok-Planned.field-0-is c.unpack_unit.ensures.any_moment
+returns-in-Ok-Planned-clause-any_moment g c = since_decided c.args.allowed c.args.incoming c.in-Ok-Planned.beside _ (held_by c.args.administration.now c.args.diversions.now) _ _ (c.in-Ok-Planned.ensures.decided c.args.administration.now.database.records c.requires.indexed) c.in-Ok-Planned.field-0-is c.unpack_unit.ensures.any_moment
 
 pub returns-in-Ok-Refused-clause-told : goal.returns-in-Ok-Refused-clause-told
-returns-in-Ok-Refused-clause-told g c = not_begun_decided c.args.auto_deconfigure c.args.incoming (held_by c.args.administration.now c.args.diversions.now) c.refused.result _ c.refused.ensures.calls
+returns-in-Ok-Refused-clause-told g c = not_begun_decided c.args.allowed c.args.incoming (held_by c.args.administration.now c.args.diversions.now) c.refused.result _ c.refused.ensures.calls
 
 pub returns-in-Err-clause-told : goal.returns-in-Err-clause-told
-returns-in-Err-clause-told g c = not_begun_decided c.args.auto_deconfigure c.args.incoming (held_by c.args.administration.now c.args.diversions.now) c.broken.result _ (c.broken.ensures.told ∙ c.new.ensures.items)
+returns-in-Err-clause-told g c = not_begun_decided c.args.allowed c.args.incoming (held_by c.args.administration.now c.args.diversions.now) c.broken.result _ (c.broken.ensures.told ∙ c.new.ensures.items)
 
 pub returns-in-Ok-Planned-clause-told : goal.returns-in-Ok-Planned-clause-told
 returns-in-Ok-Planned-clause-told g c = called_decided _ _ c.in-Ok-Planned.beside _ (held_by c.args.administration.now c.args.diversions.now) c.unpack_unit.result _ _ (c.in-Ok-Planned.ensures.decided c.args.administration.now.database.records c.requires.indexed) c.in-Ok-Planned.field-0-is c.unpack_unit.ensures.told

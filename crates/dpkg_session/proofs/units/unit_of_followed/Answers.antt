@@ -13,10 +13,10 @@ returns-in-Ok-clause-open g c =
     elim c.decide_and_unpack-unit.ensures.open [ inl broken ↦ inl broken | inr is ↦ inr (record { noting = is.noting; listing = is.listing; kept = is.kept }) ]
 
 pub returns-in-Err-clause-any_moment : goal.returns-in-Err-clause-any_moment
-returns-in-Err-clause-any_moment g c = since_decided_start c.args.auto_deconfigure c.args.incoming (held_by c.args.administration.now c.args.diversions.now) (g.H.Host.state c.args.host.now)
+returns-in-Err-clause-any_moment g c = since_decided_start c.args.allowed c.args.incoming (held_by c.args.administration.now c.args.diversions.now) (g.H.Host.state c.args.host.now)
 
 pub returns-in-Err-clause-told : goal.returns-in-Err-clause-told
-returns-in-Err-clause-told g c = not_begun_decided c.args.auto_deconfigure c.args.incoming (held_by c.args.administration.now c.args.diversions.now) c.broken.result _ (c.broken.ensures.told ∙ c.new.ensures.items)
+returns-in-Err-clause-told g c = not_begun_decided c.args.allowed c.args.incoming (held_by c.args.administration.now c.args.diversions.now) c.broken.result _ (c.broken.ensures.told ∙ c.new.ensures.items)
 
 pub returns-in-Err-clause-counts : goal.returns-in-Err-clause-counts
 returns-in-Err-clause-counts g c = counts_no_memory c.broken.result.reply (g.H.Host.state c.args.host.now) (g.H.Host.state c.args.host.now) (no_fault_here (g.H.Host.state c.args.host.now)) c.broken.ensures.reply

@@ -2,7 +2,7 @@ use Rattle.std.proofs.Common.{ap, refl, ◌∙◌}
 use Rattle.unit_reports.specs.declared.report.Reply.TheVariants.{Broken}
 use Rattle.unit_reports.specs.Held.{held_by}
 use Rattle.dpkg_session.specs.declared.displacing.UnpackEnd.{UnpackEnd}
-use Rattle.dpkg_session.proofs.Runs.{answer_not_closed, counts_answered, is_unpacked}
+use Rattle.dpkg_session.proofs.Runs.{answer_not_closed, answer_not_damaged, counts_answered, is_unpacked}
 use Rattle.dpkg_session.proofs.Told.{called_as}
 use Rattle.dpkg_session.proofs.units.unpack_named.Goals as goal
 use Rattle.unit_reports.proofs.Counting.{counts_broken}
@@ -25,3 +25,6 @@ returns-in-Err-clause-counts g c = counts_broken UnpackEnd c.in-Err.fault c.brok
 
 pub returns-in-Ok-clause-not_closed : goal.returns-in-Ok-clause-not_closed
 returns-in-Ok-clause-not_closed g c = answer_not_closed _ _ _ _ _ _ _ _ c.answered.result c.answered.ensures.answer
+
+pub returns-in-Ok-clause-not_damaged : goal.returns-in-Ok-clause-not_damaged
+returns-in-Ok-clause-not_damaged g c = answer_not_damaged _ _ _ _ _ _ _ _ c.answered.result c.answered.ensures.answer

@@ -6,7 +6,7 @@ use Rattle.unit_reports.specs.Watching.{IsTold}
 use Rattle.unit_reports.specs.declared.report.Unit.{Unit as AUnit}
 use Rattle.dpkg_session.specs.Turns.{unread}
 use Rattle.dpkg_session.proofs.Told.{tells_whole}
-use Rattle.dpkg_session.proofs.Turned.{all_taken, broken_taken, entries_stay, lent_stays}
+use Rattle.dpkg_session.proofs.Turned.{all_taken, broken_taken, writable_stays, lent_stays}
 use Rattle.dpkg_session.proofs.unpacks.take_trees.Goals as goal
 
 pub run_units-requires-clause-between : goal.run_units-requires-clause-between
@@ -67,11 +67,11 @@ returns-in-Err-clause-labels_stay g c = ap (λ (names : ℕ × ℕ × ℕ). name
 pub returns-in-Ok-clause-diversions_stay : goal.returns-in-Ok-clause-diversions_stay
 returns-in-Ok-clause-diversions_stay g c = ap (λ (names : ℕ × ℕ × ℕ). names.2) (lent_stays _ _ c.run_units.ensures.goes)
 
-pub returns-in-Ok-clause-kept : goal.returns-in-Ok-clause-kept
-returns-in-Ok-clause-kept g c = entries_stay _ _ c.run_units.ensures.goes
+pub returns-in-Ok-clause-writable : goal.returns-in-Ok-clause-writable
+returns-in-Ok-clause-writable g c = writable_stays _ _ c.run_units.ensures.goes
 
 pub returns-in-Err-clause-diversions_stay : goal.returns-in-Err-clause-diversions_stay
 returns-in-Err-clause-diversions_stay g c = ap (λ (names : ℕ × ℕ × ℕ). names.2) (lent_stays _ _ c.run_units.ensures.goes)
 
-pub returns-in-Err-clause-kept : goal.returns-in-Err-clause-kept
-returns-in-Err-clause-kept g c = entries_stay _ _ c.run_units.ensures.goes
+pub returns-in-Err-clause-writable : goal.returns-in-Err-clause-writable
+returns-in-Err-clause-writable g c = writable_stays _ _ c.run_units.ensures.goes

@@ -1,8 +1,5 @@
-use Rattle.std.proofs.Common.{◌≡◌, ◌∙◌, ◌↔◌, ap, sym, subst, Contains, false}
-use Rattle.std.specs.Prelude.{IsSome}
-use Rattle.host_core.specs.Paths.{Path}
+use Rattle.std.proofs.Common.{◌∙◌, ◌↔◌, ap, subst, Contains}
 use Rattle.host_overlay.specs.Seen.{seen}
-use Rattle.file_lists.specs.Info.{is_foreign}
 use Rattle.file_lists.specs.Lists.{IsReadable, Lists}
 use Rattle.file_lists.specs.Reading.{IsListFault}
 use Rattle.file_lists.specs.declared.fault.EntryFault.TheVariants as kind
@@ -16,16 +13,10 @@ returns-in-Ok-clause-lists g c = λ h q.
 pub returns-in-Err-Line-clause-fault : goal.returns-in-Err-Line-clause-fault
 returns-in-Err-Line-clause-fault g c = λ h.
     let w = seen c.args.shown.now (g.H.Host.state c.args.host.now).world in
-    let told = subst (λ (e : Path). IsListFault e c.in_ok-node.node c.in-Err-Line.field-0) c.as_bytes.ensures.value c.in-Err-Line.ensures.fault in
-    let fault = subst (IsListFault c.args.entry.now c.in_ok-node.node) c.in-Err-Line.field-0-is told in
-    (c.requires, subst (λ n. IsListFault c.args.entry.now n (kind.Line c.in-Err-Line.line)) (c.in_ok-node.ensures.found h ∙ ap w c.requires) fault)
+    let fault = subst (IsListFault c.in_ok-node.node) c.in-Err-Line.field-0-is c.in-Err-Line.ensures.fault in
+    (c.requires, subst (λ n. IsListFault n (kind.Line c.in-Err-Line.line)) (c.in_ok-node.ensures.found h ∙ ap w c.requires) fault)
 
 pub returns-in-Ok-clause-readable : goal.returns-in-Ok-clause-readable
 returns-in-Ok-clause-readable g c = λ h.
     let w = seen c.args.shown.now (g.H.Host.state c.args.host.now).world in
     subst IsReadable (c.in_ok-node.ensures.found h ∙ ap w c.requires) c.in-Ok.ensures.readable
-
-pub returns-in-Ok-clause-apart : goal.returns-in-Ok-clause-apart
-returns-in-Ok-clause-apart g c = λ h some.
-    let w = seen c.args.shown.now (g.H.Host.state c.args.host.now).world in
-    subst (λ (e : Path). is_foreign e ≡ false) c.as_bytes.ensures.value (c.in-Ok.ensures.apart (subst IsSome (sym (c.in_ok-node.ensures.found h ∙ ap w c.requires)) some))

@@ -27,15 +27,19 @@ convert_long-requires-clause-one g c = λ h.
     let one : says_one (w c.args.format.now) ≡ true = subst (IsSaid (w c.args.format.now)) c.in-Long.is (c.in_ok-read_format.ensures.looks.found h) in
     ap is_one c.read_format.ensures.looks.reads.world ∙ ap (λ (p : Path). says_one (w p)) (sym c.requires.place) ∙ one
 
-pub returns-in_err-convert_short-in-Short-clause-any_moment : goal.returns-in_err-convert_short-in-Short-clause-any_moment
-returns-in_err-convert_short-in-Short-clause-any_moment g c = λ arches all.
-    let w = (g.H.Host.state c.args.host.now).world in
-    since_then (λ so_far. IsConverting arches w) _ _ _ (since_reads _ _ _ c.read_format.ensures.looks.reads (λ fs ok. converting_start arches w))
-    (subst (λ (u : World). Since (λ so_far. IsConverting arches u) (g.H.Host.state c.read_format.new.host) (g.H.Host.state c.convert_short.new.host)) c.read_format.ensures.looks.reads.world
-    (c.convert_short.ensures.any_moment arches (λ h. subst (AreAllPairs arches c.args.pairs.now) (sym c.read_format.ensures.looks.reads.world) (all (c.read_format.ensures.looks.silent.honest h)))))
+pub returns-in-Short-clause-converted : goal.returns-in-Short-clause-converted
+returns-in-Short-clause-converted g c = λ arches all h.
+    let new = (g.H.Host.state c.convert_short.new.host).world in
+    on_ok_by c.convert_short.result (IsConverted arches (g.H.Host.state c.read_format.new.host).world new) (IsConverted arches (g.H.Host.state c.args.host.now).world new) (λ is. subst (λ (u : World). IsConverted arches u new) c.read_format.ensures.looks.reads.world is)
+    (c.convert_short.ensures.converted arches (λ k. subst (AreAllPairs arches c.args.pairs.now) (sym c.read_format.ensures.looks.reads.world) (all (c.read_format.ensures.looks.silent.honest k))) h)
 
-pub returns-in_ok-convert_short-in-Short-clause-any_moment : goal.returns-in_ok-convert_short-in-Short-clause-any_moment
-returns-in_ok-convert_short-in-Short-clause-any_moment g c = λ arches all.
+pub returns-in-Short-clause-fault : goal.returns-in-Short-clause-fault
+returns-in-Short-clause-fault g c = λ arches all h.
+    subst (λ (u : World). IfErr c.convert_short.result (IsNamesDamage arches u)) c.read_format.ensures.looks.reads.world
+    (c.convert_short.ensures.fault arches (λ k. subst (AreAllPairs arches c.args.pairs.now) (sym c.read_format.ensures.looks.reads.world) (all (c.read_format.ensures.looks.silent.honest k))) h)
+
+pub returns-in-Short-clause-any_moment : goal.returns-in-Short-clause-any_moment
+returns-in-Short-clause-any_moment g c = λ arches all.
     let w = (g.H.Host.state c.args.host.now).world in
     since_then (λ so_far. IsConverting arches w) _ _ _ (since_reads _ _ _ c.read_format.ensures.looks.reads (λ fs ok. converting_start arches w))
     (subst (λ (u : World). Since (λ so_far. IsConverting arches u) (g.H.Host.state c.read_format.new.host) (g.H.Host.state c.convert_short.new.host)) c.read_format.ensures.looks.reads.world

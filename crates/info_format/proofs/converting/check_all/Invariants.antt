@@ -11,5 +11,5 @@ invariant-loop-pair g l = record {
   silent : Silent (g.H.Host.state l.fn.host) (g.H.Host.state l.host);
   counts : NoFault (g.H.Host.state l.fn.host) (g.H.Host.state l.host);
   reads : Reads (g.H.Host.state l.fn.host) (g.H.Host.state l.host);
-  fit : IsTrue (g.H.Host.state l.host).honest → AreFit (take l.pair-index l.pairs) (g.H.Host.state l.fn.host).world;
+  fit : IsTrue (g.H.Host.state l.host).honest → AreFit l.one (take l.pair-index l.pairs) (g.H.Host.state l.fn.host).world;
 }

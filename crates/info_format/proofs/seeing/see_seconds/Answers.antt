@@ -1,4 +1,4 @@
-use Rattle.std.proofs.Common.{sym, subst, rules, arith, List, Contains}
+use Rattle.std.proofs.Common.{inl, sym, subst, rules, arith, List, Contains}
 use Rattle.std.specs.Prelude.{IsSome}
 use Rattle.std.proofs.lemmas.List.{take_all}
 use Rattle.host_core.specs.World.{World, HasParent, IsLoose}
@@ -7,7 +7,8 @@ use Rattle.host_overlay.specs.Seen.{AreSources, seen}
 use Rattle.administration.proofs.Within.{one_more, taken_more}
 use Rattle.info_format.specs.Seeing.{HasSecond}
 use Rattle.info_format.specs.declared.pairs.Pair.{Pair}
-use Rattle.info_format.proofs.Steps.{giving_more, giving_start, loose_long, parents_kept, stays_given}
+use Rattle.info_format.proofs.Copies.{aside_given, aside_start, aside_then}
+use Rattle.info_format.proofs.Steps.{giving_more, giving_start, loose_long, of_taken, parents_kept, stays_given}
 use Rattle.info_format.proofs.seeing.see_seconds.Goals as goal
 
 pub loop-pair-init : goal.loop-pair-init
@@ -18,6 +19,7 @@ loop-pair-init g c =
       counts = search rules;
       reads = search rules;
       giving = λ h. giving_start c.args.pairs.now old c.requires.apart;
+      aside = λ h. aside_start old;
       all = λ h p has. absurd (omega (arith, has.1));
       sources = λ h are. are;
     }
@@ -50,13 +52,17 @@ loop-pair-preserved g c =
       giving = λ h.
           let h1 = c.see_second.ensures.silent.honest h in
           let is = subst (λ (v : World). HasSecond p.long p.short (seen c.loop-pair.names v) (seen c.see_second.new.names v)) before.reads.world (c.in_ok-see_second.ensures.given h) in
-          giving_more pairs old c.requires.apart p _ now has (before.giving h1) is.moves;
+          giving_more pairs old c.requires.apart p _ now has (before.giving h1) (inl is.moves);
+      aside = λ h.
+          let h1 = c.see_second.ensures.silent.honest h in
+          let is = subst (λ (v : World). HasSecond p.long p.short (seen c.loop-pair.names v) (seen c.see_second.new.names v)) before.reads.world (c.in_ok-see_second.ensures.given h) in
+          aside_then old _ now (before.aside h1) (aside_given p.long p.short _ now (c.requires.apart.proper p has).1 is.moves);
       all = λ h.
           let h1 = c.see_second.ensures.silent.honest h in
           let is = subst (λ (v : World). HasSecond p.long p.short (seen c.loop-pair.names v) (seen c.see_second.new.names v)) before.reads.world (c.in_ok-see_second.ensures.given h) in
           subst (λ (some : List Pair). (r : Pair) → Contains some r → IsLoose (old r.long) → IsSome (now r.short)) (sym (taken_more pairs c.loop-pair.pair-index p c.loop-pair-test.true c.pair-item.is))
           (one_more (λ (r : Pair). IsLoose (old r.long) → IsSome (now r.short)) _ p
-          (λ r there loose. stays_given pairs old c.requires.apart p _ now r.short is.moves (before.all h1 r there loose))
+          (λ r there loose. stays_given pairs old c.requires.apart p _ now r.short (c.requires.apart.proper r (of_taken pairs c.loop-pair.pair-index r there)).1 (inl is.moves) (before.all h1 r there loose))
           (λ loose. is.all (loose_long pairs old c.requires.apart _ p has (before.giving h1) loose)));
       sources = λ h are.
           subst (λ (v : World). AreSources c.loop-pair.names v → AreSources c.see_second.new.names v) before.reads.world (c.in_ok-see_second.ensures.there h) (before.sources (c.see_second.ensures.silent.honest h) are);
@@ -65,5 +71,6 @@ loop-pair-preserved g c =
 pub returns-clause-given : goal.returns-clause-given
 returns-clause-given g c = λ h. record {
   giving = c.loop-pair.invariant.giving h;
+  aside = c.loop-pair.invariant.aside h;
   all = subst (λ (some : List Pair). (r : Pair) → Contains some r → IsLoose (seen c.args.names.now (g.H.Host.state c.args.host.now).world r.long) → IsSome (seen c.loop-pair.names (g.H.Host.state c.args.host.now).world r.short)) (take_all c.loop-pair.pair-index c.args.pairs.now c.loop-pair-test.false) (c.loop-pair.invariant.all h);
 }

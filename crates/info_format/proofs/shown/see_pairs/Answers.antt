@@ -3,7 +3,6 @@ use Rattle.host_core.specs.Paths.{Path}
 use Rattle.host_core.specs.World.{World}
 use Rattle.host_core.proofs.Moments.{reads_then}
 use Rattle.host_overlay.specs.declared.seen_names.SeenNames.{SeenNames}
-use Rattle.file_lists.proofs.Looked.{host_told}
 use Rattle.info_format.specs.Converting.{IsConverted, IsNamesDamage}
 use Rattle.info_format.specs.Format.{IsSaid, format_path, is_one, says_one}
 use Rattle.info_format.specs.Seeing.{Shows}
@@ -32,19 +31,18 @@ see_unknown-requires-clause-unknown g c = λ h.
     let said = subst (IsSaid (w c.args.format.now)) c.in-Unknown.is (c.in_ok-read_format.ensures.looks.found h) in
     odd_at w _ c.args.format.now c.requires.place c.read_format.ensures.looks.reads.world said.0 said.1
 
-pub returns-in_err-see_short-in-Short-clause-fault : goal.returns-in_err-see_short-in-Short-clause-fault
-returns-in_err-see_short-in-Short-clause-fault g c = λ arches all h. host_told (IsNamesDamage arches (g.H.Host.state c.args.host.now).world) _ c.from_residual-in_err-see_short-in-Short.result c.from_residual-in_err-see_short-in-Short.ensures.1 tt tt tt
+pub returns-in-Short-clause-shows : goal.returns-in-Short-clause-shows
+returns-in-Short-clause-shows g c = λ arches all h.
+    subst (λ (u : World). IfOk c.see_short.result (λ (names : SeenNames). Shows (IsConverted arches) u names)) c.read_format.ensures.looks.reads.world
+    (c.see_short.ensures.shows arches (λ k. subst (AreAllPairs arches c.args.pairs.now) (sym c.read_format.ensures.looks.reads.world) (all (c.read_format.ensures.looks.silent.honest k))) h)
 
-pub returns-in_err-see_short-in-Short-clause-reads : goal.returns-in_err-see_short-in-Short-clause-reads
-returns-in_err-see_short-in-Short-clause-reads g c = reads_then _ _ _ c.read_format.ensures.looks.reads c.see_short.ensures.reads
+pub returns-in-Short-clause-fault : goal.returns-in-Short-clause-fault
+returns-in-Short-clause-fault g c = λ arches all h.
+    subst (λ (u : World). IfErr c.see_short.result (IsNamesDamage arches u)) c.read_format.ensures.looks.reads.world
+    (c.see_short.ensures.fault arches (λ k. subst (AreAllPairs arches c.args.pairs.now) (sym c.read_format.ensures.looks.reads.world) (all (c.read_format.ensures.looks.silent.honest k))) h)
 
-pub returns-in_ok-see_short-in-Short-clause-shows : goal.returns-in_ok-see_short-in-Short-clause-shows
-returns-in_ok-see_short-in-Short-clause-shows g c = λ arches all h.
-    subst (λ (u : World). Shows (IsConverted arches) u c.in_ok-see_short-in-Short.field-0) c.read_format.ensures.looks.reads.world
-    (c.in_ok-see_short-in-Short.ensures.shows arches (λ k. subst (AreAllPairs arches c.args.pairs.now) (sym c.read_format.ensures.looks.reads.world) (all (c.read_format.ensures.looks.silent.honest k))) h)
-
-pub returns-in_ok-see_short-in-Short-clause-reads : goal.returns-in_ok-see_short-in-Short-clause-reads
-returns-in_ok-see_short-in-Short-clause-reads g c = reads_then _ _ _ c.read_format.ensures.looks.reads c.see_short.ensures.reads
+pub returns-in-Short-clause-reads : goal.returns-in-Short-clause-reads
+returns-in-Short-clause-reads g c = reads_then _ _ _ c.read_format.ensures.looks.reads c.see_short.ensures.reads
 
 pub returns-in-Long-clause-shows : goal.returns-in-Long-clause-shows
 returns-in-Long-clause-shows g c = λ arches all h.

@@ -1,5 +1,5 @@
 use Rattle.std.proofs.Common.{◌≡◌, ◌≤◌, length, drop, map}
-use Rattle.queries.specs.Records.{by_name}
+use Rattle.queries.specs.Asked.{by_name}
 use Rattle.queries.proofs.records.by_name.Given as goal
 
 abbrev pub invariant-loop-count : goal.invariant-loop-count

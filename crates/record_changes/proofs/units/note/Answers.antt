@@ -8,17 +8,17 @@ use Rattle.unit_reports.specs.Held.{held_by}
 use Rattle.unit_stages.proofs.Order.{note_order}
 use Rattle.record_changes.specs.Activated.{changed}
 use Rattle.record_changes.specs.Units.{IsChange}
-use Rattle.record_changes.proofs.Changing.{in_state, named}
+use Rattle.record_changes.proofs.Changing.{named, still_stands}
 use Rattle.record_changes.proofs.Found.{found_name, found_stands, is_known}
 use Rattle.record_changes.proofs.Indexed.{still_indexed}
-use Rattle.record_changes.proofs.Notes.{broken_or, since_noting}
+use Rattle.record_changes.proofs.Notes.{broken_or, noted_counts, noted_not_closed, since_noting}
 use Rattle.record_changes.proofs.units.note.Goals as goal
 
 pub note_record-requires-clause-stands : goal.note_record-requires-clause-stands
 note_record-requires-clause-stands g c =
     let (r, found, other, same) = c.requires.decided in
     let old = c.args.administration.now.database.records in
-    ap (λ (e : Record). is_not_installed e.state) same ∙ ap is_not_installed (in_state c.args.asked.now.change r) ∙ found_stands old c.args.asked.now.name r c.law.ensures.standing found
+    ap (λ (e : Record). is_not_installed e.state) same ∙ still_stands c.args.asked.now.change r (found_stands old c.args.asked.now.name r c.law.ensures.standing found)
 
 pub returns-in-Ok-clause-unit : goal.returns-in-Ok-clause-unit
 returns-in-Ok-clause-unit g c =
@@ -29,8 +29,8 @@ returns-in-Ok-clause-unit g c =
     let noted = c.in-Ok.ensures.records ∙ ap (λ (e : Record). put_record e old) same in
     let there : Needs (g.H.Host.state c.note_record.new.host) (IsInOrder c.note_record.new.database c.args.administration.now.lists.lists) = (λ h. note_order c.args.administration.now.database c.args.administration.now.lists.lists (g.H.Host.state c.args.host.now).world (c.requires.order (c.in-Ok.ensures.silent.honest h))
     r.name (changed c.args.asked.now.change r) c.note_record.new.database (g.H.Host.state c.note_record.new.host).world
-    (record { own = named c.args.asked.now.change r; stands = ap is_not_installed (in_state c.args.asked.now.change r) ∙ found_stands old name r c.law.ensures.standing found; known = is_known old name r found }) noted (c.in-Ok.ensures.kept h)) in
-    broken_or c.done.result.reply (λ done. record {
+    (record { own = named c.args.asked.now.change r; stands = still_stands c.args.asked.now.change r (found_stands old name r c.law.ensures.standing found); known = is_known old name r found }) noted (c.in-Ok.ensures.kept h)) in
+    broken_or c.noted.result.reply (λ done. record {
       is = λ diverted. IsChange.noted r found other done (record {
         records = noted;
         lists = refl;
@@ -41,9 +41,15 @@ returns-in-Ok-clause-unit g c =
       });
       opened = λ ways was. record { noting = c.in-Ok.ensures.opened; listing = was.listing; kept = was.kept };
       order = there;
-      indexed = λ are. still_indexed old c.note_record.new.database.records c.args.asked.now.change r c.law.ensures.order (ap (record_in old) own ∙ found) other noted c.args.administration.now.packages are;
+      indexed = λ are. still_indexed old c.note_record.new.database.records c.args.asked.now.change r c.law.ensures.order (ap (record_in old) own ∙ found) other noted c.args.administration.now.packages c.forget_abandoned.new.packages c.forget_abandoned.ensures are;
       answered = inl c.in-Ok.ensures.on_disk;
-    }) c.done.ensures.unit
+    }) c.noted.ensures.unit
+
+pub returns-in-Ok-clause-counts : goal.returns-in-Ok-clause-counts
+returns-in-Ok-clause-counts g c = noted_counts c.args.asked.now _ c.noted.result (g.H.Host.state c.args.host.now) (g.H.Host.state c.note_record.new.host) c.in-Ok.ensures.counts c.noted.ensures.unit
+
+pub returns-in-Ok-clause-not_closed : goal.returns-in-Ok-clause-not_closed
+returns-in-Ok-clause-not_closed g c = noted_not_closed c.args.asked.now _ c.noted.result c.noted.ensures.unit
 
 pub returns-in-Ok-clause-any_moment : goal.returns-in-Ok-clause-any_moment
 returns-in-Ok-clause-any_moment g c = λ diverted.

@@ -13,21 +13,21 @@ use Rattle.removal_run.proofs.run.run_sorted.Goals as goal
 
 pub returns-in-Ok-clause-whole : goal.returns-in-Ok-clause-whole
 returns-in-Ok-clause-whole g c = λ none.
-    runs_through c.args.extents c.replace-taken.result c.args.sorted.waiting.items c.in-Ok.left.items c.args.sorted.refused.items c.run_turns.new.units.items c.ended.result.units.items
+    runs_through c.args.options c.replace-taken.result c.args.sorted.waiting.items c.in-Ok.left.items c.args.sorted.refused.items c.run_turns.new.units.items c.ended.result.units.items
     (held_by c.args.administration.now c.args.diversions.now) (held_by c.run_turns.new.administration c.args.diversions.now) (g.H.Host.state c.args.host.now) (g.H.Host.state c.run_turns.new.host)
     (subst (ArePackagesOf c.args.administration.now.database.records) (sym {A = List Package} c.replace-taken.ensures.value) c.requires.indexed)
     c.in-Ok.ensures.turned c.in-Ok.queue c.in-Ok.ensures.nothing (none_ends c.in-Ok.queue c.run_turns.new.units.items c.ended.result.units.items c.ended.result.last none c.ended.ensures.ends)
 
 pub returns-in-Ok-clause-part : goal.returns-in-Ok-clause-part
 returns-in-Ok-clause-part g c =
-    runs_up_to c.args.extents c.replace-taken.result c.args.sorted.waiting.items c.in-Ok.left.items c.args.sorted.refused.items c.run_turns.new.units.items c.ended.result.units.items
+    runs_up_to c.args.options c.replace-taken.result c.args.sorted.waiting.items c.in-Ok.left.items c.args.sorted.refused.items c.run_turns.new.units.items c.ended.result.units.items
     (held_by c.args.administration.now c.args.diversions.now) (held_by c.run_turns.new.administration c.args.diversions.now) (g.H.Host.state c.args.host.now) (g.H.Host.state c.run_turns.new.host)
     (subst (ArePackagesOf c.args.administration.now.database.records) (sym {A = List Package} c.replace-taken.ensures.value) c.requires.indexed)
     c.in-Ok.ensures.turned c.in-Ok.queue c.in-Ok.ensures.nothing c.ended.result.last c.ended.ensures.ends
 
 pub returns-clause-part : goal.returns-clause-part
 returns-clause-part g c =
-    stopped_up_to c.args.extents c.replace-taken.result c.args.sorted.waiting.items c.args.sorted.refused.items c.run_turns.new.units.items (held_by c.args.administration.now c.args.diversions.now) (g.H.Host.state c.args.host.now) (g.H.Host.state c.run_turns.new.host) c.in-Err.unit
+    stopped_up_to c.args.options c.replace-taken.result c.args.sorted.waiting.items c.args.sorted.refused.items c.run_turns.new.units.items (held_by c.args.administration.now c.args.diversions.now) (g.H.Host.state c.args.host.now) (g.H.Host.state c.run_turns.new.host) c.in-Err.unit
     (subst (ArePackagesOf c.args.administration.now.database.records) (sym {A = List Package} c.replace-taken.ensures.value) c.requires.indexed) c.in-Err.ensures.stopped
 
 pub returns-in-Ok-clause-told : goal.returns-in-Ok-clause-told
@@ -54,3 +54,6 @@ returns-in-Ok-clause-indexed g c = λ none.
     let start = c.args.administration.now.database.records in
     let packages = subst (ArePackagesOf start) (sym {A = List Package} (c.in-Ok.ensures.nothing.queue.stated ∙ c.replace-taken.ensures.value)) c.requires.indexed in
     c.ended.ensures.renewed none start c.law.ensures.order packages (subst (λ (names : List (List ℕ)). AreSameBut names start c.run_turns.new.administration.database.records) (sym (c.as_slice-in-Ok-2.ensures.value ∙ c.requires.asked)) c.in-Ok.ensures.others)
+
+pub ended-requires-clause-none : goal.ended-requires-clause-none
+ended-requires-clause-none g c = c.in-Ok.ensures.nothing.nobody.none

@@ -1,7 +1,7 @@
 use Rattle.std.proofs.Common.{arith, ◌≡◌, ◌≤◌, ◌+◌, List, [], ◌∷◌, ◌++◌, max, take, ap, sym, ◌∙◌}
 use Rattle.std.proofs.lemmas.List.{take_more}
 use Rattle.unit_reports.specs.declared.report.Reply.{Reply}
-use Rattle.unit_reports.specs.declared.report.Reply.TheVariants.{Done, Refused, Failed, Broken}
+use Rattle.unit_reports.specs.declared.report.Reply.TheVariants.{Done, Refused, Failed, Looped, Broken}
 use Rattle.unit_reports.specs.declared.report.Unit.{Unit as AUnit}
 use Rattle.report_lines.specs.Replies.{reply_status}
 use Rattle.report_lines.specs.Reports.{units_status}
@@ -15,6 +15,7 @@ at_most : (r : Reply) → reply_status r ≤ 2
 at_most Done = omega arith
 at_most (Refused r) = omega arith
 at_most (Failed f) = omega arith
+at_most (Looped c) = omega arith
 at_most (Broken b) = omega arith
 
 pub loop-unit-preserved : goal.loop-unit-preserved

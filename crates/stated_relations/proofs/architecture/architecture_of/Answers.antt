@@ -7,7 +7,7 @@ use Rattle.stated_relations.proofs.architecture.architecture_of.Goals as goal
 
 pub returns-in-Some : goal.returns-in-Some
 returns-in-Some c =
-    c.one_architecture.ensures ∙ ap one_architecture c.as_slice.ensures
+    c.one_architecture.ensures ∙ ap one_architecture c.own_line.ensures
     ∙ ap (option_and_then one_architecture) (sym (line_is c.args.fields.now c.in-Some.field.now c.in-Some.ensures.some))
 
 pub returns-in-None : goal.returns-in-None

@@ -47,8 +47,8 @@ Version: 1
 const HALF_INSTALLED: &str = "Package: alpha
 Status: install reinstreq half-installed
 Version: 2.0
-Conflicts: delta
 Replaces: delta
+Conflicts: delta
 
 Package: delta
 Status: install ok half-configured
@@ -63,8 +63,8 @@ Version: 1
 const UNPACKED: &str = "Package: alpha
 Status: install ok unpacked
 Version: 2.0
-Conflicts: delta
 Replaces: delta
+Conflicts: delta
 
 Package: delta
 Status: install ok half-configured
@@ -80,8 +80,8 @@ Version: 1
 const LOSING: &str = "Package: alpha
 Status: install ok unpacked
 Version: 2.0
-Conflicts: delta
 Replaces: delta
+Conflicts: delta
 
 Package: delta
 Status: install reinstreq half-installed
@@ -98,8 +98,8 @@ Version: 1
 const WITHOUT_FILES: &str = "Package: alpha
 Status: install ok unpacked
 Version: 2.0
-Conflicts: delta
 Replaces: delta
+Conflicts: delta
 
 Package: delta
 Status: deinstall ok half-installed
@@ -115,8 +115,8 @@ Version: 1
 const REMOVED: &str = "Package: alpha
 Status: install ok unpacked
 Version: 2.0
-Conflicts: delta
 Replaces: delta
+Conflicts: delta
 
 Package: delta
 Status: deinstall ok config-files
@@ -132,8 +132,8 @@ Version: 1
 const CONFIGURING: &str = "Package: alpha
 Status: install ok half-configured
 Version: 2.0
-Conflicts: delta
 Replaces: delta
+Conflicts: delta
 
 Package: delta
 Status: deinstall ok config-files
@@ -149,8 +149,8 @@ Version: 1
 const CONFIGURED: &str = "Package: alpha
 Status: install ok installed
 Version: 2.0
-Conflicts: delta
 Replaces: delta
+Conflicts: delta
 
 Package: delta
 Status: deinstall ok config-files

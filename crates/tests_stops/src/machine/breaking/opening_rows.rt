@@ -2,7 +2,7 @@
 // left unsettled, broken off: the records stay, and the next opening makes what is missing, merges what is noted, brings the names to
 // those without, and takes up the conffiles.
 use super::{
-    ALONE, Found, Moment, OPENED, OPENING, Row, SCRIPT, STATUS, decline_each_step,
+    ALONE, Found, Moment, OPENED, OPENING, Row, SCRIPT, STATUS, check_copies, decline_each_step,
     fail_at_each_read, fail_at_each_step, lose_at_each_step, stop_at_each_step,
 };
 use std::test::Fail;
@@ -73,7 +73,7 @@ const NOTED: Row = Row {
 };
 
 const SAME: &str =
-    "Package: alpha\nStatus: install ok installed\nVersion: 1.0\nArchitecture: amd64\nMulti-Arch: same\n";
+    "Package: alpha\nStatus: install ok installed\nArchitecture: amd64\nMulti-Arch: same\nVersion: 1.0\n";
 
 const LIST: &str = "/.\n/opt\n/opt/a\n";
 
@@ -102,6 +102,39 @@ const NAMED: Row = Row {
         again: OPENED,
     }],
     left: BROUGHT,
+    again: ALONE,
+};
+
+// Where no second name can be had: what was written of a copy may be left at its temporary name.
+const COPIED: &[Found] = &[
+    (
+        "/var/lib/dpkg/info",
+        &[
+            "directory: alpha.list alpha.postrm",
+            "directory: alpha.list alpha.list.dpkg-inst alpha.postrm",
+            "directory: alpha.list alpha.postrm alpha.postrm.dpkg-inst",
+        ],
+    ),
+    ("/var/lib/dpkg/info/alpha.list", &[LIST]),
+    ("/var/lib/dpkg/info/alpha.postrm", &[SCRIPT]),
+];
+
+const NAMED_BY_COPIES: Row = Row {
+    files: &[
+        (STATUS, SAME),
+        ("/var/lib/dpkg/info/alpha:amd64.list", LIST),
+        ("/var/lib/dpkg/info/alpha:amd64.postrm", SCRIPT),
+        ("/var/lib/dpkg/info/format", "1\n"),
+    ],
+    trees: &[],
+    endings: &[],
+    line: OPENING,
+    found: COPIED,
+    moments: &[Moment {
+        stands: &[(STATUS, SAME)],
+        again: OPENED,
+    }],
+    left: COPIED,
     again: ALONE,
 };
 
@@ -166,7 +199,45 @@ const ADOPTED: Row = Row {
     again: ALONE,
 };
 
-const ROWS: &[Row] = &[RECORDS_ALONE, EMPTY, NOTED, NAMED, CLEARED, ADOPTED];
+const CONFIGURED: &str =
+    "Package: alpha\nStatus: install ok installed\nVersion: 1.0\nConffiles:\n /etc/a.conf 814fa5ca98406a903e22b43d9b610105\nNew-Conffiles:\n /etc/a.conf 9cd599a3523898e6a12e13ec787da50a\n\nPackage: bravo\nStatus: install ok triggers-awaited\nVersion: 1.0\nTriggers-Awaited: menu\nRemoved-Since: yes\n";
+
+const SETTLED: &str =
+    "Package: alpha\nStatus: install ok installed\nVersion: 1.0\nConffiles:\n /etc/a.conf 814fa5ca98406a903e22b43d9b610105\n\nPackage: bravo\nStatus: install ok triggers-awaited\nVersion: 1.0\nTriggers-Awaited: menu\n";
+
+// Two packages that dpkg configured, whose records still tell what held before.
+const KEPT_BY_DPKG: Row = Row {
+    files: &[
+        (STATUS, CONFIGURED),
+        ("/var/lib/dpkg/info/alpha.list", "/.\n/etc\n/etc/a.conf\n"),
+        ("/var/lib/dpkg/info/bravo.list", "/.\n"),
+        ("/etc/a.conf", "old\n"),
+    ],
+    trees: &[],
+    endings: &[],
+    line: OPENING,
+    found: &[(STATUS, &[SETTLED]), BEGUN],
+    moments: &[Moment {
+        stands: &[(STATUS, SETTLED)],
+        again: OPENED,
+    }],
+    left: &[
+        (STATUS, &[SETTLED]),
+        BEGUN,
+        ("/etc", &["directory: a.conf"]),
+    ],
+    again: ALONE,
+};
+
+const ROWS: &[Row] = &[
+    RECORDS_ALONE,
+    EMPTY,
+    NOTED,
+    NAMED,
+    CLEARED,
+    ADOPTED,
+    KEPT_BY_DPKG,
+];
 
 #[test]
 fn stops(rt: HostRuntime) -> Result<(), Fail> {
@@ -197,6 +268,17 @@ fn losses(rt: HostRuntime) -> Result<(), Fail> {
 fn declines(rt: HostRuntime) -> Result<(), Fail> {
     for row in ROWS {
         assert_eq!(rt; decline_each_step(&rt, row)?, 0);
+    }
+    Ok(())
+}
+
+// More steps than a conversion makes of which both second names are declined.
+const COPIES: usize = 16;
+
+#[test]
+fn copies(rt: HostRuntime) -> Result<(), Fail> {
+    for before in 0..COPIES {
+        check_copies(&rt, &NAMED_BY_COPIES, before)?;
     }
     Ok(())
 }

@@ -27,17 +27,17 @@ const HALF_CONFIGURED: &str =
 
 // While its files go.
 const LOSING: &str =
-    "Package: zulu\nStatus: install reinstreq half-installed\nVersion: 1\nConfig-Version: 1\nRemoved-Since: yes\nConffiles:\n /etc/z.conf 0cc175b9c0f1b6a831c399e269772661\n";
+    "Package: zulu\nStatus: install reinstreq half-installed\nVersion: 1\nConfig-Version: 1\nConffiles:\n /etc/z.conf 0cc175b9c0f1b6a831c399e269772661\nRemoved-Since: yes\n";
 
 // Once they are gone, until its postrm has succeeded.
 const WITHOUT_FILES: &str =
-    "Package: zulu\nStatus: deinstall ok half-installed\nVersion: 1\nConfig-Version: 1\nRemoved-Since: yes\nConffiles:\n /etc/z.conf 0cc175b9c0f1b6a831c399e269772661\n";
+    "Package: zulu\nStatus: deinstall ok half-installed\nVersion: 1\nConfig-Version: 1\nConffiles:\n /etc/z.conf 0cc175b9c0f1b6a831c399e269772661\nRemoved-Since: yes\n";
 
 const CONFIG_FILES: &str =
-    "Package: zulu\nStatus: deinstall ok config-files\nVersion: 1\nConfig-Version: 1\nRemoved-Since: yes\nConffiles:\n /etc/z.conf 0cc175b9c0f1b6a831c399e269772661\n";
+    "Package: zulu\nStatus: deinstall ok config-files\nVersion: 1\nConfig-Version: 1\nConffiles:\n /etc/z.conf 0cc175b9c0f1b6a831c399e269772661\nRemoved-Since: yes\n";
 
 const PURGING: &str =
-    "Package: zulu\nStatus: purge ok config-files\nVersion: 1\nConfig-Version: 1\nRemoved-Since: yes\nConffiles:\n /etc/z.conf 0cc175b9c0f1b6a831c399e269772661\n";
+    "Package: zulu\nStatus: purge ok config-files\nVersion: 1\nConfig-Version: 1\nConffiles:\n /etc/z.conf 0cc175b9c0f1b6a831c399e269772661\nRemoved-Since: yes\n";
 
 const LIST: &str = "/var/lib/dpkg/info/zulu.list";
 

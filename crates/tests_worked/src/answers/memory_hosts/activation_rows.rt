@@ -16,7 +16,8 @@ const FAILS: Outcome = Outcome::Exit(1);
 
 const SUCCEEDS: Outcome = Outcome::Exit(0);
 
-// Ti is interested in a place and in a name, te in the name alone; ship has a file there, beside one beside it, and acts the name.
+// Ti is interested in a place and in a name, te in the name alone; ship has a file there, beside one beside it, and acts and wake the name.
+// Leans is interested in another place, where hits has a file, and depends on wanted, of which next is the next version.
 const TREES: &[TreeFile] = &[
     ("ti", CONTROL, "Package: ti\nVersion: 1\n"),
     (
@@ -34,9 +35,22 @@ const TREES: &[TreeFile] = &[
     ("beside", "/usr/share/xy/f", "f"),
     ("acts", CONTROL, "Package: acts\nVersion: 1\n"),
     ("acts", TRIGGERS, "activate-noawait own\n"),
+    ("wake", CONTROL, "Package: wake\nVersion: 1\n"),
+    ("wake", TRIGGERS, "activate-noawait own\n"),
     ("both", CONTROL, "Package: both\nVersion: 1\n"),
     ("both", TRIGGERS, "activate own\n"),
     ("both", "/usr/share/x/g", "g"),
+    (
+        "leans",
+        CONTROL,
+        "Package: leans\nVersion: 1\nDepends: wanted\n",
+    ),
+    ("leans", TRIGGERS, "interest-noawait /usr/share/y\n"),
+    ("leans", "/DEBIAN/postinst", SCRIPT),
+    ("wanted", CONTROL, "Package: wanted\nVersion: 1\n"),
+    ("next", CONTROL, "Package: wanted\nVersion: 2\n"),
+    ("hits", CONTROL, "Package: hits\nVersion: 1\n"),
+    ("hits", "/usr/share/y/f", "f"),
 ];
 
 // A package by itself activates nothing of its own.
@@ -221,6 +235,53 @@ Config-Version: 1
 ",
 );
 
+// What a unit activates counts for a package that was installed or upgraded by the same command, where its own last unit was an earlier
+// one; before that it isn't interested yet.
+const IN_ONE_COMMAND: ActivationRow = (
+    &[],
+    &[
+        "dpkg_cli install ti wake",
+        "dpkg_cli install acts ti",
+        "dpkg_cli install ship ti",
+    ],
+    "state ti 1 install ok unpacked
+done
+state wake 1 install ok unpacked
+done
+call old ti postinst configure \"\": exit 0
+state ti 1 install ok installed
+done
+state wake 1 install ok installed
+done
+state ti 1 install ok triggers-pending
+done
+call old ti postinst triggered own: exit 0
+state ti 1 install ok installed
+done
+||0
+state acts 1 install ok unpacked
+done
+state ti 1 install ok unpacked
+done
+state acts 1 install ok installed
+done
+call old ti postinst configure 1: exit 0
+state ti 1 install ok installed
+done
+||0
+state ship 1 install ok unpacked
+done
+state ti 1 install ok unpacked
+done
+state ship 1 install ok installed
+done
+call old ti postinst configure 1: exit 0
+state ti 1 install ok installed
+done
+||0
+",
+);
+
 // The package is half-configured then, and is configured as any that is.
 const FAILED: ActivationRow = (
     &[SUCCEEDS, FAILS],
@@ -334,7 +395,129 @@ ti 1 installed
 ",
 );
 
-const ROWS: &[ActivationRow] = &[BY_FILES, BY_NAME, LATER, FAILED, REFUSED, REHEARSED];
+// Who is interested stands in dpkg's files, once their directory is there: by the first command in which somebody is interested before it.
+const INTERESTED: ActivationRow = (
+    &[],
+    &[
+        "dpkg_cli install ti te",
+        "read /var/lib/dpkg/triggers",
+        "dpkg_cli unpack --no-triggers beside",
+        "read /var/lib/dpkg/triggers/File",
+        "read /var/lib/dpkg/triggers/own",
+        "write /var/lib/dpkg/triggers/own ti\nte/noawait\n",
+        "write /var/lib/dpkg/triggers/other ti\n",
+        "write /var/lib/dpkg/triggers/Other ti\n",
+        "dpkg_cli configure beside",
+        "read /var/lib/dpkg/triggers/own",
+        "read /var/lib/dpkg/triggers/other",
+        "read /var/lib/dpkg/triggers/Other",
+        "dpkg_cli purge te",
+        "read /var/lib/dpkg/triggers/own",
+        "dpkg_cli unpack newer",
+        "read /var/lib/dpkg/triggers/File",
+        "read /var/lib/dpkg/triggers/own",
+    ],
+    "state ti 1 install ok unpacked
+done
+state te 1 install ok unpacked
+done
+state te 1 install ok installed
+done
+call old ti postinst configure \"\": exit 0
+state ti 1 install ok installed
+done
+||0
+
+state beside 1 install ok unpacked
+done
+||0
+/usr/share/x ti/noawait
+
+te/noawait
+ti
+
+state beside 1 install ok installed
+done
+||0
+ti
+te/noawait
+
+
+ti
+
+state te none
+done
+||0
+ti
+
+state ti 2 install ok unpacked
+done
+||0
+
+
+",
+);
+
+// A package whose Depends aren't met isn't called, and its triggers stay pending until they are.
+const WAITING: ActivationRow = (
+    &[],
+    &[
+        "dpkg_cli install wanted leans",
+        "dpkg_cli unpack next",
+        "dpkg_cli unpack hits",
+        "dpkg_cli status leans",
+        "dpkg_cli configure --triggers-only",
+        "dpkg_cli configure wanted",
+    ],
+    "state wanted 1 install ok unpacked
+done
+state leans 1 install ok unpacked
+done
+state wanted 1 install ok installed
+done
+call old leans postinst configure \"\": exit 0
+state leans 1 install ok installed
+done
+||0
+state wanted 2 install ok unpacked
+done
+||0
+state hits 1 install ok unpacked
+done
+state leans 1 install ok triggers-pending
+done
+state leans 1 install ok triggers-pending
+done
+||0
+Package: leans
+Status: install ok triggers-pending
+Version: 1
+Depends: wanted
+Triggers-Pending: /usr/share/y
+||0
+state leans 1 install ok triggers-pending
+done
+||0
+state wanted 2 install ok installed
+done
+call old leans postinst triggered /usr/share/y: exit 0
+state leans 1 install ok installed
+done
+||0
+",
+);
+
+const ROWS: &[ActivationRow] = &[
+    BY_FILES,
+    BY_NAME,
+    LATER,
+    IN_ONE_COMMAND,
+    FAILED,
+    REFUSED,
+    REHEARSED,
+    INTERESTED,
+    WAITING,
+];
 
 #[test]
 fn triggers_are_noted_and_processed(rt: HostRuntime) -> Result<(), Fail> {

@@ -143,7 +143,45 @@ b
 ",
 );
 
-const ROWS: &[AdoptionRow] = &[TAKEN_UP, PARTLY, LEFT_ALONE, BEHIND_A_LINK];
+// dpkg configured packages that this program unpacked, or of which it removed files, and kept its fields.
+const CONFIGURED_BY_DPKG: AdoptionRow = (
+    &[
+        "write /var/lib/dpkg/status Package: alpha\nStatus: install ok triggers-awaited\nVersion: 1\nTriggers-Awaited: menu\nRemoved-Since: yes\n\nPackage: bravo\nStatus: install ok half-configured\nVersion: 2\nConfig-Version: 1\nRemoved-Since: yes\n\nPackage: zulu\nStatus: hold reinstreq installed\nVersion: 1\nConffiles:\n /etc/z.conf 92eb5ffee6ae2fec3ad71c777531578f\nNew-Conffiles:\n /etc/z.conf 92eb5ffee6ae2fec3ad71c777531578f\nRemoved-Since: yes\n",
+        "write /var/lib/dpkg/info/alpha.list /.\n",
+        "write /var/lib/dpkg/info/bravo.list /.\n",
+        LIST,
+        NEW,
+    ],
+    &[COMMAND, STATUS],
+    "refused absent Unknown
+||1
+Package: alpha
+Status: install ok triggers-awaited
+Version: 1
+Triggers-Awaited: menu
+
+Package: bravo
+Status: install ok half-configured
+Version: 2
+Config-Version: 1
+Removed-Since: yes
+
+Package: zulu
+Status: hold reinstreq installed
+Version: 1
+Conffiles:
+ /etc/z.conf 92eb5ffee6ae2fec3ad71c777531578f
+
+",
+);
+
+const ROWS: &[AdoptionRow] = &[
+    TAKEN_UP,
+    PARTLY,
+    LEFT_ALONE,
+    BEHIND_A_LINK,
+    CONFIGURED_BY_DPKG,
+];
 
 #[test]
 fn what_dpkg_left_unsettled_is_taken_up(rt: HostRuntime) -> Result<(), Fail> {

@@ -97,7 +97,66 @@ refused alpha Depends common:i386 (>= 1)
 ||1
 ";
 
+// A root of packages of two architectures, as it stands and by a note.
+const OF_TWO: &str =
+    "write /var/lib/dpkg/status Package: common\nStatus: install ok installed\nArchitecture: all\nVersion: 1\n\nPackage: delta\nStatus: install ok installed\nArchitecture: amd64\nVersion: 1\n\nPackage: echo\nStatus: deinstall ok config-files\nArchitecture: i386\nVersion: 1\n\nPackage: foxtrot\nStatus: install ok unpacked\nArchitecture: amd64\nVersion: 1\n";
+
+const NOTED: &str =
+    "write /var/lib/dpkg/updates/0000 Package: echo\nStatus: install ok installed\nArchitecture: i386\nVersion: 2\n";
+
+const COMMON_LIST: &str = "write /var/lib/dpkg/info/common.list /.\n";
+
+const DELTA_LIST: &str = "write /var/lib/dpkg/info/delta.list /.\n";
+
+const FOXTROT_LIST: &str = "write /var/lib/dpkg/info/foxtrot.list /.\n";
+
+const IS_OF_TWO: &str = "|damaged /var/lib/dpkg/status 11
+expected: a field of a package's record, \"Name: value\", once and with a value that can be read; packages of one architecture
+|2
+echo config-files ok
+foxtrot unpacked ok
+||0
+common 1 installed
+delta 1 installed
+echo 1 config-files
+foxtrot 1 unpacked
+||0
+";
+
+const IS_OF_TWO_BY_A_NOTE: &str = "echo installed ok
+||0
+directory: 0000
+|damaged /var/lib/dpkg/status 13
+expected: a field of a package's record, \"Name: value\", once and with a value that can be read; packages of one architecture
+|2
+directory:
+";
+
 const ROWS: &[ArchitectureRow] = &[
+    (
+        &[OF_TWO, COMMON_LIST, DELTA_LIST, FOXTROT_LIST],
+        &[
+            "dpkg_cli configure foxtrot",
+            "dpkg_cli audit",
+            "dpkg_cli list",
+        ],
+        IS_OF_TWO,
+    ),
+    (
+        &[
+            STATUS,
+            NOTED,
+            COMMON_LIST,
+            DELTA_LIST,
+            "write /var/lib/dpkg/info/echo.list /.\n",
+        ],
+        &[
+            "dpkg_cli audit",
+            "dpkg_cli remove delta",
+            "read /var/lib/dpkg/updates",
+        ],
+        IS_OF_TWO_BY_A_NOTE,
+    ),
     (&[STATUS], &["dpkg_cli unpack amd64"], DONE),
     (&[STATUS], &["dpkg_cli unpack all"], DONE),
     (&[STATUS], &["dpkg_cli unpack none"], DONE),

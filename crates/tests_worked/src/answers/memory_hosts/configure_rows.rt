@@ -147,6 +147,48 @@ cc 1 unpacked
 ",
 );
 
+// Where Depends are ignored the first of those left over goes, and what it lets go in order is behind it.
+const UNMET_IGNORED: PackageRow = (
+    &[NO_LOOP, AA_POSTINST, BB_POSTINST],
+    &[SUCCEEDS, FAILS],
+    &["dpkg_cli configure --force-depends cc bb aa"],
+    "call old aa postinst configure \"\": exit 0
+state aa 1 install ok installed
+done
+call old bb postinst configure \"\": exit 1
+state bb 1 install ok half-configured
+failed bb postinst configure \"\"
+state cc 1 install ok installed
+done
+||1
+",
+);
+
+const IN_ORDER_FIRST: &str =
+    "write /var/lib/dpkg/status Package: aa\nStatus: install ok unpacked\nVersion: 1\nDepends: bb\n\nPackage: bb\nStatus: install ok unpacked\nVersion: 1\nPre-Depends: mm\n\nPackage: cc\nStatus: install ok unpacked\nVersion: 1\n\nPackage: dd\nStatus: install ok unpacked\nVersion: 1\nDepends: mm\n\nPackage: ee\nStatus: install ok unpacked\nVersion: 1\nDepends: dd\n\nPackage: ff\nStatus: install ok installed\nVersion: 1\nBreaks: dd\n";
+
+const IGNORED: PackageRow = (
+    &[IN_ORDER_FIRST],
+    &[],
+    &[
+        "dpkg_cli configure bb cc",
+        "dpkg_cli configure --force-depends",
+    ],
+    "state cc 1 install ok installed
+done
+refused bb Depends mm
+||1
+state aa 1 install ok installed
+done
+state bb 1 install ok installed
+done
+refused dd BrokenBy ff
+state ee 1 install ok installed
+done
+||1
+",
+);
+
 const ZULU: &str =
     "write /var/lib/dpkg/status Package: zulu\nStatus: install ok installed\nVersion: 1\nConffiles:\n /etc/z.conf 0cc175b9c0f1b6a831c399e269772661\n";
 
@@ -295,6 +337,8 @@ const ROWS: &[PackageRow] = &[
     REFUSED,
     ROUND,
     UNMET,
+    UNMET_IGNORED,
+    IGNORED,
     INSTALLED,
     NO_FILE,
     SOME_INSTALLED,

@@ -244,7 +244,7 @@ fn check_reading(
         return check_no_answer(rt);
     };
     let text = text.as_str();
-    let is_want = text == "NoMemory" || text == "paragraph\nNoMemory";
+    let is_want = text == "NoMemory";
     assert!(rt; text == row || is_want && is_refusing(rt), "{text}");
 }
 

@@ -108,12 +108,12 @@ directory: alpha.list alpha:amd64.list bravo.list format
 );
 
 const ASKED_LEFT: NameRow = (
-    &[RECORDS, LONG, OTHER],
-    &["dpkg_cli listfiles alpha", "dpkg_cli search /opt/a", READ],
+    &[RECORDS, LONG, SHORT],
+    &["dpkg_cli listfiles alpha", READ],
     "/.
 /opt
+/opt/a
 ||0
-||1
 directory: alpha.list alpha:amd64.list
 ",
 );
@@ -140,6 +140,19 @@ directory: alpha.list alpha:amd64.list format
 ",
 );
 
+const ASKED_OTHER: NameRow = (
+    &[RECORDS, LONG, OTHER],
+    &["dpkg_cli listfiles alpha", "dpkg_cli audit", READ],
+    "|damaged /var/lib/dpkg/info/alpha:amd64.list 0
+expected: a file of a package whose name has no architecture
+|2
+|damaged /var/lib/dpkg/info/alpha:amd64.list 0
+expected: a file of a package whose name has no architecture
+|2
+directory: alpha.list alpha:amd64.list
+",
+);
+
 const ASKED_UNKNOWN: NameRow = (
     &[RECORDS, "write /var/lib/dpkg/info/format 2\n", LONG],
     &["dpkg_cli audit", READ],
@@ -160,7 +173,7 @@ directory: alpha.list alpha.postrm
 );
 
 const LEFT_BESIDE: NameRow = (
-    &[RECORDS, LONG, OTHER],
+    &[RECORDS, LONG, SHORT],
     &[
         "dpkg_cli unpack next",
         READ,
@@ -172,6 +185,17 @@ done
 directory: alpha.list
 /.
 
+",
+);
+
+// Another file there, as where somebody wrote it behind that.
+const OTHER_LEFT: NameRow = (
+    &[RECORDS, LONG, OTHER, SCRIPT],
+    &["dpkg_cli unpack next", READ],
+    "|damaged /var/lib/dpkg/info/alpha:amd64.list 0
+expected: a file of a package whose name has no architecture
+|2
+directory: alpha.list alpha:amd64.list alpha:amd64.postrm
 ",
 );
 
@@ -204,17 +228,16 @@ directory: alpha.list format
 ",
 );
 
-// A name of a package without a record, and one of another architecture than the record's.
+// Names that are nobody's list are left alone: of a package without a record, and of another architecture than the record's.
 const OF_NOBODY: NameRow = (
     &[
         RECORDS,
         FORMAT,
-        "write /var/lib/dpkg/info/gone:amd64.list /.\n",
+        "write /var/lib/dpkg/info/gone:amd64.list no list\n",
     ],
-    &[CONFIGURE, READ],
-    "|damaged /var/lib/dpkg/info/gone:amd64.list 0
-expected: a file of a package whose name has no architecture
-|2
+    &[CONFIGURE, "dpkg_cli search /opt/a", READ],
+    "||0
+||1
 directory: gone:amd64.list
 ",
 );
@@ -225,11 +248,44 @@ const OF_ANOTHER: NameRow = (
         FORMAT,
         "write /var/lib/dpkg/info/alpha:arm64.list /.\n",
     ],
-    &[CONFIGURE, READ],
-    "|damaged /var/lib/dpkg/info/alpha:arm64.list 0
+    &[CONFIGURE, "dpkg_cli unpack next", READ],
+    "||0
+state alpha 2 install ok unpacked
+done
+||0
+directory: alpha.list alpha:arm64.list
+",
+);
+
+// In format 0 dpkg doesn't read one that stands alone, and it stays: beside what its package gets later it is damage.
+const ALONE: NameRow = (
+    &[RECORDS, LONG],
+    &[
+        "dpkg_cli search /opt/a",
+        CONFIGURE,
+        READ,
+        "dpkg_cli unpack next",
+        CONFIGURE,
+    ],
+    "||1
+||0
+directory: alpha:amd64.list
+state alpha 2 install ok unpacked
+done
+||0
+|damaged /var/lib/dpkg/info/alpha:amd64.list 0
 expected: a file of a package whose name has no architecture
 |2
-directory: alpha:arm64.list
+",
+);
+
+// A directory is damage at any name.
+const DIRECTORY: NameRow = (
+    &[RECORDS, "write /var/lib/dpkg/info/gone:amd64.list/a a"],
+    &[CONFIGURE],
+    "|damaged /var/lib/dpkg/info/gone:amd64.list 0
+expected: a file of a package whose name has no architecture
+|2
 ",
 );
 
@@ -239,14 +295,18 @@ const ROWS: &[NameRow] = &[
     ASKED_BESIDE,
     ASKED_LEFT,
     ASKED_CLASH,
+    ASKED_OTHER,
     ASKED_UNKNOWN,
     GIVEN,
     LEFT_BESIDE,
+    OTHER_LEFT,
     CLASH,
     UNKNOWN,
     UNKNOWN_WITHOUT,
     OF_NOBODY,
     OF_ANOTHER,
+    ALONE,
+    DIRECTORY,
 ];
 
 #[test]

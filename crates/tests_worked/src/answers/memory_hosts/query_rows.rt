@@ -61,6 +61,9 @@ const DIVERTED: &[&str] = &[
     "dpkg_cli search /usr/bin/v",
     "dpkg_cli search /usr/bin/v.real",
     "dpkg_cli search /usr/bin",
+    "dpkg_cli search */v",
+    "dpkg_cli search /usr?bin/*",
+    "dpkg_cli search */v.real*",
     "dpkg_cli truename /usr/bin/v",
     "dpkg_cli truename --package bravo /usr/bin/w",
     "dpkg_cli truename --package victor /usr/bin/w",
@@ -77,6 +80,12 @@ victor: /usr/bin/v
 ||0
 victor: /usr/bin
 ||0
+victor: /usr/bin/v
+||0
+victor: /usr/bin/v
+victor: /usr/bin/w
+||0
+||1
 /usr/bin/v.real
 ||0
 /usr/bin/w
@@ -137,7 +146,7 @@ fn damage_is_told_in_place_of_an_answer(rt: HostRuntime) -> Result<(), Fail> {
 expected: three lines for each diversion: a path, its target, and a package or :
 |2
 |damaged /var/lib/dpkg/status 2
-expected: a field of a package's record, \"Name: value\", once and with a value that can be read
+expected: a field of a package's record, \"Name: value\", once and with a value that can be read; packages of one architecture
 |2
 |bad path a
 |2
@@ -255,7 +264,7 @@ expected: three lines for each diversion: a path, its target, and a package or :
 expected: three lines for each diversion: a path, its target, and a package or :
 |2
 |damaged /var/lib/dpkg/status 1
-expected: a field of a package's record, \"Name: value\", once and with a value that can be read
+expected: a field of a package's record, \"Name: value\", once and with a value that can be read; packages of one architecture
 |2
 ||0
 ";

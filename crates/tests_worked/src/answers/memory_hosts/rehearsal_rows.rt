@@ -227,6 +227,38 @@ directory: v w.real
 ",
 );
 
+// A file that another package takes over, one that goes, and a conffile that was edited and stays.
+const CHANGED: DryRow = (
+    &[
+        "write /var/lib/dpkg/status Package: gamma\nStatus: install ok installed\nVersion: 1\n\nPackage: zulu\nStatus: install ok installed\nVersion: 1\nConffiles:\n /etc/z.conf 0cc175b9c0f1b6a831c399e269772661\n",
+        "write /var/lib/dpkg/info/gamma.list /.\n/usr\n/usr/bin\n/usr/bin/w\n/usr/bin/x\n",
+        "write /var/lib/dpkg/info/zulu.list /.\n/etc\n/etc/z.conf\n/opt\n/opt/z\n/opt/z/bin\n",
+        "write /usr/bin/w old",
+        "write /usr/bin/x old",
+        "write /etc/z.conf mine",
+        "write /opt/z/bin z",
+        "write /opt/z/note mine",
+    ],
+    &[
+        "dpkg_cli unpack --dry-run --changes replacing",
+        "dpkg_cli remove --dry-run --changes zulu",
+        "read /opt/z",
+    ],
+    "dry run
+state alpha 2.0 install ok unpacked
+done
+replace /usr/bin/x alpha
+||0
+dry run
+state zulu 1 deinstall ok config-files
+done
+remove /opt/z/bin zulu
+keep /etc/z.conf edited
+||0
+directory: bin note
+",
+);
+
 const ROWS: &[DryRow] = &[
     NEW,
     UPGRADE,
@@ -235,6 +267,7 @@ const ROWS: &[DryRow] = &[
     DISAPPEARING,
     REMOVED,
     DIVERTED,
+    CHANGED,
 ];
 
 // Adds that a root isn't as it was: so many steps were made on it and calls of its scripts.

@@ -75,9 +75,9 @@ Package: zulu
 Status: deinstall ok config-files
 Version: 1
 Config-Version: 1
-Removed-Since: yes
 Conffiles:
  /etc/z.conf 0cc175b9c0f1b6a831c399e269772661
+Removed-Since: yes
 ||0
 refused zulu NothingToRemove
 ||1
@@ -274,6 +274,28 @@ refused gamma DependedOn echo
 ",
 );
 
+// Where it is ignored that others depend on them all go, in order as far as that goes.
+const DEPENDED_ON_IGNORED: RemovalRow = (
+    ECHO_WITH_SCRIPTS,
+    &[FAILS],
+    &[
+        "dpkg_cli remove --force-depends gamma echo foxtrot",
+        "dpkg_cli list",
+    ],
+    "call old echo prerm remove: exit 1
+call old echo postinst abort-remove: exit 0
+state echo 1 install ok installed
+failed echo prerm remove
+state foxtrot none
+done
+state gamma none
+done
+||1
+echo 1 installed
+||0
+",
+);
+
 // One that is only half-configured then needs nothing any more.
 const HALF_CONFIGURED: RemovalRow = (
     ECHO_WITH_SCRIPTS,
@@ -427,6 +449,7 @@ const ROWS: &[RemovalRow] = &[
     REFUSED,
     DEPENDED_ON,
     STAYS_INSTALLED,
+    DEPENDED_ON_IGNORED,
     HALF_CONFIGURED,
     CHAIN,
     SHARED,

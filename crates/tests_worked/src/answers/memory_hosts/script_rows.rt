@@ -326,7 +326,7 @@ pub(crate) const DAMAGING: &str = "write /var/lib/dpkg/status Package: alpha\nSt
 
 /// What is told of it.
 pub(crate) const DAMAGED: &str = "|damaged /var/lib/dpkg/status 2\n\
-expected: a field of a package's record, \"Name: value\", once and with a value that can be read\n|2\n";
+expected: a field of a package's record, \"Name: value\", once and with a value that can be read; packages of one architecture\n|2\n";
 
 #[test]
 fn line_without_colon_is_damage(rt: HostRuntime) -> Result<(), Fail> {
@@ -360,7 +360,7 @@ const DAMAGES: &[(&str, u64)] = &[
 ];
 
 const FIELD: &str =
-    "expected: a field of a package's record, \"Name: value\", once and with a value that can be read";
+    "expected: a field of a package's record, \"Name: value\", once and with a value that can be read; packages of one architecture";
 
 // Stops the test where a status file isn't told as damaged at this line, or is another then.
 fn check_damage(rt: &(impl Abort + AllocGlobal), status: &str, line: u64) -> Result<(), Fail> {

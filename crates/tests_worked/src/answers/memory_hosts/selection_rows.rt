@@ -57,6 +57,30 @@ charlie\t\t\t\t\t\tdeinstall
 ",
 );
 
+// Packages are told once and in the order of their names, whatever the patterns; one that matches none is told first.
+const MATCHED: SelectionRow = (
+    &[INSTALLED],
+    &[
+        "dpkg_cli selections bravo *a* ?lpha",
+        "dpkg_cli list x* ravo brav? \\alpha *",
+        "dpkg_cli list c*e",
+        "dpkg_cli selections c*e",
+    ],
+    "alpha\t\t\t\t\t\tinstall
+bravo\t\t\t\t\t\tinstall
+||0
+refused x* Unknown
+refused ravo Unknown
+alpha 1 installed
+bravo 1 installed
+charlie 1 installed
+||1
+charlie 1 installed
+||0
+||0
+",
+);
+
 // Names of 7, 8, 39, 40 and 48 bytes, as dpkg prints them.
 const COLUMNS: SelectionRow = (
     &[
@@ -185,6 +209,7 @@ gamma\t\t\t\t\t\tpurge
 
 const ROWS: &[SelectionRow] = &[
     SELECTED,
+    MATCHED,
     COLUMNS,
     WITH_TRIGGERS,
     REHEARSED,

@@ -67,8 +67,8 @@ Package: aw
 Status: install ok triggers-awaited
 Version: 2
 Config-Version: 1
-Triggers-Awaited: pend both:amd64
 Description: a
+Triggers-Awaited: pend both:amd64
 ||0
 cut up unpacked ok
 ||1
@@ -162,8 +162,8 @@ Package: aw
 Status: install ok triggers-awaited
 Version: 2
 Config-Version: 1
-Triggers-Awaited: pend both:amd64
 Description: a
+Triggers-Awaited: pend both:amd64
 
 Package: both
 Status: install ok triggers-awaited
@@ -269,7 +269,7 @@ const DAMAGED: &[(&str, &str)] = &[
 
 // What is told of a damaged status file behind its line.
 const EXPECTED: &str =
-    "expected: a field of a package's record, \"Name: value\", once and with a value that can be read";
+    "expected: a field of a package's record, \"Name: value\", once and with a value that can be read; packages of one architecture";
 
 #[test]
 fn triggers_that_a_state_has_not_are_damage(rt: HostRuntime) -> Result<(), Fail> {

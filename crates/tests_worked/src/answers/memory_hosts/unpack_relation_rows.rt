@@ -173,6 +173,37 @@ echo 1 installed
 ",
 );
 
+// As dpkg does: Pre-Depends are ignored, what depends on a package that has to go stays as it is, and Breaks is heeded.
+const IGNORED: RelationRow = (
+    &[
+        "write /var/lib/dpkg/status Package: bravo\nStatus: install ok installed\nVersion: 1\n\nPackage: delta\nStatus: install ok installed\nVersion: 1\n\nPackage: echo\nStatus: install ok installed\nVersion: 1\nDepends: delta\n",
+        "write /var/lib/dpkg/info/echo.prerm #!/bin/sh\n",
+    ],
+    &[
+        "dpkg_cli unpack --force-depends breaks",
+        "dpkg_cli unpack --force-depends conflicts",
+        "dpkg_cli unpack --force-depends needs",
+        "dpkg_cli unpack --force-depends --auto-deconfigure displaces",
+        "dpkg_cli list",
+    ],
+    "refused alpha Breaks bravo
+||1
+refused alpha Conflicts delta
+||1
+state alpha 2.0 install ok unpacked
+done
+||0
+state alpha 2.0 install ok unpacked
+state delta none
+done
+||0
+alpha 2.0 unpacked
+bravo 1 installed
+echo 1 installed
+||0
+",
+);
+
 const BREAKS: RelationRow = (
     &[BRAVO, "write /var/lib/dpkg/info/bravo.prerm #!/bin/sh\n"],
     &["dpkg_cli unpack breaks", "dpkg_cli list"],
@@ -272,6 +303,7 @@ const ROWS: &[RelationRow] = &[
     CONFLICTS_WITH_A_MARKED_ONE,
     ESSENTIAL,
     DEPENDENTS,
+    IGNORED,
     BREAKS,
     BREAKS_A_LATER_ONE,
     ONE_BY_ONE,

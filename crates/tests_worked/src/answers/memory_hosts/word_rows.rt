@@ -38,7 +38,8 @@ pub(crate) const FAULTS: &[&str] = &[
     "dpkg_cli remove-selected alpha",
     "dpkg_cli remove-selected --triggers-only",
     "dpkg_cli remove-selected --root rel",
-    "dpkg_cli selections alpha",
+    "dpkg_cli selections a[",
+    "dpkg_cli search /usr/*\\",
     "dpkg_cli compare-versions 1 is 1",
     "dpkg_cli list --root rel",
     "dpkg_cli status",
@@ -212,6 +213,14 @@ const FAULTS_BY_WORD: &[(&str, &str)] = &[
     (
         "dpkg_cli select bravo",
         "PKG=WANT: \"bravo\" has none of install hold deinstall purge behind its last =",
+    ),
+    (
+        "dpkg_cli list alpha b[c]",
+        "PATTERN: \"b[c]\" has a [ without a backslash before it, or a backslash at its end",
+    ),
+    (
+        "dpkg_cli search */b[c]",
+        "PATH: \"*/b[c]\" has a [ without a backslash before it, or a backslash at its end",
     ),
     (
         "dpkg_cli help fetch",

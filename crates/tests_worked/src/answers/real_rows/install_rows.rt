@@ -137,3 +137,124 @@ second
 fn a_candidate_that_is_removed_is_not_configured(rt: HostRuntime) -> Result<(), Fail> {
     check(&rt, CONFLICTING)
 }
+
+// Removed in favour of the second, whose conffile is at the same path: as the administrator left it, or edited.
+const FIRST: Deed = Deed {
+    before: "mkdir root
+>started
+tree first bb 1
+mkdir -p first/etc first/opt
+echo one >first/etc/z.conf
+echo b >first/opt/b
+echo /etc/z.conf >first/DEBIAN/conffiles",
+    words: "install",
+    tree: "first",
+    calls: "",
+    rest: "state bb 1 install ok unpacked
+done
+state bb 1 install ok installed
+done
+||0
+",
+    look: LOOK,
+    left: "./etc/z.conf
+one
+./opt/b
+b
+",
+};
+
+const SECOND_INSTALLED: &str = "state aa 1 install ok unpacked
+state bb none
+done
+state aa 1 install ok installed
+done
+||0
+";
+
+const RENAMED: &[Deed] = &[
+    FIRST,
+    Deed {
+        before: "tree second aa 1
+printf 'Conflicts: bb\\nReplaces: bb\\n' >>second/DEBIAN/control
+mkdir -p second/etc
+echo two >second/etc/z.conf
+echo /etc/z.conf >second/DEBIAN/conffiles",
+        words: "install",
+        tree: "second",
+        calls: "",
+        rest: SECOND_INSTALLED,
+        look: LOOK,
+        left: "./etc/z.conf
+two
+",
+    },
+];
+
+const RENAMED_AND_EDITED: &[Deed] = &[
+    FIRST,
+    Deed {
+        before: "echo edited >root/etc/z.conf
+tree second aa 1
+printf 'Conflicts: bb\\nReplaces: bb\\n' >>second/DEBIAN/control
+mkdir -p second/etc
+echo two >second/etc/z.conf
+echo /etc/z.conf >second/DEBIAN/conffiles",
+        words: "install",
+        tree: "second",
+        calls: "",
+        rest: SECOND_INSTALLED,
+        look: LOOK,
+        left: "./etc/z.conf
+edited
+./etc/z.conf.dpkg-dist
+two
+",
+    },
+];
+
+// Only conffiles of the first package are left, and the second has no relation to it.
+const AFTER_A_REMOVAL: &[Deed] = &[
+    FIRST,
+    Deed {
+        before: "",
+        words: "remove bb",
+        tree: "",
+        calls: "",
+        rest: "state bb 1 deinstall ok config-files
+done
+||0
+",
+        look: LOOK,
+        left: "./etc/z.conf
+one
+",
+    },
+    Deed {
+        before: "tree second aa 1
+mkdir -p second/etc
+echo two >second/etc/z.conf
+echo /etc/z.conf >second/DEBIAN/conffiles",
+        words: "install",
+        tree: "second",
+        calls: "",
+        rest: "state aa 1 install ok unpacked
+state bb 1 deinstall ok config-files
+done
+state aa 1 install ok installed
+done
+||0
+",
+        look: LOOK,
+        left: "./etc/z.conf
+two
+",
+    },
+];
+
+#[test]
+fn a_conffile_of_a_renamed_package_is_updated(rt: HostRuntime) -> Result<(), Fail> {
+    check(&rt, RENAMED)?;
+    check(&rt, RENAMED_AND_EDITED)?;
+    check(&rt, AFTER_A_REMOVAL)
+}

@@ -1,4 +1,5 @@
 // Packages are installed, upgraded, removed and purged on real files, with real scripts.
+mod dpkg_rows;
 mod owner_rows;
 
 use super::{NEW_DIRECTORY, RealHosts, is_refused, shell};

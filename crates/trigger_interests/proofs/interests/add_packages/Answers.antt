@@ -8,8 +8,8 @@ use Rattle.trigger_interests.specs.Interests.{declared, interests_by, interests_
 use Rattle.trigger_interests.specs.declared.interests.Interest.{Interest}
 use Rattle.trigger_interests.proofs.interests.add_packages.Goals as goal
 
-pub returns-in_err-add_package-clause-reads : goal.returns-in_err-add_package-clause-reads
-returns-in_err-add_package-clause-reads g c = reads_then _ _ _ c.loop-package.invariant.reads c.add_package.ensures.reads
+pub returns-in_err-add_interests_as-clause-reads : goal.returns-in_err-add_interests_as-clause-reads
+returns-in_err-add_interests_as-clause-reads g c = reads_then _ _ _ c.loop-package.invariant.reads c.add_interests_as.ensures.reads
 
 -- those of one more
 one_more : (w v : World) (names : List (List ℕ)) (i : ℕ) (name : List ℕ) (before found now : List Interest) → v ≡ w → i < length names → name ≡ get_or names i name
@@ -23,9 +23,9 @@ pub loop-package-preserved : goal.loop-package-preserved
 loop-package-preserved g c =
     let inv = c.loop-package.invariant in
     record {
-      so_far = λ honest. one_more (g.H.Host.state c.args.host.now).world _ c.args.packages.now c.loop-package.package-index c.package-item.result c.args.found.now.items c.loop-package.found.items c.add_package.new.found.items
-          inv.reads.world c.loop-package-test.true c.package-item.is (inv.so_far (c.add_package.ensures.reads.honest honest)) (c.in_ok-add_package.ensures.added honest);
-      reads = reads_then _ _ _ inv.reads c.add_package.ensures.reads;
-      silent = silent_then _ _ _ inv.silent c.add_package.ensures.silent;
-      faults_same = no_fault_then _ _ _ inv.faults_same c.in_ok-add_package.ensures.counts;
+      so_far = λ honest. one_more (g.H.Host.state c.args.host.now).world _ c.args.packages.now c.loop-package.package-index c.package-item.result c.args.found.now.items c.loop-package.found.items c.add_interests_as.new.found.items
+          inv.reads.world c.loop-package-test.true c.package-item.is (inv.so_far (c.add_interests_as.ensures.reads.honest honest)) (c.in_ok-add_interests_as.ensures.added honest);
+      reads = reads_then _ _ _ inv.reads c.add_interests_as.ensures.reads;
+      silent = silent_then _ _ _ inv.silent c.add_interests_as.ensures.silent;
+      faults_same = no_fault_then _ _ _ inv.faults_same c.in_ok-add_interests_as.ensures.counts;
     }

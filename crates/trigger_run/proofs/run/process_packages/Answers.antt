@@ -8,7 +8,7 @@ use Rattle.trigger_run.proofs.run.process_packages.Goals as goal
 
 pub returns-in-Ok-clause-any_moment : goal.returns-in-Ok-clause-any_moment
 returns-in-Ok-clause-any_moment g c =
-    subst (λ (names : List (List ℕ)). Since (IsAmidTurns names (held_by c.args.administration.now c.args.diversions.now) (g.H.Host.state c.args.host.now)) (g.H.Host.state c.args.host.now) (g.H.Host.state c.process_each.new.host)) c.in-Ok.ensures.waiting c.process_each.ensures.any_moment
+    subst (λ (names : List (List ℕ)). Since (IsAmidTurns names (held_by c.args.administration.now c.args.diversions.now) (g.H.Host.state c.args.host.now)) (g.H.Host.state c.args.host.now) (g.H.Host.state c.process_each.new.host)) c.in-Ok.ensures c.process_each.ensures.any_moment
 
 pub returns-in-Err-clause-part : goal.returns-in-Err-clause-part
 returns-in-Err-clause-part g c =

@@ -3,4 +3,4 @@ use Rattle.trigger_watch.specs.Activations.{activated}
 use Rattle.trigger_watch.proofs.activating.activated.Given as goal
 
 abbrev pub invariant-loop-interest : goal.invariant-loop-interest
-invariant-loop-interest l = l.found.items ≡ activated l.before l.now l.touched (take l.interest-index l.interests)
+invariant-loop-interest l = l.found.items ≡ activated l.hits (take l.interest-index l.interests)

@@ -20,10 +20,9 @@ returns-in-Ok g c =
     record {
       looks = record {
         found = λ honest. record {
-          interests = c.in_ok-interests.ensures.looks.found (then.reads.honest honest) ∙ ap (λ (rs : List Record). interests_of w (installed rs)) c.records.ensures;
           before = c.in-Ok.ensures.looks.found honest ∙ ap (λ (u : World). hits_of u lists by_files c.as_slice.result.now (names_of c.records-2.result.now)) first.reads.world
-              ∙ ap (λ (is : List Interest). hits_of w lists by_files is (names_of c.records-2.result.now)) c.as_slice.ensures.value
-              ∙ ap (λ (rs : List Record). hits_of w lists by_files c.in_ok-interests.interests.items (names_of rs)) c.records-2.ensures;
+              ∙ ap (λ (is : List Interest). hits_of w lists by_files is (names_of c.records-2.result.now)) (c.as_slice.ensures.value ∙ c.in_ok-interests.ensures.looks.found (then.reads.honest honest) ∙ ap (λ (rs : List Record). interests_of w (installed rs)) c.records.ensures)
+              ∙ ap (λ (rs : List Record). hits_of w lists by_files (interests_of w (installed c.args.database.now.records)) (names_of rs)) c.records-2.ensures;
         };
         reads = reads_then _ _ _ first.reads then.reads;
         silent = silent_then _ _ _ first.silent then.silent;
@@ -31,8 +30,8 @@ returns-in-Ok g c =
       };
     }
 
-pub returns-in-Err : goal.returns-in-Err
-returns-in-Err g c =
+pub returns : goal.returns
+returns g c =
     let first = c.read_installed.ensures.looks in
     let then = c.read_recorded.ensures.looks in
     record {

@@ -15,6 +15,7 @@ returns-clause-planned c =
       ways = c.args.diversions.now.ways;
       stored = c.args.stored;
       others = c.args.others.packages.items;
+      yields = c.args.others.yields;
     } in
     subst (IsPlanned job) (sym c.plan_from.ensures.planned) (record {
       records_are = records_planned _ _ _ calls.found p.named c.get-found.ensures calls.incoming calls.fresh;

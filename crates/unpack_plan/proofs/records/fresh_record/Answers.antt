@@ -9,6 +9,7 @@ use Rattle.package_tree.specs.ShipMap.{paths_of}
 use Rattle.package_tree.specs.Shipped.{AreInOrder}
 use Rattle.package_tree.specs.declared.shipped.Shipped.{Shipped}
 use Rattle.unpack_plan.specs.Records.{entries_of, is_shipped}
+use Rattle.unpack_plan.specs.Yielded.{counted_entries}
 use Rattle.unpack_plan.proofs.Fresh.{is_fresh, same_digests, same_entries}
 use Rattle.unpack_plan.proofs.Recordable.{recordable}
 use Rattle.unpack_plan.proofs.records.fresh_record.Goals as goal
@@ -32,5 +33,5 @@ returns c =
     let shipped = contains_text c.in_ok-shipped_texts.field-0 in
     let told = same_digests c.in_ok-digests.digests c.as_slice.result.now tree.conffiles c.as_slice-files.result.now tree.files c.in_ok-digests.ensures c.as_slice.ensures c.as_slice-files.ensures in
     let ships : (q : Path) → shipped q ≡ is_shipped tree.files q = λ q. c.in_ok-shipped_texts.ensures q ∙ ap (λ (fs : List Shipped). is_shipped fs q) c.as_slice-files.ensures in
-    let entries = same_entries (entries_of found) c.in_ok-entries.entries c.in_ok-digests.digests c.as_slice-2.result.now tree.flagged shipped (is_shipped tree.files) c.in_ok-entries.ensures c.as_slice-2.ensures ships in
-    is_fresh tree found c.in_ok-record.record c.in_ok-entries.entries c.in_ok-digests.digests c.in_ok-record.ensures told entries
+    let entries = same_entries (counted_entries c.args.giving.now (entries_of found) c.in_ok-digests.digests) c.in_ok-entries.entries c.in_ok-digests.digests c.as_slice-2.result.now tree.flagged shipped (is_shipped tree.files) c.in_ok-entries.ensures c.as_slice-2.ensures ships in
+    is_fresh c.args.giving.now tree found c.in_ok-record.record c.in_ok-entries.entries c.in_ok-digests.digests c.in_ok-record.ensures told entries

@@ -15,7 +15,7 @@ returns-clause-checked c = λ records are.
     ap (λ (r : Option (List ℕ)). other_architecture r own) (sym root) ∙ ap (other_architecture (option_copied c.root_architecture-root.result)) (sym c.architecture_of.ensures)
     ∙ sym c.other_architecture.ensures ∙ ap option_copied c.in_default.is
     in
-    subst (λ (o : Option (List ℕ)). IsCheckedUnless o records tree c.args.auto_deconfigure c.in_ok-checked.checked) (sym told) (
+    subst (λ (o : Option (List ℕ)). IsCheckedUnless o records tree c.args.options c.in_ok-checked.checked) (sym told) (
       c.args.packages.now,
       c.in_ok-package.package,
       are,

@@ -1,23 +1,30 @@
-use Rattle.std.proofs.Common.{◌≡◌, subst, sym}
+use Rattle.std.proofs.Common.{None, inl, subst, sym, ◌∙◌}
+use Rattle.std.proofs.lemmas.Bool.{true≢false}
 use Rattle.std.specs.Prelude.{IfSome}
-use Rattle.dependency_check.specs.Waiting.{Waiting, IsConfigurableNow, IsNextOfConfigurable}
+use Rattle.dependency_check.specs.Waiting.{IsConfigurableNow, IsNextOfConfigurable}
 use Rattle.dependency_sets.specs.Sets.{has}
-use Rattle.configure_run.proofs.Members.{next_member, none_is_member}
+use Rattle.configure_run.proofs.Members.{out_of_turn}
 use Rattle.configure_run.proofs.queue.Queue.next.Goals as goal
 
-pub returns-clause-next : goal.returns-clause-next
-returns-clause-next c =
-    let same : c.args.self.now ≡ c.self.inside.queue = sym c.self.view_is in
-    subst (λ (q : Waiting). IsNextOfConfigurable q (has c.args.silent.now) c.in_ok-next.next) (sym same) c.in_ok-next.ensures
+pub returns-in-Some-clause-next : goal.returns-in-Some-clause-next
+returns-in-Some-clause-next c =
+    let q = c.args.self.now in
+    inl (record {
+      next = subst (IsNextOfConfigurable q (has c.args.silent.now)) c.in-Some.is c.in_ok-number.ensures.next;
+      can = subst (λ o. IfSome o (IsConfigurableNow q)) c.in-Some.is c.in_ok-number.ensures.member;
+    })
 
-pub returns-clause-member : goal.returns-clause-member
-returns-clause-member c =
-    let same : c.args.self.now ≡ c.self.inside.queue = sym c.self.view_is in
-    subst (λ (q : Waiting). IfSome c.in_ok-next.next (IsConfigurableNow q)) (sym same)
-    (next_member c.self.inside.queue (has c.args.silent.now) (has c.members.result.now) c.in_ok-next.next c.members.ensures c.in_ok-next.ensures)
+pub returns-then-ignore_depends-clause-next : goal.returns-then-ignore_depends-clause-next
+returns-then-ignore_depends-clause-next c =
+    let q = c.args.self.now in
+    out_of_turn c.args.ignore_depends (has c.args.silent.now) q c.first_waiting.result c.if-ignore_depends.true
+    (subst (IsNextOfConfigurable q (has c.args.silent.now)) c.in-None.is c.in_ok-number.ensures.next) (c.in_ok-number.ensures.none_left c.in-None.is) c.first_waiting.ensures
 
-pub returns-clause-none_left : goal.returns-clause-none_left
-returns-clause-none_left c none x can =
-    let same : c.args.self.now ≡ c.self.inside.queue = sym c.self.view_is in
-    none_is_member c.self.inside.queue (has c.args.silent.now) (has c.members.result.now) c.members.ensures
-    (subst (λ o. IsNextOfConfigurable c.self.inside.queue (has c.args.silent.now) o) none c.in_ok-next.ensures) x (subst (λ (q : Waiting). IsConfigurableNow q x) same can)
+pub returns-else-ignore_depends-clause-next : goal.returns-else-ignore_depends-clause-next
+returns-else-ignore_depends-clause-next c = record {
+  none = subst (IsNextOfConfigurable c.args.self.now (has c.args.silent.now)) c.in-None.is c.in_ok-number.ensures.next;
+  ignored = λ so. absurd (true≢false (sym so ∙ c.if-ignore_depends.false));
+}
+
+pub returns-else-ignore_depends-clause-none_left : goal.returns-else-ignore_depends-clause-none_left
+returns-else-ignore_depends-clause-none_left c same = c.in_ok-number.ensures.none_left c.in-None.is

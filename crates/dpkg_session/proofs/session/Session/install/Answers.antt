@@ -1,9 +1,8 @@
-use Rattle.std.proofs.Common.{ap, sym, ◌∙◌}
+use Rattle.std.proofs.Common.{sym, ◌∙◌}
 use Rattle.dpkg_session.proofs.InstallStandings.{install_falls, install_standing}
 use Rattle.dpkg_session.proofs.Outlasting.{answered_stands}
 use Rattle.dpkg_session.proofs.Standings.{order_standing}
 use Rattle.dpkg_session.proofs.KeptPackages.{packages_kept, packages_known}
-use Rattle.diversions.specs.Diverted.{Diverted}
 use Rattle.unit_reports.specs.Held.{held_by}
 use Rattle.dpkg_session.proofs.session.Session.install.Goals as goal
 
@@ -25,7 +24,7 @@ invariant_of-self g c =
           install_standing _ _ _ _ _ _ _ _ _ whole h (c.args.self.now.ready c.if-self.false (install_falls _ _ _ _ _ _ _ _ _ whole h));
       opened = λ open_still. installed.open (sym c.is_broken-self.ensures ∙ open_still);
       indexed = λ open_still. packages_kept _ _ (installed.indexed (sym c.is_broken-self.ensures ∙ open_still));
-      writable = λ open_still. ap (λ (d : Diverted). d.closed) installed.kept ∙ c.args.self.now.writable c.if-self.false;
+      writable = λ open_still. installed.writable (c.args.self.now.writable c.if-self.false);
     }
 
 pub returns-clause-stands : goal.returns-clause-stands

@@ -1,35 +1,213 @@
-use Rattle.std.proofs.Common.{sym, ◌∙◌}
-use Rattle.dpkg_session.proofs.Carries.{carries_standing}
-use Rattle.dpkg_session.proofs.Removes.{removal_carries}
+use Rattle.std.proofs.Common.{ap, inl, inr, ◌∙◌}
+use Rattle.diversions.specs.Diverted.{Diverted}
+use Rattle.removal_run.specs.Run.{HasRun, IsAmidRun, IsRemovalRun}
+use Rattle.removal_run.specs.Extents.{removing}
+use Rattle.removal_run.specs.Selected.{selected_names}
+use Rattle.removal_run.specs.declared.extents.Extents.TheVariants.{Selected}
+use Rattle.unit_reports.specs.Held.{Held, held_by}
+use Rattle.host_core.specs.Host.{State}
+use Rattle.unit_reports.proofs.Counting.{last_from}
+use Rattle.dpkg_session.proofs.Again.{behind, behind_answered, behind_moments, behind_told, behind_watched, unread_closes, unread_last, unread_moments, unread_told, unread_watched}
 use Rattle.dpkg_session.proofs.Outlasting.{answered_stands, loses_like}
-use Rattle.dpkg_session.proofs.Standings.{order_standing}
-use Rattle.dpkg_session.proofs.KeptPackages.{packages_kept, packages_known}
-use Rattle.unit_reports.specs.Held.{held_by}
 use Rattle.dpkg_session.proofs.session.Session.remove_selected.Goals as goal
 
-pub remove_going-report-requires-clause-order : goal.remove_going-report-requires-clause-order
-remove_going-report-requires-clause-order g c = λ h. order_standing (held_by c.args.self.now.administration c.args.self.now.diversions) _ (c.args.self.now.ready c.if-self.false h)
+pub returns-in-None-clause-whole : goal.returns-in-None-clause-whole
+returns-in-None-clause-whole g c =
+    let before = held_by c.args.self.now.administration c.args.self.now.diversions in
+    let mid = held_by c.read_again.new.self.administration c.read_again.new.self.diversions in
+    let ways = c.read_again.new.self.diversions.ways in
+    let s = g.H.Host.state c.args.self.now.host in
+    let m = g.H.Host.state c.read_again.new.self.host in
+    let t = g.H.Host.state c.remove_read.new.self.host in
+    let done = c.remove_read.ensures in
+    λ open_before none. behind (λ (h : Held) (s : State). IsRemovalRun (selected_names h.records.records) (removing Selected c.args.ignore_depends) c.remove_read.result.units.items h (held_by c.remove_read.new.self.administration c.remove_read.new.self.diversions) s t) before mid ways s m c.in-None.ensures.read c.read_again.ensures.held (done.whole none)
 
-pub remove_going-report-requires-clause-open : goal.remove_going-report-requires-clause-open
-remove_going-report-requires-clause-open g c = c.args.self.now.opened c.if-self.false
+pub returns-in-None-clause-part : goal.returns-in-None-clause-part
+returns-in-None-clause-part g c =
+    let before = held_by c.args.self.now.administration c.args.self.now.diversions in
+    let mid = held_by c.read_again.new.self.administration c.read_again.new.self.diversions in
+    let ways = c.read_again.new.self.diversions.ways in
+    let s = g.H.Host.state c.args.self.now.host in
+    let m = g.H.Host.state c.read_again.new.self.host in
+    let t = g.H.Host.state c.remove_read.new.self.host in
+    let done = c.remove_read.ensures in
+    λ open_before. inr (behind (λ (h : Held) (s : State). HasRun (selected_names h.records.records) (removing Selected c.args.ignore_depends) c.remove_read.result.units.items c.remove_read.result.last h s t) before mid ways s m c.in-None.ensures.read c.read_again.ensures.held done.part)
 
-pub remove_going-report-requires-clause-indexed : goal.remove_going-report-requires-clause-indexed
-remove_going-report-requires-clause-indexed g c = packages_known _ _ (c.args.self.now.indexed c.if-self.false)
+pub returns-in-None-clause-told : goal.returns-in-None-clause-told
+returns-in-None-clause-told g c =
+    let before = held_by c.args.self.now.administration c.args.self.now.diversions in
+    let mid = held_by c.read_again.new.self.administration c.read_again.new.self.diversions in
+    let ways = c.read_again.new.self.diversions.ways in
+    let s = g.H.Host.state c.args.self.now.host in
+    let m = g.H.Host.state c.read_again.new.self.host in
+    let t = g.H.Host.state c.remove_read.new.self.host in
+    let done = c.remove_read.ensures in
+    behind_told before ways s m t c.remove_read.result c.in-None.ensures.read done.told
 
-pub invariant_of-self : goal.invariant_of-self
-invariant_of-self g c =
-    let report = c.remove_going-report.ensures in
-    record {
-      ready = λ open_still h.
-          let carries = removal_carries _ _ _ _ _ _ _ (report.whole (sym c.is_some-self.ensures ∙ open_still)) in
-          carries_standing _ _ _ _ carries h (c.args.self.now.ready c.if-self.false (carries.falls h));
-      opened = λ open_still. report.open (sym c.is_some-self.ensures ∙ open_still);
-      indexed = λ open_still. packages_kept _ _ (report.indexed (sym c.is_some-self.ensures ∙ open_still));
-      writable = λ open_still. c.args.self.now.writable c.if-self.false;
-    }
+pub returns-in-None-clause-any_moment : goal.returns-in-None-clause-any_moment
+returns-in-None-clause-any_moment g c =
+    let before = held_by c.args.self.now.administration c.args.self.now.diversions in
+    let mid = held_by c.read_again.new.self.administration c.read_again.new.self.diversions in
+    let ways = c.read_again.new.self.diversions.ways in
+    let s = g.H.Host.state c.args.self.now.host in
+    let m = g.H.Host.state c.read_again.new.self.host in
+    let t = g.H.Host.state c.remove_read.new.self.host in
+    let done = c.remove_read.ensures in
+    λ open_before. behind_moments (λ (h : Held). IsAmidRun (selected_names h.records.records) (removing Selected c.args.ignore_depends) h) before mid ways s m t c.in-None.ensures.read c.read_again.ensures.held done.any_moment
 
-pub returns-clause-loss : goal.returns-clause-loss
-returns-clause-loss g c = λ open_before. loses_like _ _ _ (g.H.Host.settled c.remove_going-report.new.host) c.remove_going-report.ensures.any_moment
+pub returns-in-None-clause-loss : goal.returns-in-None-clause-loss
+returns-in-None-clause-loss g c =
+    let before = held_by c.args.self.now.administration c.args.self.now.diversions in
+    let mid = held_by c.read_again.new.self.administration c.read_again.new.self.diversions in
+    let ways = c.read_again.new.self.diversions.ways in
+    let s = g.H.Host.state c.args.self.now.host in
+    let m = g.H.Host.state c.read_again.new.self.host in
+    let t = g.H.Host.state c.remove_read.new.self.host in
+    let done = c.remove_read.ensures in
+    λ open_before. loses_like _ _ _ (g.H.Host.settled c.remove_read.new.self.host) (behind_moments (λ (h : Held). IsAmidRun (selected_names h.records.records) (removing Selected c.args.ignore_depends) h) before mid ways s m t c.in-None.ensures.read c.read_again.ensures.held done.any_moment)
 
-pub returns-clause-stands : goal.returns-clause-stands
-returns-clause-stands g c = λ open_before whole. answered_stands _ _ _ c.remove_going-report.ensures.any_moment (c.remove_going-report.ensures.answered whole)
+pub returns-in-None-clause-stands : goal.returns-in-None-clause-stands
+returns-in-None-clause-stands g c =
+    let before = held_by c.args.self.now.administration c.args.self.now.diversions in
+    let mid = held_by c.read_again.new.self.administration c.read_again.new.self.diversions in
+    let ways = c.read_again.new.self.diversions.ways in
+    let s = g.H.Host.state c.args.self.now.host in
+    let m = g.H.Host.state c.read_again.new.self.host in
+    let t = g.H.Host.state c.remove_read.new.self.host in
+    let done = c.remove_read.ensures in
+    λ open_before none. answered_stands _ _ _ (behind_moments (λ (h : Held). IsAmidRun (selected_names h.records.records) (removing Selected c.args.ignore_depends) h) before mid ways s m t c.in-None.ensures.read c.read_again.ensures.held done.any_moment) (behind_answered before ways s m t c.in-None.ensures.read (done.answered none))
+
+pub returns-in-None-clause-answered : goal.returns-in-None-clause-answered
+returns-in-None-clause-answered g c =
+    let before = held_by c.args.self.now.administration c.args.self.now.diversions in
+    let mid = held_by c.read_again.new.self.administration c.read_again.new.self.diversions in
+    let ways = c.read_again.new.self.diversions.ways in
+    let s = g.H.Host.state c.args.self.now.host in
+    let m = g.H.Host.state c.read_again.new.self.host in
+    let t = g.H.Host.state c.remove_read.new.self.host in
+    let done = c.remove_read.ensures in
+    λ open_before none. behind_answered before ways s m t c.in-None.ensures.read (done.answered none)
+
+pub returns-in-None-clause-diversions : goal.returns-in-None-clause-diversions
+returns-in-None-clause-diversions g c =
+    let before = held_by c.args.self.now.administration c.args.self.now.diversions in
+    let mid = held_by c.read_again.new.self.administration c.read_again.new.self.diversions in
+    let ways = c.read_again.new.self.diversions.ways in
+    let s = g.H.Host.state c.args.self.now.host in
+    let m = g.H.Host.state c.read_again.new.self.host in
+    let t = g.H.Host.state c.remove_read.new.self.host in
+    let done = c.remove_read.ensures in
+    λ was. ap (λ (d : Diverted). d.closed) done.diversions ∙ c.read_again.ensures.diversions was
+
+pub returns-in-None-clause-honest : goal.returns-in-None-clause-honest
+returns-in-None-clause-honest g c =
+    let before = held_by c.args.self.now.administration c.args.self.now.diversions in
+    let mid = held_by c.read_again.new.self.administration c.read_again.new.self.diversions in
+    let ways = c.read_again.new.self.diversions.ways in
+    let s = g.H.Host.state c.args.self.now.host in
+    let m = g.H.Host.state c.read_again.new.self.host in
+    let t = g.H.Host.state c.remove_read.new.self.host in
+    let done = c.remove_read.ensures in
+    λ h. c.in-None.ensures.read.reads.honest (done.honest h)
+
+pub returns-in-None-clause-counts : goal.returns-in-None-clause-counts
+returns-in-None-clause-counts g c =
+    let before = held_by c.args.self.now.administration c.args.self.now.diversions in
+    let mid = held_by c.read_again.new.self.administration c.read_again.new.self.diversions in
+    let ways = c.read_again.new.self.diversions.ways in
+    let s = g.H.Host.state c.args.self.now.host in
+    let m = g.H.Host.state c.read_again.new.self.host in
+    let t = g.H.Host.state c.remove_read.new.self.host in
+    let done = c.remove_read.ensures in
+    λ open_before. last_from c.remove_read.result.last s m t c.in-None.ensures.read.faults done.counts
+
+pub returns-in-None-clause-watched : goal.returns-in-None-clause-watched
+returns-in-None-clause-watched g c =
+    let before = held_by c.args.self.now.administration c.args.self.now.diversions in
+    let mid = held_by c.read_again.new.self.administration c.read_again.new.self.diversions in
+    let ways = c.read_again.new.self.diversions.ways in
+    let s = g.H.Host.state c.args.self.now.host in
+    let m = g.H.Host.state c.read_again.new.self.host in
+    let t = g.H.Host.state c.remove_read.new.self.host in
+    let done = c.remove_read.ensures in
+    behind_watched g.W.Watcher.tells before ways s m c.args.watcher.now c.remove_read.new.watcher c.remove_read.result.units.items c.in-None.ensures.read done.watched
+
+pub returns-in-Some-clause-whole : goal.returns-in-Some-clause-whole
+returns-in-Some-clause-whole g c =
+    let before = held_by c.args.self.now.administration c.args.self.now.diversions in
+    let s = g.H.Host.state c.args.self.now.host in
+    let t = g.H.Host.state c.read_again.new.self.host in
+    let unread = c.in-Some.ensures.unread in
+    λ open_before none. absurd (unread_last c.in-Some.report.units.items c.in-Some.report.last s t unread none)
+
+pub returns-in-Some-clause-part : goal.returns-in-Some-clause-part
+returns-in-Some-clause-part g c =
+    let before = held_by c.args.self.now.administration c.args.self.now.diversions in
+    let s = g.H.Host.state c.args.self.now.host in
+    let t = g.H.Host.state c.read_again.new.self.host in
+    let unread = c.in-Some.ensures.unread in
+    λ open_before. inl unread
+
+pub returns-in-Some-clause-told : goal.returns-in-Some-clause-told
+returns-in-Some-clause-told g c =
+    let before = held_by c.args.self.now.administration c.args.self.now.diversions in
+    let s = g.H.Host.state c.args.self.now.host in
+    let t = g.H.Host.state c.read_again.new.self.host in
+    let unread = c.in-Some.ensures.unread in
+    unread_told c.in-Some.report s t unread
+
+pub returns-in-Some-clause-any_moment : goal.returns-in-Some-clause-any_moment
+returns-in-Some-clause-any_moment g c =
+    let before = held_by c.args.self.now.administration c.args.self.now.diversions in
+    let s = g.H.Host.state c.args.self.now.host in
+    let t = g.H.Host.state c.read_again.new.self.host in
+    let unread = c.in-Some.ensures.unread in
+    λ open_before. unread_moments (λ (h : Held). IsAmidRun (selected_names h.records.records) (removing Selected c.args.ignore_depends) h) before s t c.in-Some.report.units.items c.in-Some.report.last unread
+
+pub returns-in-Some-clause-loss : goal.returns-in-Some-clause-loss
+returns-in-Some-clause-loss g c =
+    let before = held_by c.args.self.now.administration c.args.self.now.diversions in
+    let s = g.H.Host.state c.args.self.now.host in
+    let t = g.H.Host.state c.read_again.new.self.host in
+    let unread = c.in-Some.ensures.unread in
+    λ open_before. loses_like _ _ _ (g.H.Host.settled c.read_again.new.self.host) (unread_moments (λ (h : Held). IsAmidRun (selected_names h.records.records) (removing Selected c.args.ignore_depends) h) before s t c.in-Some.report.units.items c.in-Some.report.last unread)
+
+pub returns-in-Some-clause-stands : goal.returns-in-Some-clause-stands
+returns-in-Some-clause-stands g c =
+    let before = held_by c.args.self.now.administration c.args.self.now.diversions in
+    let s = g.H.Host.state c.args.self.now.host in
+    let t = g.H.Host.state c.read_again.new.self.host in
+    let unread = c.in-Some.ensures.unread in
+    λ open_before none. absurd (unread_last c.in-Some.report.units.items c.in-Some.report.last s t unread none)
+
+pub returns-in-Some-clause-answered : goal.returns-in-Some-clause-answered
+returns-in-Some-clause-answered g c =
+    let before = held_by c.args.self.now.administration c.args.self.now.diversions in
+    let s = g.H.Host.state c.args.self.now.host in
+    let t = g.H.Host.state c.read_again.new.self.host in
+    let unread = c.in-Some.ensures.unread in
+    λ open_before none. absurd (unread_last c.in-Some.report.units.items c.in-Some.report.last s t unread none)
+
+pub returns-in-Some-clause-closes : goal.returns-in-Some-clause-closes
+returns-in-Some-clause-closes g c =
+    let before = held_by c.args.self.now.administration c.args.self.now.diversions in
+    let s = g.H.Host.state c.args.self.now.host in
+    let t = g.H.Host.state c.read_again.new.self.host in
+    let unread = c.in-Some.ensures.unread in
+    unread_closes c.in-Some.report.units.items c.in-Some.report.last s t _ unread (c.read_again.ensures.closes) c.in-Some.is
+
+pub returns-in-Some-clause-honest : goal.returns-in-Some-clause-honest
+returns-in-Some-clause-honest g c =
+    let before = held_by c.args.self.now.administration c.args.self.now.diversions in
+    let s = g.H.Host.state c.args.self.now.host in
+    let t = g.H.Host.state c.read_again.new.self.host in
+    let unread = c.in-Some.ensures.unread in
+    unread.reads.honest
+
+pub returns-in-Some-clause-watched : goal.returns-in-Some-clause-watched
+returns-in-Some-clause-watched g c =
+    let before = held_by c.args.self.now.administration c.args.self.now.diversions in
+    let s = g.H.Host.state c.args.self.now.host in
+    let t = g.H.Host.state c.read_again.new.self.host in
+    let unread = c.in-Some.ensures.unread in
+    unread_watched g.W.Watcher.tells s t c.args.watcher.now c.in-Some.report.units.items c.in-Some.report.last unread

@@ -1,9 +1,8 @@
-use Rattle.std.proofs.Common.{ap, sym, ◌∙◌}
+use Rattle.std.proofs.Common.{sym, ◌∙◌}
 use Rattle.dpkg_session.proofs.Standings.{order_standing, standing_run}
 use Rattle.dpkg_session.proofs.Outlasting.{run_answered, run_stands}
 use Rattle.dpkg_session.proofs.Runs.{falls_run}
 use Rattle.dpkg_session.proofs.KeptPackages.{packages_kept, packages_known}
-use Rattle.diversions.specs.Diverted.{Diverted}
 use Rattle.unit_reports.specs.Held.{held_by}
 use Rattle.dpkg_session.proofs.session.Session.run.Goals as goal
 
@@ -26,7 +25,7 @@ invariant_of-self g c =
           standing_run _ _ _ _ _ _ _ run h (report.order left h) (c.args.self.now.ready c.if-self.false (falls_run _ _ _ _ _ _ _ run h));
       opened = λ open_still. report.open (sym c.is_some-self.ensures ∙ open_still);
       indexed = λ open_still. packages_kept _ _ (report.indexed (sym c.is_some-self.ensures ∙ open_still));
-      writable = λ open_still. ap (λ (d : Diverted). d.closed) report.kept ∙ c.args.self.now.writable c.if-self.false;
+      writable = λ open_still. report.writable (c.args.self.now.writable c.if-self.false);
     }
 
 pub returns-clause-run : goal.returns-clause-run

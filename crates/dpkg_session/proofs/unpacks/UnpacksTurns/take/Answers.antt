@@ -72,4 +72,4 @@ returns-in-Ok-clause-room g c = λ none. absurd (true≢false (sym c.in-Ok.ensur
 
 pub returns-in-Err-clause-told : goal.returns-in-Err-clause-told
 returns-in-Err-clause-told g c =
-    called_tells c.args.self.now.auto_deconfigure c.in-Some.candidate.tree (held_by c.args.administration.now c.args.self.now.diversions.now) c.in-Err.unit (g.H.Host.state c.args.host.now) (g.H.Host.state c.take_unit.new.host) c.in-Err.ensures.broken_off.called
+    called_tells c.args.self.now.allowed c.in-Some.candidate.tree (held_by c.args.administration.now c.args.self.now.diversions.now) c.in-Err.unit (g.H.Host.state c.args.host.now) (g.H.Host.state c.take_unit.new.host) c.in-Err.ensures.broken_off.called

@@ -64,7 +64,7 @@ const TAKING: &Tree = &Tree {
         ("/opt/g", "taken"),
         ("/usr/bin/a", "new"),
     ],
-    fields: "Breaks: bravo\nConflicts: delta\nReplaces: delta, gamma\n",
+    fields: "Replaces: delta, gamma\nBreaks: bravo\nConflicts: delta\n",
     list: "/.\n/etc\n/etc/a.conf\n/opt\n/opt/g\n/usr\n/usr/bin\n/usr/bin/a\n",
     taken: "taken",
 };

@@ -1,0 +1,5 @@
+use Rattle.command_line.proofs.Behind.{turns_none}
+use Rattle.command_line.proofs.triggering.take_up.Goals as goal
+
+pub returns-in-Err-clause-watched : goal.returns-in-Err-clause-watched
+returns-in-Err-clause-watched g c = turns_none _ _ _ c.unnoted.ensures.units

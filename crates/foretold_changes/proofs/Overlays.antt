@@ -1,0 +1,41 @@
+-- An overlay that is only looked at, and lists that grow by one look.
+use Rattle.std.proofs.Common.{◌≡◌, ◌∙◌, ◌++◌, ◌∷◌, ℕ, zero, suc, List, [], ap, append-nil, arith, map, refl, sym}
+use Rattle.std.specs.Prelude.{Contains}
+use Rattle.std.specs.List.{AllByRecursion}
+use Rattle.host_core.specs.Host.{Reads, Silent, State}
+use Rattle.host_core.specs.Paths.{Path}
+use Rattle.host_core.specs.declared.host.Host.{Ghosts}
+use Rattle.host_core.proofs.Moments.{reads_then, silent_then}
+use Rattle.host_overlay.specs.Overlays.{LooksThrough, below_state}
+use Rattle.host_overlay.specs.declared.changed_path.ChangedPath.{ChangedPath}
+use Rattle.host_overlay.specs.declared.overlay.Overlay.{Overlay}
+
+pub reads_none : (s : State) → Reads s s
+reads_none s = record { honest = λ h. h; world = refl; added = []; failed = tt; events = sym (append-nil s.events) }
+
+pub silent_none : (s : State) → Silent s s
+silent_none s = record { honest = λ h. h; scripts = refl }
+
+pub all_more : {X : Type 0} (P : X → Type 0) (xs : List X) (x : X) → AllByRecursion P xs → P x → AllByRecursion P (xs ++ x ∷ [])
+all_more P [] x none it = (it, tt)
+all_more P (y ∷ xs) x all it = (all.0, all_more P xs x all.1 it)
+
+module _ {H : Type 0} {host : Ghosts H} where
+  pub through_none : (o : Overlay H host) → LooksThrough o o
+  through_none o = record { reads = reads_none (below_state o); silent = silent_none (below_state o); begun = refl; assumed = refl }
+
+  pub through_then : (o p q : Overlay H host) → LooksThrough o p → LooksThrough p q → LooksThrough o q
+  through_then o p q first second = record {
+    reads = reads_then (below_state o) (below_state p) (below_state q) first.reads second.reads;
+    silent = silent_then (below_state o) (below_state p) (below_state q) first.silent second.silent;
+    begun = second.begun ∙ first.begun;
+    assumed = second.assumed ∙ first.assumed;
+  }
+
+abbrev pub paths_of : List ChangedPath → List Path
+paths_of changed = map (λ (x : ChangedPath). x.path) changed
+
+pub contains_path : (changed : List ChangedPath) (x : ChangedPath) → Contains changed x → Contains (paths_of changed) x.path
+contains_path [] x c = absurd (omega (arith, c.1))
+contains_path (y ∷ changed) x (zero, lt, is) = (zero, omega arith, ap (λ (z : ChangedPath). z.path) is)
+contains_path (y ∷ changed) x (suc i, lt, is) = (let rest = contains_path changed x (i, omega (arith, lt), is) in (suc rest.0, omega (arith, rest.1), rest.2))

@@ -1,0 +1,15 @@
+use Rattle.host_core.proofs.Moments.{reads_then}
+use Rattle.foretold_changes.proofs.Overlays.{through_then}
+use Rattle.foretold_changes.proofs.looking.compare.Goals as goal
+
+pub returns-in_err-now-clause-reads : goal.returns-in_err-now-clause-reads
+returns-in_err-now-clause-reads g c = reads_then _ _ _ c.node_below.ensures.looks.reads c.node.ensures.looks.reads
+
+pub returns-in_err-now-clause-through : goal.returns-in_err-now-clause-through
+returns-in_err-now-clause-through g c = through_then _ _ _ c.node_below.ensures.through c.node.ensures.through
+
+pub returns-clause-reads : goal.returns-clause-reads
+returns-clause-reads g c = reads_then _ _ _ c.node_below.ensures.looks.reads c.node.ensures.looks.reads
+
+pub returns-clause-through : goal.returns-clause-through
+returns-clause-through g c = through_then _ _ _ c.node_below.ensures.through c.node.ensures.through

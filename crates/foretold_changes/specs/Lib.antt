@@ -1,0 +1,4 @@
+pub mod Changes
+pub mod Owning
+pub mod Staying
+pub mod Told

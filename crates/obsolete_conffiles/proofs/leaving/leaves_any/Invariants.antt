@@ -1,0 +1,7 @@
+use Rattle.std.proofs.Common.{◌≡◌, drop}
+use Rattle.std.specs.List.{list_any}
+use Rattle.obsolete_conffiles.specs.Yields.{is_left}
+use Rattle.obsolete_conffiles.proofs.leaving.leaves_any.Given as goal
+
+abbrev pub invariant-loop-entry : goal.invariant-loop-entry
+invariant-loop-entry l = record { rest : list_any (is_left l.diversions.ways l.incoming l.«record».name) l.«record».conffiles ≡ list_any (is_left l.diversions.ways l.incoming l.«record».name) (drop l.entry-index l.«record».conffiles) }

@@ -1,0 +1,6 @@
+mod Names
+mod Apart
+mod Written
+mod Planned
+mod Moments
+pub mod Beside

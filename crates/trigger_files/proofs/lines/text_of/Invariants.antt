@@ -1,0 +1,7 @@
+use Rattle.std.proofs.Common.{◌≡◌, take}
+use Rattle.std.specs.List.{flat_map}
+use Rattle.trigger_files.specs.Lines.{ended}
+use Rattle.trigger_files.proofs.lines.text_of.Given as goal
+
+abbrev pub invariant-loop-line : goal.invariant-loop-line
+invariant-loop-line l = l.text.items ≡ flat_map ended (take l.line-index l.lines)

@@ -1,0 +1,5 @@
+pub mod Places
+pub mod Lines
+pub mod Entries
+pub mod Registered
+pub mod Steps

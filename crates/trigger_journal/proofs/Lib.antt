@@ -1,0 +1,3 @@
+mod Within
+mod Lines
+pub mod Steps
