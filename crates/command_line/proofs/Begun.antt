@@ -1,8 +1,8 @@
 -- What is done of triggers before units.
-use Rattle.std.proofs.Common.{◌≡◌, ◌∙◌, ◌++◌, ◌+◌, ℕ, Bool, List, [], Option, Ok, Err, ap, arith, refl, subst, sym}
-use Rattle.host_core.proofs.Counted.{declined_then, no_fault_same, no_fault_then}
+use Rattle.std.proofs.Common.{◌≡◌, ◌∙◌, ◌++◌, ◌+◌, Bool, List, [], Option, Err, ap, refl, subst, sym}
+use Rattle.host_core.proofs.Counted.{no_fault_same, no_fault_then}
 use Rattle.host_core.proofs.Moments.{since_reads, since_start, since_then, silent_then}
-use Rattle.host_core.specs.Host.{AtEachMoment, Counts, HasFailed, NoFault, Reads, Silent, Since, State}
+use Rattle.host_core.specs.Host.{AtEachMoment, Counts, NoFault, Reads, Silent, Since, State}
 use Rattle.host_core.specs.declared.fault.HostFault.{HostFault}
 use Rattle.host_core.specs.declared.fault.HostFault.TheVariants.{Device, NoMemory, Declined}
 use Rattle.status_records.specs.declared.record.Record.{Record}
@@ -41,15 +41,6 @@ writes_then s m t reads silent later = record {
       (subst (λ w. Since (λ so_far. IsWriting later.text w) m t) reads.world later.any_moment);
   silent = silent_then s m t silent later.silent;
 }
-
-failed_then : (s m t : State) → NoFault s m → HasFailed m t → HasFailed s t
-failed_then s m t first later = record { once = let same = first.faults in let once = later.once in omega (arith, same, once); last = later.last }
-
--- a fault behind what went well
-pub counts_then : (s m t : State) (fault : HostFault) → NoFault s m → Counts {T = Unit {0}} m t (Err fault) → Counts {T = Unit {0}} s t (Err fault)
-counts_then s m t Device first later = failed_then s m t first later
-counts_then s m t NoMemory first later = no_fault_then s m t first later
-counts_then s m t Declined first later = declined_then s m t first later
 
 pub counts_as : (T : Type 0) (s t : State) (fault : HostFault) → Counts {T = T} s t (Err fault) → Counts {T = Unit {0}} s t (Err fault)
 counts_as T s t Device counts = counts

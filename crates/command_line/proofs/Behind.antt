@@ -1,9 +1,9 @@
 -- Triggers around units.
-use Rattle.std.proofs.Common.{◌≡◌, ◌++◌, ◌∙◌, ◌⊎◌, [], ℕ, Bool, true, false, List, Option, Some, None, Result, Ok, Err, ap, append-nil, append_assoc, arith, ◌∷◌, refl, subst, sym}
+use Rattle.std.proofs.Common.{◌≡◌, ◌++◌, ◌∙◌, [], ℕ, Bool, true, List, Option, Some, None, Err, ap, append-nil, append_assoc, arith, ◌∷◌, refl, subst, sym}
 use Rattle.std.specs.Prelude.{IsNone, is_some, max, option_to_list}
 use Rattle.std.specs.List.{flat_map}
 use Rattle.std.proofs.lemmas.Grind.{flat_map-append}
-use Rattle.host_core.specs.Host.{Counts, Reads, Silent, State}
+use Rattle.host_core.specs.Host.{Counts, State}
 use Rattle.host_core.specs.Looks.{Looks}
 use Rattle.host_core.specs.World.{World}
 use Rattle.host_core.specs.declared.fault.HostFault.{HostFault}
@@ -19,12 +19,12 @@ use Rattle.unit_reports.specs.declared.report.Unit.{Unit as AUnit}
 use Rattle.configure_run.specs.declared.options.ConfigureOptions.{ConfigureOptions}
 use Rattle.command_words.specs.declared.unpacking.Unpacking.{Unpacking}
 use Rattle.command_line.specs.Packages.{HasWorkedAround, HasWorkedSince, HasWorkedWith}
-use Rattle.command_line.specs.Printing.{AreTold, AreToldInTurns, last_in, units_answer, units_of}
-use Rattle.command_line.specs.Reports.{done_answer, report_answer}
+use Rattle.trigger_turns.proofs.Steps.{turns_none}
+use Rattle.trigger_turns.specs.Told.{AreTold}
+use Rattle.command_line.specs.Printing.{units_answer}
 use Rattle.command_line.specs.Roots.{Around}
-use Rattle.command_line.specs.Triggering.{AreTriggersTold, HasBegun, HasProcessed, HasTriggered, HasTriggeredBehind, IsAround, IsIdle, IsUntriggered, last_behind, triggered_status, units_behind, with_triggers}
-use Rattle.command_line.specs.Unpacks.{HasRunSince, HasRunToEnd, HasRunTrees, triggering_for}
-use Rattle.command_line.specs.declared.answer.Answer.{Answer}
+use Rattle.command_line.specs.Triggering.{AreTriggersTold, HasBegun, HasProcessed, HasTriggeredBehind, IsAround, IsIdle, IsUntriggered, last_behind, triggered_status, units_behind, with_triggers}
+use Rattle.command_line.specs.Unpacks.{HasRunSince, HasRunToEnd}
 use Rattle.command_line.specs.declared.ending.Ended.{Ended}
 use Rattle.command_line.specs.declared.packages.Work.{Work}
 use Rattle.command_line.specs.declared.triggering.Known.{Known}
@@ -42,17 +42,11 @@ looks_none P s = record {
 }
 
 -- the same look, for what it found as it is spoken of
-pub looks_as : {T U : Type 0} (f : T → U) (x : T) (P : U → World → Type 0) (s t : State) → Looks (Ok x) (λ v w. P (f v) w) s t → Looks (Ok (f x)) P s t
-looks_as f x P s t l = record { found = l.found; reads = l.reads; silent = l.silent; counts = l.counts }
-
 -- a fault of a look, as one of the administration
 pub counts_fault : (T : Type 0) (s t : State) (fault : HostFault) → Counts {T = T} s t (Err fault) → CountsRefusal (fault_of fault) s t
 counts_fault T s t Device c = c
 counts_fault T s t NoMemory c = c
 counts_fault T s t Declined c = c
-
-pub held_same : {A D : Type 0} (f : A → D → Held) (a b : A) (d e : D) → b ≡ a → e ≡ d → f b e ≡ f a d
-held_same f a b d e is same = ap (λ x. f x e) is ∙ ap (f a) same
 
 -- which unit was broken off
 
@@ -68,9 +62,6 @@ last_idle None came idle = ap (λ (o : Option AUnit). last_of o came.processed.l
 
 pub told_none : {W : Type 0} (tells : W → AUnit → State → W → Type 0) (s : State) (w : W) (us : List AUnit) → us ≡ [] → AreTold tells w us w
 told_none tells s w us is = subst (λ (l : List AUnit). AreTold tells w l w) (sym is) (s, refl)
-
-pub turns_none : {W : Type 0} (tells : W → AUnit → State → W → Type 0) (w : W) (us : List AUnit) → us ≡ [] → AreToldInTurns tells w us w
-turns_none tells w us is = subst (λ (l : List AUnit). AreToldInTurns tells w l w) (sym is) AreToldInTurns.nothing
 
 pub told_idle : {W : Type 0} (tells : W → AUnit → State → W → Type 0) (s : State) (w : W) (came : Triggered) → IsUntriggered came → AreTriggersTold tells w came w
 told_idle tells s w came idle = (w, told_none tells s w came.noted.units.items idle.noted.units, turns_none tells w came.processed.units.items idle.processed.units)

@@ -13,5 +13,4 @@ mod Compared
 mod Verified
 mod Behind
 mod Begun
-mod Asking
 pub mod Told

@@ -25,7 +25,8 @@ use Rattle.unit_reports.specs.declared.report.Report.{Report}
 use Rattle.unit_reports.specs.declared.report.Unit.{Unit as AUnit}
 use Rattle.unpack_relations.specs.declared.options.UnpackOptions.{UnpackOptions}
 use Rattle.command_line.specs.Endings.{with_notes}
-use Rattle.command_line.specs.Printing.{AppendsFront, AppendsPart, AreRoundsTold, AreTold, AreToldInTurns, HasPrinted, IsDoneTold, IsLeft, Prints, last_in, last_of_round, last_of_rounds, output_left, units_answer, units_of, units_of_round}
+use Rattle.trigger_turns.specs.Told.{AreTold, AreToldInTurns}
+use Rattle.command_line.specs.Printing.{AppendsFront, AppendsPart, AreRoundsTold, HasPrinted, IsDoneTold, IsLeft, Prints, last_in, last_of_round, last_of_rounds, output_left, units_answer, units_of, units_of_round}
 use Rattle.command_line.specs.Reports.{IsGiven, IsGivenInPart, bad_answer, comparison_answer, done_answer, memory_answer, round_lines, rounds_status, wanting_answer}
 use Rattle.command_line.specs.Roots.{Around}
 use Rattle.command_line.specs.Triggering.{AreAllTold, AreTriggersTold, units_behind}

@@ -9,7 +9,8 @@ use Rattle.unit_reports.specs.declared.report.Unit.{Unit as AUnit}
 use Rattle.dpkg_session.specs.Trees.{AreRead}
 use Rattle.dpkg_session.specs.declared.report.Candidate.{Candidate}
 use Rattle.dpkg_session.specs.declared.installing.Installed.{Installed}
-use Rattle.command_line.specs.Printing.{AreRoundsTold, AreTold, AreToldInTurns, IsDoneTold, units_of_round}
+use Rattle.trigger_turns.specs.Told.{AreTold, AreToldInTurns}
+use Rattle.command_line.specs.Printing.{AreRoundsTold, IsDoneTold, units_of_round}
 use Rattle.command_line.specs.Triggering.{AreAllTold, AreTriggersTold}
 use Rattle.command_line.specs.Unpacks.{IsAllTold}
 use Rattle.command_line.specs.declared.ending.Ended.{Ended}

@@ -13,5 +13,4 @@ pub mod Rehearsed
 pub mod Reading
 pub mod Order
 pub mod Printing
-pub mod TriggerTurns
 pub mod Triggering

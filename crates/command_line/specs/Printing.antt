@@ -4,10 +4,10 @@ use Rattle.std.specs.Io.KnownBytes.{Appends, Keeps}
 use Rattle.std.specs.List.{flat_map}
 use Rattle.host_core.specs.Host.{State}
 use Rattle.report_lines.specs.Reports.{unit_lines}
-use Rattle.unit_reports.specs.Watching.{IsTold}
 use Rattle.unit_reports.specs.declared.report.Unit.{Unit as AUnit}
 use Rattle.dpkg_session.specs.Installs.{last_of}
 use Rattle.dpkg_session.specs.declared.installing.Installed.{Installed}
+use Rattle.trigger_turns.specs.Told.{AreTold}
 use Rattle.command_line.specs.declared.answer.Answer.{Answer}
 use Rattle.command_line.specs.declared.answer.Left.{Left}
 use Rattle.command_line.specs.declared.answer.Left.TheVariants as left
@@ -42,21 +42,6 @@ abbrev pub HasPrinted : List ℕ → Flow → Option (List ℕ) → Option (List
 HasPrinted lines flow.Whole old new = Appends old new lines
 HasPrinted lines flow.Cut old new = AppendsPart old new lines
 HasPrinted lines flow.Wanting old new = AppendsFront old new lines
-
--- these units were told one after another, each as it was finished since some state of the host
-abbrev pub AreTold : {W : Type 0} → (W → AUnit → State → W → Type 0) → W → List AUnit → W → Type 0
-AreTold tells old us new = (s : State) × IsTold tells s old us new
-
--- the same of the units of turns, turn after turn
-pub data AreToldInTurns {W : Type 0} (tells : W → AUnit → State → W → Type 0) (old : W) : List AUnit → W → Type 0 where
-  nothing : AreToldInTurns tells old [] old
-  then : (us others : List AUnit) (mid new : W) → AreToldInTurns tells old us mid → AreTold tells mid others new → AreToldInTurns tells old (us ++ others) new
-
--- units came to others, and they were told so
-pub record HaveBeenTold {W : Type 0} (tells : W → AUnit → State → W → Type 0) (units_old units_new : List AUnit) (old new : W) : Type 0 where
-  pub more : List AUnit
-  pub grown : units_new ≡ units_old ++ more
-  pub told : AreToldInTurns tells old more new
 
 -- the units of a round of an install that were finished, in order, and the one that was broken off
 abbrev pub units_of_round : Installed → List AUnit

@@ -30,9 +30,9 @@ use Rattle.unit_reports.specs.declared.report.Reply.TheVariants.{Broken}
 use Rattle.unit_reports.specs.declared.report.Report.{Report}
 use Rattle.unit_reports.specs.declared.report.Touched.{Touched}
 use Rattle.unit_reports.specs.declared.report.Unit.{Unit as AUnit}
-use Rattle.command_line.specs.Printing.{AreTold, AreToldInTurns}
+use Rattle.trigger_turns.specs.Told.{AreTold, AreToldInTurns}
 use Rattle.command_line.specs.Roots.{WritesJournalAlone}
-use Rattle.command_line.specs.TriggerTurns.{HasChanged, HasTurned, first_wishes, names_told, pending_owners}
+use Rattle.trigger_turns.specs.Turns.{HasChanged, HasTurned, first_wishes, names_told, pending_owners}
 use Rattle.command_line.specs.declared.answer.Answer.{Answer}
 use Rattle.command_line.specs.declared.triggering.Known.{Known}
 use Rattle.command_line.specs.declared.triggering.Triggered.{Triggered}

@@ -90,7 +90,6 @@ mod shown;
 mod steady;
 mod telling;
 mod telling_hosts;
-mod trigger_turns;
 mod triggering;
 mod unpacking;
 mod verifying;

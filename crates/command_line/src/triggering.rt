@@ -7,11 +7,10 @@ ghost use Rattle.trigger_watch.specs.Activations.{activations_of};
 ghost use Rattle.trigger_watch.specs.declared.touching.Touch.{Touch as ATouch};
 ghost use Rattle.unit_reports.specs.Held.{held_by};
 ghost use Rattle.unit_reports.specs.Units.{breakage_of};
-ghost use Rattle.command_line.specs.Printing.{AreTold, AreToldInTurns};
-ghost use Rattle.command_line.specs.TriggerTurns.{names_told};
+ghost use Rattle.trigger_turns.specs.Told.{AreTold, AreToldInTurns};
+ghost use Rattle.trigger_turns.specs.Turns.{names_told};
 ghost use Rattle.command_line.specs.Triggering.{AreTriggersTold, HasBegun, HasForeseen, HasGoneOn, HasNoted, HasProcessed, HasProcessedIf, HasTriggeredBehind, IsBrokenOff, IsIdle, IsUnforeseen, IsUntriggered, changes_files, changes_of, has_changed_files, last_behind, touch_of, touched_of, triggered_status};
 
-use crate::trigger_turns::{pending_owners, process_in_turns};
 use dpkg_session::{
     RecordChange, Report, Request, Session, Touch, Touched, TriggerWatch, Unit, Watcher,
 };
@@ -20,6 +19,7 @@ use report_lines::report_status;
 use status_records::{Record, State};
 use std::alloc::{AllocError, Global};
 use texts::Text;
+use trigger_turns::{pending_owners, process_in_turns};
 use unit_reports::{breakage_of, broken};
 
 /// What is done of triggers around the units of a command.

@@ -3,7 +3,8 @@ ghost use Rattle.std.specs.Prelude.{◌≡◌, ◌≤◌, ◌++◌, IfErr, IfOk,
 ghost use Rattle.std.specs.List.{flat_map};
 ghost use Rattle.std.specs.Vec.Iter.{into_iter_items};
 ghost use Rattle.unit_reports.specs.Held.{held_by};
-ghost use Rattle.command_line.specs.Printing.{AreTold, IsDoneTold, last_in, last_of_rounds, units_of, units_of_round};
+ghost use Rattle.trigger_turns.specs.Told.{AreTold};
+ghost use Rattle.command_line.specs.Printing.{IsDoneTold, last_in, last_of_rounds, units_of, units_of_round};
 ghost use Rattle.command_line.specs.Reading.{HaveGoneOn};
 ghost use Rattle.command_line.specs.Roots.{around, IsNotBegunOn, IsUnbegun, IsUnitsFault};
 ghost use Rattle.command_line.specs.Triggering.{touched_of};

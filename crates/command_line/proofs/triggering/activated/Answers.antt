@@ -5,7 +5,8 @@ use Rattle.dpkg_session.specs.Activated.{change_by}
 use Rattle.trigger_watch.specs.Activations.{activations_of}
 use Rattle.trigger_watch.specs.declared.touching.Touch.{Touch}
 use Rattle.unit_reports.specs.Held.{held_by}
-use Rattle.command_line.proofs.Behind.{held_same, looks_none}
+use Rattle.trigger_turns.proofs.Steps.{held_same}
+use Rattle.command_line.proofs.Behind.{looks_none}
 use Rattle.command_line.proofs.triggering.activated.Goals as goal
 
 pub returns-in-Ok-clause-looks : goal.returns-in-Ok-clause-looks

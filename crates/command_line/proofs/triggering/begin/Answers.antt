@@ -2,8 +2,9 @@ use Rattle.std.proofs.Common.{◌∙◌, subst}
 use Rattle.trigger_watch.specs.declared.watching.TriggerWatch.{TriggerWatch}
 use Rattle.unit_reports.specs.Held.{Held, held_by}
 use Rattle.command_line.specs.Triggering.{HasForeseen}
-use Rattle.command_line.proofs.Behind.{held_same}
-use Rattle.command_line.proofs.Begun.{counts_as, counts_then, writes_none, writes_then}
+use Rattle.trigger_turns.proofs.Steps.{held_same}
+use Rattle.trigger_turns.proofs.Steps.{counts_then}
+use Rattle.command_line.proofs.Begun.{counts_as, writes_none, writes_then}
 use Rattle.command_line.proofs.triggering.begin.Goals as goal
 
 pub returns-in-Ok-foresee-clause-begun : goal.returns-in-Ok-foresee-clause-begun

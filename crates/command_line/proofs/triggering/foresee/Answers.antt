@@ -3,8 +3,9 @@ use Rattle.trigger_journal.specs.Requests.{requests_of}
 use Rattle.trigger_journal.specs.declared.requests.Request.{Request}
 use Rattle.unit_reports.specs.Held.{Held, held_by}
 use Rattle.command_line.specs.Triggering.{HasForeseen}
-use Rattle.command_line.proofs.Behind.{held_same, looks_as}
-use Rattle.command_line.proofs.Begun.{counts_as, counts_then, writes_ahead, writes_none, writes_then}
+use Rattle.trigger_turns.proofs.Steps.{held_same, looks_as}
+use Rattle.trigger_turns.proofs.Steps.{counts_then}
+use Rattle.command_line.proofs.Begun.{counts_as, writes_ahead, writes_none, writes_then}
 use Rattle.command_line.proofs.triggering.foresee.Goals as goal
 
 pub returns-in-Ok-foresee_triggers-clause-foreseen : goal.returns-in-Ok-foresee_triggers-clause-foreseen

@@ -1,8 +1,9 @@
 use Rattle.std.proofs.Common.{◌≡◌, ◌∙◌, inl, inr, subst}
 use Rattle.unit_reports.specs.Held.{Held, held_by}
-use Rattle.command_line.specs.TriggerTurns.{HasChanged}
+use Rattle.trigger_turns.specs.Turns.{HasChanged}
 use Rattle.command_line.specs.Triggering.{changes_of}
-use Rattle.command_line.proofs.Behind.{looks_as, told_none}
+use Rattle.trigger_turns.proofs.Steps.{looks_as}
+use Rattle.command_line.proofs.Behind.{told_none}
 use Rattle.command_line.proofs.triggering.note.Goals as goal
 
 pub returns-in-Ok-clause-noted : goal.returns-in-Ok-clause-noted

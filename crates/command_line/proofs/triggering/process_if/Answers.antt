@@ -1,4 +1,4 @@
-use Rattle.command_line.proofs.Behind.{turns_none}
+use Rattle.trigger_turns.proofs.Steps.{turns_none}
 use Rattle.command_line.proofs.triggering.process_if.Goals as goal
 
 pub returns-in-false-clause-watched : goal.returns-in-false-clause-watched

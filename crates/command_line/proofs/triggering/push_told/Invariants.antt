@@ -1,5 +1,5 @@
 use Rattle.std.proofs.Common.{◌≡◌, ◌++◌, take}
-use Rattle.command_line.specs.TriggerTurns.{names_told}
+use Rattle.trigger_turns.specs.Turns.{names_told}
 use Rattle.command_line.proofs.triggering.push_told.Given as goal
 
 abbrev pub invariant-loop-unit : goal.invariant-loop-unit

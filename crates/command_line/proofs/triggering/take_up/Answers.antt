@@ -1,4 +1,4 @@
-use Rattle.command_line.proofs.Behind.{turns_none}
+use Rattle.trigger_turns.proofs.Steps.{turns_none}
 use Rattle.command_line.proofs.triggering.take_up.Goals as goal
 
 pub returns-in-Err-clause-watched : goal.returns-in-Err-clause-watched

@@ -3,7 +3,7 @@ use Rattle.std.specs.Prelude.{IfOk, IsNone}
 use Rattle.unit_reports.specs.Held.{held_by}
 use Rattle.unit_reports.specs.declared.report.Unit.{Unit as AUnit}
 use Rattle.command_line.specs.Triggering.{HasTriggeredBehind, last_behind}
-use Rattle.command_line.specs.TriggerTurns.{names_told, pending_owners}
+use Rattle.trigger_turns.specs.Turns.{names_told, pending_owners}
 use Rattle.command_line.specs.declared.triggering.Triggered.{Triggered}
 use Rattle.command_line.proofs.Behind.{both_none, told_idle}
 use Rattle.command_line.proofs.triggering.trigger_behind.Goals as goal

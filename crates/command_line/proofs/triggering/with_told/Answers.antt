@@ -1,7 +1,7 @@
 use Rattle.std.proofs.Common.{◌≡◌, ◌∙◌, ◌++◌, List, ℕ, ap, subst}
 use Rattle.std.specs.Prelude.{IfOk}
 use Rattle.std.proofs.lemmas.Result.{IfOk-weaker}
-use Rattle.command_line.specs.TriggerTurns.{names_told}
+use Rattle.trigger_turns.specs.Turns.{names_told}
 use Rattle.command_line.proofs.triggering.with_told.Goals as goal
 
 pub returns-in-Ok : goal.returns-in-Ok

@@ -1,6 +1,0 @@
-use Rattle.std.proofs.Common.{◌≡◌, ◌++◌, map}
-use Rattle.command_line.specs.TriggerTurns.{step_by}
-use Rattle.command_line.proofs.trigger_turns.steps_of.Given as goal
-
-abbrev pub invariant-loop-one : goal.invariant-loop-one
-invariant-loop-one l = l.steps.items ++ map step_by l.one-iterator.rest.items ≡ map step_by l.fn.pending.items

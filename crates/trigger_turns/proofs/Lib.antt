@@ -1,0 +1,2 @@
+mod Turned
+pub mod Steps
