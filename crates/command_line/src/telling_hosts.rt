@@ -1,7 +1,8 @@
 // Hosts of which nothing is changed, with what is told of the paths that would be.
-ghost use Rattle.std.specs.Prelude.{◌≡◌, IfOk, IsTrue};
-ghost use Rattle.host_core.specs.Host.{Reads, Silent};
+ghost use Rattle.std.specs.Prelude.{◌≡◌, ◌≤◌, ◌+◌, ℕ, IfOk, IsTrue};
+ghost use Rattle.host_core.specs.Host.{Reads, Silent, faults};
 ghost use Rattle.host_core.specs.World.{World};
+ghost use Rattle.foretold_changes.specs.Changes.{unread_paths};
 ghost use Rattle.foretold_changes.specs.Told.{IsLookedOver};
 ghost use Rattle.command_line.specs.Telling.{Tells, told_left};
 ghost use Rattle.command_line.specs.Dry.{dry_left, dry_root};
@@ -32,9 +33,12 @@ fn tell_changes<H: Host>(
     looked: Result<LookedOver, AdministrationFault>,
     host: &mut H,
 ) -> Told
-    ensures told { (new : World) → IfOk looked (λ over. IsTrue (H.state host.new).honest
+    ensures told { (new : World) → (first last : ℕ)
+        → IfOk looked (λ over. IsTrue (H.state host.new).honest
         → IsLookedOver (H.state host.old).world new over)
-        → Tells result (H.state host.new) (H.state host.old).world new }
+        → IfOk looked (λ over. unread_paths over.looked.items + first ≤ last)
+        → Tells result (H.state host.new) (H.state host.old).world new
+        (first + faults (H.state host.old)) (last + faults (H.state host.new)) }
     ensures reads { Reads (H.state host.old) (H.state host.new) }
     ensures silent { Silent (H.state host.old) (H.state host.new) }
 {

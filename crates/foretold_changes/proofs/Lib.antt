@@ -1,1 +1,2 @@
 pub mod Overlays
+mod Few

@@ -1,5 +1,6 @@
 -- How what would stand at a path differs from what stands there.
-use Rattle.std.specs.Prelude.{◌≡◌, ◌⊎◌, ℕ, List, Option, Some, None, codes, if◌then◌else◌}
+use Rattle.std.specs.Prelude.{◌≡◌, ◌⊎◌, ℕ, Bool, true, false, List, Option, Some, None, codes, if◌then◌else◌}
+use Rattle.std.specs.List.{count_by}
 use Rattle.host_core.specs.Paths.{Path}
 use Rattle.host_core.specs.World.{World}
 use Rattle.host_core.specs.declared.node.Node.{Node}
@@ -23,6 +24,17 @@ change_at old new path = if is_within home_path path then None else change_of (o
 -- what a look told: how it differs, or that there is no knowing
 abbrev pub IsFound : World → World → LookedPath → Type 0
 IsFound old new l = (l.found ≡ change_at old new l.path) ⊎ (l.found ≡ Some Unread)
+
+abbrev pub is_unread : Option Change → Bool
+is_unread None = false
+is_unread (Some Write) = false
+is_unread (Some Replace) = false
+is_unread (Some Remove) = false
+is_unread (Some Unread) = true
+
+-- of how many paths there is no knowing
+abbrev pub unread_paths : List LookedPath → ℕ
+unread_paths looked = count_by (λ l. is_unread l.found) looked
 
 abbrev pub change_word : Change → List ℕ
 change_word Write = codes "write"

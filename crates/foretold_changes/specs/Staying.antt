@@ -1,6 +1,6 @@
 -- Edited conffiles that would stay.
 use Rattle.std.specs.Prelude.{◌≡◌, ◌⊎◌, ◌&&◌, ℕ, Bool, false, true, not, List, [], ◌∷◌, Option, Some, None, is_some, flat_map, if◌then◌else◌}
-use Rattle.std.specs.List.{list_any}
+use Rattle.std.specs.List.{count_by, list_any}
 use Rattle.std.specs.Str.{bytes_eq}
 use Rattle.md5.specs.Md5.{md5}
 use Rattle.host_core.specs.Paths.{Path}
@@ -54,3 +54,12 @@ stay_of node digest = if is_edited node digest then Some Edited else None
 -- what a look at a conffile told: that it is edited or not, or that there is no knowing
 abbrev pub IsSeen : World → LookedConffile → Type 0
 IsSeen w l = (l.stay ≡ stay_of (w l.conffile.at) l.conffile.digest) ⊎ (l.stay ≡ Some Unread)
+
+abbrev pub is_unread_stay : Option Stay → Bool
+is_unread_stay None = false
+is_unread_stay (Some Edited) = false
+is_unread_stay (Some Unread) = true
+
+-- of how many conffiles there is no knowing
+abbrev pub unread_stays : List LookedConffile → ℕ
+unread_stays stays = count_by (λ l. is_unread_stay l.stay) stays

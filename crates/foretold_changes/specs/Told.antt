@@ -1,5 +1,5 @@
 -- What is told of the paths that would be changed, and of conffiles that stay.
-use Rattle.std.specs.Prelude.{◌≡◌, ℕ, List, [], ◌++◌, Option, Some, None, Contains, codes, flat_map, map}
+use Rattle.std.specs.Prelude.{◌≡◌, ◌≤◌, ◌+◌, ℕ, List, [], ◌++◌, Option, Some, None, Contains, codes, flat_map, map}
 use Rattle.std.specs.List.{AllByRecursion, IsDistinct}
 use Rattle.std.specs.Str.{bytes_eq}
 use Rattle.host_core.specs.Paths.{Path}
@@ -9,9 +9,9 @@ use Rattle.inquiries.specs.Read.{HasFollowed}
 use Rattle.inquiries.specs.declared.reading.SeenAll.{SeenAll}
 use Rattle.queries.specs.Paths.{path_text}
 use Rattle.shown_lines.specs.Lines.{line}
-use Rattle.foretold_changes.specs.Changes.{IsFound, change_word}
+use Rattle.foretold_changes.specs.Changes.{IsFound, change_word, unread_paths}
 use Rattle.foretold_changes.specs.Owning.{owner_for, owner_text, owners_at}
-use Rattle.foretold_changes.specs.Staying.{IsSeen, conffiles_in}
+use Rattle.foretold_changes.specs.Staying.{IsSeen, conffiles_in, unread_stays}
 use Rattle.foretold_changes.specs.declared.change.Change.{Change}
 use Rattle.foretold_changes.specs.declared.keeping.Conffile.{Conffile}
 use Rattle.foretold_changes.specs.declared.looking.LookedOver.{LookedOver}
@@ -52,8 +52,9 @@ pub record IsLookedOver (old new : World) (l : LookedOver) : Type 0 where
   pub found : AllByRecursion (IsFound old new) l.looked.items
   pub whole : (q : Path) → (Contains (map (λ (x : LookedPath). x.path) l.looked.items) q → ⊥) → new q ≡ old q
 
--- The lines of paths that would be changed, and behind them those of conffiles that would stay, by what was read of both worlds.
-pub record AreTold (old new : World) (text : List ℕ) : Type 0 where
+-- The lines of paths that would be changed, and behind them those of conffiles that would stay, by what was read of both worlds. No more
+-- of them are told as unread than looks failed, of which the device had failed at the first count before, and at the last count behind them.
+pub record AreTold (old new : World) (first last : ℕ) (text : List ℕ) : Type 0 where
   pub over : LookedOver
   pub looked_over : IsLookedOver old new over
   pub before : SeenAll
@@ -61,4 +62,5 @@ pub record AreTold (old new : World) (text : List ℕ) : Type 0 where
   pub stays : List LookedConffile
   pub each : map (λ (x : LookedConffile). x.conffile) stays ≡ conffiles_in over.looked.items before over.to_come
   pub stay : AllByRecursion (IsSeen old) stays
+  pub few : unread_paths over.looked.items + unread_stays stays + first ≤ last
   pub told : text ≡ flat_map (changed_lines before over.to_come) over.looked.items ++ flat_map stay_lines stays

@@ -1,5 +1,5 @@
 // Paths that an overlay has changed, looked at one after another.
-ghost use Rattle.std.specs.Prelude.{◌≡◌, ◌<◌, IfOk, IsErrOf, IsTrue, List, Some, map};
+ghost use Rattle.std.specs.Prelude.{◌≡◌, ◌<◌, ◌≤◌, ◌+◌, IfOk, IsErrOf, IsTrue, List, Some, map};
 ghost use Rattle.std.specs.List.{AllByRecursion};
 ghost use Rattle.host_core.specs.Host.{Reads, faults};
 ghost use Rattle.host_core.specs.Paths.{Path};
@@ -7,7 +7,7 @@ ghost use Rattle.host_core.specs.declared.fault.HostFault.TheVariants.{Device};
 ghost use Rattle.administration.specs.Places.{home_path, is_within};
 ghost use Rattle.host_overlay.specs.Overlays.{LooksThrough, begun_state, overlay_state};
 ghost use Rattle.host_overlay.specs.declared.changed_path.ChangedPath.{ChangedPath as AChangedPath};
-ghost use Rattle.foretold_changes.specs.Changes.{IsFound, change_at, change_of};
+ghost use Rattle.foretold_changes.specs.Changes.{IsFound, change_at, change_of, unread_paths};
 ghost use Rattle.foretold_changes.specs.Told.{IsLookedOver, IsReadFrom};
 ghost use Rattle.foretold_changes.specs.declared.change.Change.TheVariants.{Unread};
 ghost use Rattle.foretold_changes.specs.declared.looking.LookedPath.{LookedPath as ALookedPath};
@@ -101,6 +101,8 @@ fn look_at_each<H: Host>(
         ≡ map (λ (x : AChangedPath). x.path) changed.now) }
     ensures found { IfOk result (λ looked. IsTrue (overlay_state host.new).honest → AllByRecursion
         (IsFound (begun_state host.old).world (overlay_state host.old).world) looked.items) }
+    ensures few { IfOk result (λ looked. unread_paths looked.items
+        + faults (overlay_state host.old) ≤ faults (overlay_state host.new)) }
     ensures reads { Reads (overlay_state host.old) (overlay_state host.new) }
     ensures through { LooksThrough host.old host.new }
 {
@@ -122,6 +124,8 @@ fn look_behind<H: Host>(
         → IsReadFrom (overlay_state host.old).world now }
     ensures told { IfOk result (λ over. IsTrue (overlay_state host.new).honest
         → IsLookedOver (begun_state host.old).world (overlay_state host.old).world over) }
+    ensures few { IfOk result (λ over. unread_paths over.looked.items
+        + faults (overlay_state host.old) ≤ faults (overlay_state host.new)) }
     ensures reads { Reads (overlay_state host.old) (overlay_state host.new) }
     ensures through { LooksThrough host.old host.new }
 {
@@ -140,6 +144,8 @@ pub fn look_over<H: Host>(
 ) -> Result<LookedOver, AdministrationFault>
     ensures told { IfOk result (λ over. IsTrue (overlay_state host.new).honest
         → IsLookedOver (begun_state host.new).world (overlay_state host.old).world over) }
+    ensures few { IfOk result (λ over. unread_paths over.looked.items
+        + faults (overlay_state host.old) ≤ faults (overlay_state host.new)) }
     ensures reads { Reads (overlay_state host.old) (overlay_state host.new) }
 {
     let now = read_indexed(alloc, host)?;

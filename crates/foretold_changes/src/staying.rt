@@ -1,11 +1,11 @@
 // Conffiles that would stay, looked at one after another.
-ghost use Rattle.std.specs.Prelude.{◌≡◌, ◌<◌, IfOk, IsErrOf, IsTrue, Some, map};
+ghost use Rattle.std.specs.Prelude.{◌≡◌, ◌<◌, ◌≤◌, ◌+◌, IfOk, IsErrOf, IsTrue, Some, map};
 ghost use Rattle.std.specs.List.{AllByRecursion};
 ghost use Rattle.std.specs.Str.{bytes_eq};
 ghost use Rattle.md5.specs.Md5.{md5};
 ghost use Rattle.host_core.specs.Host.{Reads, Silent, faults};
 ghost use Rattle.host_core.specs.declared.fault.HostFault.TheVariants.{Device};
-ghost use Rattle.foretold_changes.specs.Staying.{IsSeen, is_edited, stay_of};
+ghost use Rattle.foretold_changes.specs.Staying.{IsSeen, is_edited, stay_of, unread_stays};
 ghost use Rattle.foretold_changes.specs.declared.staying.LookedConffile.{LookedConffile as ALookedConffile};
 ghost use Rattle.foretold_changes.specs.declared.staying.Stay.TheVariants.{Unread};
 
@@ -90,6 +90,8 @@ fn look_at<H: Host>(host: &mut H, conffile: &Conffile) -> Result<LookedConffile,
     ensures conffile { IfOk result (λ looked. looked.conffile ≡ conffile.now) }
     ensures seen { IfOk result (λ looked. IsTrue (H.state host.new).honest
         → IsSeen (H.state host.old).world looked) }
+    ensures cause { IfOk result (λ looked. looked.stay ≡ Some Unread
+        → faults (H.state host.old) < faults (H.state host.new)) }
     ensures reads { Reads (H.state host.old) (H.state host.new) }
     ensures silent { Silent (H.state host.old) (H.state host.new) }
 {
@@ -111,6 +113,8 @@ pub(crate) fn look_at_stays<H: Host>(
         ≡ conffiles.now) }
     ensures stay { IfOk result (λ stays. IsTrue (H.state host.new).honest
         → AllByRecursion (IsSeen (H.state host.old).world) stays.items) }
+    ensures few { IfOk result (λ stays. unread_stays stays.items + faults (H.state host.old)
+        ≤ faults (H.state host.new)) }
     ensures reads { Reads (H.state host.old) (H.state host.new) }
     ensures silent { Silent (H.state host.old) (H.state host.new) }
 {

@@ -1,7 +1,8 @@
 // The lines of paths that would be changed, and of conffiles that would stay.
-ghost use Rattle.std.specs.Prelude.{◌≡◌, ◌++◌, IfOk, IsTrue, OnOk, Some, flat_map, string_bytes};
-ghost use Rattle.host_core.specs.Host.{Reads, Silent};
+ghost use Rattle.std.specs.Prelude.{◌≡◌, ◌≤◌, ◌+◌, ◌++◌, ℕ, IfOk, IsTrue, OnOk, Some, flat_map, string_bytes};
+ghost use Rattle.host_core.specs.Host.{Reads, Silent, faults};
 ghost use Rattle.host_core.specs.World.{World};
+ghost use Rattle.foretold_changes.specs.Changes.{unread_paths};
 ghost use Rattle.foretold_changes.specs.Owning.{owner_for, owner_text, owners_at};
 ghost use Rattle.foretold_changes.specs.Told.{AreTold, IsLookedOver, change_line, changed_lines, found_line, stay_line, stay_lines};
 
@@ -141,8 +142,10 @@ pub fn changes_text<H: Host>(
     over: &LookedOver,
 ) -> Result<Bytes, AdministrationFault>
     ensures told { IfOk result (λ text. IsTrue (H.state host.new).honest → (new : World)
-        → IsLookedOver (H.state host.old).world new over.now
-        → AreTold (H.state host.old).world new text) }
+        → (first last : ℕ) → IsLookedOver (H.state host.old).world new over.now
+        → unread_paths over.now.looked.items + first ≤ last
+        → AreTold (H.state host.old).world new (first + faults (H.state host.old))
+        (last + faults (H.state host.new)) text) }
     ensures reads { Reads (H.state host.old) (H.state host.new) }
     ensures silent { Silent (H.state host.old) (H.state host.new) }
 {

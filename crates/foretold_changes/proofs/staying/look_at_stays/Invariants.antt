@@ -1,7 +1,7 @@
-use Rattle.std.proofs.Common.{◌≡◌, IsTrue, map, take}
+use Rattle.std.proofs.Common.{◌≡◌, ◌+◌, ◌≤◌, IsTrue, map, take}
 use Rattle.std.specs.List.{AllByRecursion}
-use Rattle.host_core.specs.Host.{Reads, Silent}
-use Rattle.foretold_changes.specs.Staying.{IsSeen}
+use Rattle.host_core.specs.Host.{Reads, Silent, faults}
+use Rattle.foretold_changes.specs.Staying.{IsSeen, unread_stays}
 use Rattle.foretold_changes.specs.declared.staying.LookedConffile.{LookedConffile}
 use Rattle.foretold_changes.proofs.staying.look_at_stays.Given as goal
 
@@ -12,6 +12,7 @@ invariant-loop-conffile g l =
     record {
       each : map (λ (x : LookedConffile). x.conffile) l.stays.items ≡ take l.conffile-index l.conffiles;
       stay : IsTrue now.honest → AllByRecursion (IsSeen old.world) l.stays.items;
+      few : unread_stays l.stays.items + faults old ≤ faults now;
       reads : Reads old now;
       silent : Silent old now;
     }

@@ -1,6 +1,6 @@
-use Rattle.std.proofs.Common.{◌∙◌, IsTrue, Result, Ok, Err, IfOk, List, ap, sym, subst}
+use Rattle.std.proofs.Common.{◌∙◌, ◌+◌, IsTrue, Result, Ok, Err, IfOk, List, ap, sym, subst}
 use Rattle.host_core.specs.Events.{Event, follow_all}
-use Rattle.host_core.specs.Host.{State}
+use Rattle.host_core.specs.Host.{State, faults}
 use Rattle.host_core.specs.World.{World}
 use Rattle.host_core.proofs.Moments.{follow_all-append, reads_then, silent_then, unmoved}
 use Rattle.host_overlay.specs.Overlays.{begun_state, overlay_state}
@@ -33,7 +33,12 @@ returns-clause-given g c =
       honest = λ h. looked.reads.honest (fell h);
       world = sym looked.reads.world ∙ ap (λ (es : List Event). follow_all es begun.world) looked.reads.events ∙ follow_all-append before.events looked.reads.added begun.world
           ∙ unmoved looked.reads.added (follow_all before.events begun.world) looked.reads.failed;
-      changes = subst (λ (w : World). Tells c.tell_changes.result end w before.world) into.untouched.world (told.told before.world
+      looked = overlay_state over;
+      looking = looked.reads;
+      returned = below;
+      returning = told.reads;
+      changes = subst (λ (w : World). Tells c.tell_changes.result end w before.world (faults before + faults below) (faults (overlay_state over) + faults end)) into.untouched.world
+          (told.told before.world (faults before) (faults (overlay_state over))
           (known c.look_over-looked.result (λ o. IsTrue (overlay_state over).honest → IsLookedOver begun.world before.world o) (λ o. IsTrue end.honest → IsLookedOver below.world before.world o)
-          (λ o is h. subst (λ (w : World). IsLookedOver w before.world o) (sym into.untouched.world) (is (fell h))) looked.told));
+          (λ o is h. subst (λ (w : World). IsLookedOver w before.world o) (sym into.untouched.world) (is (fell h))) looked.told) looked.few);
     }
