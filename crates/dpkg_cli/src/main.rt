@@ -10,7 +10,8 @@
 //! translated to by the definition of dpkg_words (`IsNamedAnswer`). `code_of` says that the program
 //! ends with that status; that `main` calls these is read. What a unit begins with (`begun_stage`), the
 //! lines of `--status-fd` and `--log`, and which archives are passed over (`pick_of`) are their
-//! definitions in specs/; that they are told of what is noted is read.
+//! definitions in specs/; that they are told of what is noted is read, and so is that the lines of
+//! `idle_warnings` are written.
 #![tactic(auto)]
 
 ghost use Rattle.std.specs.Prelude.{◌≡◌, ◌≤◌, ◌⊎◌, [], IfSome, map, string_bytes, true};
@@ -40,8 +41,8 @@ mod watched;
 use command_line::{FAILED, run_words};
 use directories::Directories;
 use dpkg_words::{
-    Clearing, Gathered, OwnWords, Printed, Selected, Translated, selecting_words, speaks_dpkg,
-    translate,
+    Clearing, Gathered, OwnWords, Printed, Selected, Translated, idle_warnings, selecting_words,
+    speaks_dpkg, translate,
 };
 use fixed_lines::FixedLines;
 use frontends::Frontends;
@@ -341,9 +342,19 @@ fn run_translated<D: Disk>(rt: HostRuntime, going: Option<Going>, translated: &T
     }
 }
 
+// Tells the things that dpkg's words force and that change nothing. Where that can't be done the
+// words are carried out all the same.
+fn warn(rt: &HostRuntime, words: &[String]) {
+    if let Ok(lines) = idle_warnings(rt.alloc(), words) {
+        let stderr = rt.stderr();
+        let _ = io::writer(&stderr).write_all(lines.as_str().as_bytes());
+    }
+}
+
 fn run_dpkg<D: Disk>(rt: HostRuntime, going: Option<Going>, words: &[String]) -> u8
     ensures { IsDpkgAnswer D.Disk.model (translated (map string_bytes words.now)) result }
 {
+    warn(&rt, words);
     match translate(rt.alloc(), words) {
         Ok(translated) => run_translated::<D>(rt, going, &translated),
         Err(_) => refuse(rt, "broken memory\n"),

@@ -1,6 +1,6 @@
 -- What is forced, or refused: `--force-X`, `--no-force-X` and `--refuse-X`, with commas between several.
-use Rattle.std.specs.Prelude.{◌==◌, ◌||◌, Bool, true, false, List, Option, Some, None, codes, if◌then◌else◌}
-use Rattle.std.specs.List.{slice_split}
+use Rattle.std.specs.Prelude.{◌==◌, ◌||◌, ◌∷◌, ◌++◌, [], Bool, true, false, List, Option, Some, None, codes, if◌then◌else◌}
+use Rattle.std.specs.List.{list_any, slice_split}
 use Rattle.std.specs.Str.{bytes_eq}
 use Rattle.dpkg_words.specs.Options.{Text}
 use Rattle.dpkg_words.specs.declared.forces.Forced.{Forced}
@@ -72,3 +72,7 @@ with_forced Confmiss on f = record f { confmiss = on }
 with_forced Depends on f = record f { depends = on }
 with_forced Downgrade on f = f
 with_forced Idle on f = f
+
+-- the names of things that were forced and change nothing, with one more unless it's among them
+abbrev pub with_idle : Text → List Text → List Text
+with_idle name names = if list_any (bytes_eq name) names then names else names ++ name ∷ []

@@ -10,3 +10,4 @@ pub mod Screens
 pub mod Selections
 pub mod StatusFd
 pub mod Translated
+pub mod Warnings

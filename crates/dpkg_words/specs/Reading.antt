@@ -2,12 +2,12 @@
 use Rattle.std.specs.Prelude.{ℕ, Bool, true, false, List, [], ◌∷◌, ◌++◌, Option, Some, None, codes, fold, if◌then◌else◌, is_some, not}
 use Rattle.std.specs.Str.{bytes_eq}
 use Rattle.dpkg_words.specs.Cutting.{behind, cut_at}
-use Rattle.dpkg_words.specs.Forces.{nothing, thing_of, things_in, with_forced}
+use Rattle.dpkg_words.specs.Forces.{nothing, thing_of, things_in, with_forced, with_idle}
 use Rattle.dpkg_words.specs.Options.{Text, letter_sense, long_sense}
 use Rattle.dpkg_words.specs.Picking.{all_taken}
 use Rattle.dpkg_words.specs.StatusFd.{is_descriptor}
 use Rattle.dpkg_words.specs.declared.forces.Thing.{Thing}
-use Rattle.dpkg_words.specs.declared.forces.Thing.TheVariants.{Downgrade}
+use Rattle.dpkg_words.specs.declared.forces.Thing.TheVariants.{Downgrade, Idle}
 use Rattle.dpkg_words.specs.declared.options.Action.{Action}
 use Rattle.dpkg_words.specs.declared.options.Flag.{Flag}
 use Rattle.dpkg_words.specs.declared.options.Flag.TheVariants as flag
@@ -39,6 +39,7 @@ start = record {
     log = None;
     picking = all_taken;
     forced = nothing;
+    idle = [];
   };
   wants = None;
   ended = false;
@@ -119,14 +120,20 @@ with_value valued value r =
 abbrev pub with_downgrade : Bool → Options → Options
 with_downgrade on o = record o { picking = record o.picking { refuse_downgrade = not on } }
 
--- a thing is forced or refused
-abbrev pub by_thing : Text → Bool → Option Thing → Reading → Reading
-by_thing word on (Some Downgrade) r = record r { options = with_downgrade on r.options }
-by_thing word on (Some thing) r = record r { options = record r.options { forced = with_forced thing on r.options.forced } }
-by_thing word on None r = faulty why.Thing word r
+-- a thing that changes nothing is forced, or refused, which takes none back
+abbrev pub by_idle : Bool → Text → Options → Options
+by_idle true name o = record o { idle = with_idle name o.idle }
+by_idle false name o = o
+
+-- a thing is forced or refused, by its name
+abbrev pub by_thing : Text → Bool → Text → Option Thing → Reading → Reading
+by_thing word on name (Some Downgrade) r = record r { options = with_downgrade on r.options }
+by_thing word on name (Some Idle) r = record r { options = by_idle on name r.options }
+by_thing word on name (Some thing) r = record r { options = record r.options { forced = with_forced thing on r.options.forced } }
+by_thing word on name None r = faulty why.Thing word r
 
 abbrev pub with_thing : Text → Bool → Reading → Text → Reading
-with_thing word on r thing = if is_some r.outcome then r else by_thing word on (thing_of thing) r
+with_thing word on r thing = if is_some r.outcome then r else by_thing word on thing (thing_of thing) r
 
 abbrev pub with_things : Text → Bool → Text → Reading → Reading
 with_things word on things r = fold (with_thing word on) r (things_in things)

@@ -1,8 +1,11 @@
 // What is forced, or refused.
-ghost use Rattle.std.specs.Prelude.{◌≡◌, IfOk, map};
-ghost use Rattle.dpkg_words.specs.Forces.{conf_thing, is_check, is_manner, nothing, thing_of, things_in, with_forced};
+ghost use Rattle.std.specs.Prelude.{◌≡◌, IfOk, OnOk, map};
+ghost use Rattle.std.specs.List.{list_any};
+ghost use Rattle.std.specs.Str.{bytes_eq};
+ghost use Rattle.dpkg_words.specs.Forces.{conf_thing, is_check, is_manner, nothing, thing_of, things_in, with_forced, with_idle};
 
 use std::alloc::{AllocError, Global};
+use texts::{Text, Texts};
 
 /// What is forced of conffiles, and whether Depends and Pre-Depends are ignored.
 #[derive(Clone, Copy)]
@@ -144,4 +147,21 @@ impl Forced {
             Thing::Downgrade | Thing::Idle => self,
         }
     }
+}
+
+fn is_among(name: &str, names: &[Text]) -> bool
+    ensures { result ≡ list_any (bytes_eq name.now) names.now }
+{
+    names.iter().any(|other| name == other.as_str())
+}
+
+/// Adds the name of a thing that was forced and changes nothing, once.
+pub(crate) fn push_idle(alloc: Global, names: &mut Texts, name: &str) -> Result<(), AllocError>
+    ensures { OnOk result (names.new ≡ with_idle name.now names.old) }
+{
+    if is_among(name, names.as_slice()) {
+        return Ok(());
+    }
+    names.push(Text::from_str(alloc, name)?)?;
+    Ok(())
 }

@@ -6,7 +6,8 @@
 //! dpkg's terms: the program's own words, also with files behind them that are still to be found or
 //! picked, a text with a status, or a refusal that names the option that isn't taken. `selecting_words` gives
 //! of a text the words by which what it selects is recorded, or tells the first line that can't be
-//! read. `speaks_dpkg` tells by which names of the program its words are dpkg's.
+//! read. `idle_warnings` gives a line for each thing that is forced and changes nothing, of words
+//! that are carried out. `speaks_dpkg` tells by which names of the program its words are dpkg's.
 #![tactic(auto)]
 
 mod arguments;
@@ -21,6 +22,7 @@ mod screens;
 mod selections;
 mod status_fds;
 mod translation;
+mod warnings;
 mod words;
 
 pub use names::speaks_dpkg;
@@ -28,3 +30,4 @@ pub use own_words::OwnWords;
 pub use picking::Picking;
 pub use selections::{Selected, selecting_words};
 pub use translation::{Clearing, Gathered, Printed, Translated, translate};
+pub use warnings::idle_warnings;

@@ -2,9 +2,9 @@
 ghost use Rattle.std.specs.Prelude.{◌≡◌, IfOk, fold, map, option_map, string_bytes};
 ghost use Rattle.dpkg_words.specs.Options.{long_sense};
 ghost use Rattle.dpkg_words.specs.declared.options.Valued.TheVariants as valued;
-ghost use Rattle.dpkg_words.specs.Reading.{administration_of, attached, by_sense, by_thing, faulty, front_of, given, in_place, is_taken, read_all, read_word, start, with_action, with_admindir, with_cut, with_debug, with_downgrade, with_flag, with_instdir, with_letter, with_long, with_option, with_other, with_root, with_short, with_thing, with_things, with_value, with_word};
+ghost use Rattle.dpkg_words.specs.Reading.{administration_of, attached, by_idle, by_sense, by_thing, faulty, front_of, given, in_place, is_taken, read_all, read_word, start, with_action, with_admindir, with_cut, with_debug, with_downgrade, with_flag, with_instdir, with_letter, with_long, with_option, with_other, with_root, with_short, with_thing, with_things, with_value, with_word};
 
-use crate::forces::{Forced, Thing, thing_of, things_in};
+use crate::forces::{Forced, Thing, push_idle, thing_of, things_in};
 use crate::options::{Action, Flag, Sense, Valued, letter_sense, long_sense};
 use crate::picking::Picking;
 use crate::refusals::Why;
@@ -33,6 +33,8 @@ pub(crate) struct Options {
     pub(crate) log: Option<Text>,
     pub(crate) picking: Picking,
     pub(crate) forced: Forced,
+    /// The names of the things that were forced and change nothing.
+    pub(crate) idle: Texts,
 }
 
 /// What ends the reading: something that is told at once, or a fault with its word.
@@ -72,6 +74,7 @@ fn start(alloc: Global) -> Result<Reading, AllocError>
         log: None,
         picking: Picking::none(),
         forced: Forced::none(),
+        idle: Texts::new(alloc),
     };
     Ok(Reading {
         options,
@@ -321,21 +324,38 @@ fn with_downgrade(on: bool, options: Options) -> Options
     Options { picking, ..options }
 }
 
-// A thing that is forced or refused.
+// A thing that changes nothing, forced or refused.
+fn by_idle(alloc: Global, on: bool, name: &str, options: Options) -> Result<Options, AllocError>
+    ensures { IfOk result (λ o. o ≡ by_idle on name.now options) }
+{
+    if !on {
+        return Ok(options);
+    }
+    let mut idle = options.idle;
+    push_idle(alloc, &mut idle, name)?;
+    Ok(Options { idle, ..options })
+}
+
+// A thing that is forced or refused, by its name.
 fn by_thing(
     alloc: Global,
     word: &str,
     on: bool,
+    name: &str,
     thing: Option<Thing>,
     reading: Reading,
 ) -> Result<Reading, AllocError>
-    ensures { IfOk result (λ r. r ≡ by_thing word.now on thing reading) }
+    ensures { IfOk result (λ r. r ≡ by_thing word.now on name.now thing reading) }
 {
     match thing {
         Some(Thing::Downgrade) => Ok(Reading {
             options: with_downgrade(on, reading.options),
             ..reading
         }),
+        Some(Thing::Idle) => {
+            let options = by_idle(alloc, on, name, reading.options)?;
+            Ok(Reading { options, ..reading })
+        }
         Some(thing) => {
             let forced = reading.options.forced.with(thing, on);
             let options = Options {
@@ -360,7 +380,7 @@ fn with_thing(
     if reading.outcome.is_some() {
         return Ok(reading);
     }
-    by_thing(alloc, word, on, thing_of(thing), reading)
+    by_thing(alloc, word, on, thing, thing_of(thing), reading)
 }
 
 fn with_things(

@@ -28,8 +28,8 @@ const HELP: &str = "dpkg's words, carried out by coizkerra. Usage: [OPTION ..] A
   --force-confold, --force-confdef, --force-confnew, --force-confmiss
   --force-depends         Depends and Pre-Depends are ignored where they can't be kept
 
-Taken, and without effect: other --force-X and --refuse-X, --no-pager, --no-debsig,
---status-logger, --abort-after, -D.
+Taken, and without effect: other --force-X, which are told on standard error, other --refuse-X,
+--no-pager, --no-debsig, --status-logger, --abort-after, -D.
 What is printed are coizkerra's own lines: coizkerra help.
 ";
 

@@ -492,7 +492,7 @@ fn ended_by(alloc: Global, outcome: &Outcome, options: &Options) -> Result<Trans
     }
 }
 
-fn translated_from(alloc: Global, reading: &Reading) -> Result<Translated, AllocError>
+pub(crate) fn translated_from(alloc: Global, reading: &Reading) -> Result<Translated, AllocError>
     ensures { IfOk result (λ t. t ≡ translated_from reading.now) }
 {
     let options = &reading.options;
@@ -508,7 +508,8 @@ fn translated_from(alloc: Global, reading: &Reading) -> Result<Translated, Alloc
     }
 }
 
-fn behind_program(words: &[String]) -> &[String]
+/// The words behind the program's name.
+pub(crate) fn behind_program(words: &[String]) -> &[String]
     ensures { map string_bytes result.now ≡ behind_program (map string_bytes words.now) }
 {
     match words {
