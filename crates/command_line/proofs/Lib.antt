@@ -2,6 +2,7 @@ mod Trees
 mod Rounds
 mod Steps
 mod Printed
+mod Limited
 mod Held
 mod Named
 mod Changed

@@ -4,6 +4,7 @@ use Rattle.std.specs.Prelude.{MatchBool, MatchOption}
 use Rattle.std.proofs.lemmas.List.{length-append}
 use Rattle.std.proofs.Math.Seq.{take-append_seam}
 use Rattle.host_core.specs.Host.{State}
+use Rattle.host_core.specs.Paths.{Path}
 use Rattle.diversions.specs.Diverted.{Diverted}
 use Rattle.file_lists.specs.Filed.{Filed}
 use Rattle.configure_run.specs.declared.options.ConfigureOptions.{ConfigureOptions}
@@ -24,7 +25,7 @@ use Rattle.command_line.specs.declared.fault.NotOpened.{NotOpened}
 use Rattle.command_words.specs.declared.owners.TreeOwners.{TreeOwners}
 use Rattle.command_words.specs.declared.unpacking.Unpacking.{Unpacking}
 use Rattle.command_line.specs.Reports.{HasEndedAs}
-use Rattle.command_line.specs.Reading.{AreReadFor, AreReadOnce, HaveGoneOn, IsReadFor, IsReadOnce, is_among, words_before}
+use Rattle.command_line.specs.Reading.{AreReadFor, AreReadOnce, HaveGoneOn, IsReadFor, IsReadOnce, IsWithoutRoom, is_among, words_before}
 use Rattle.command_line.specs.Roots.{Around, around, held_anew}
 use Rattle.command_line.specs.declared.hosts.Hosts.{Ghosts}
 use Rattle.command_line.specs.Order.{AreLookedAt, AreRoundsOf, HasLooked, IsLookedAt, IsOrderOf, is_one_round}
@@ -36,7 +37,12 @@ use Rattle.command_line.proofs.Behind.{around_as}
 pub record Within (outer inner : Around) : Type 0 where
   pub tree : (word : List ℕ) (s : State) → inner.tree word s → outer.tree word s
   pub seen : (s : State) → inner.seen s → outer.seen s
+  pub full : (word : List ℕ) (path : Path) → inner.full word path → outer.full word path
   pub failed : inner.failed → outer.failed
+
+-- so is want of room
+full_within : {T : Type 0} (outer inner : Around) → Within outer inner → (word : List ℕ) (read : Result T TreeFault) → IsWithoutRoom inner word read → IsWithoutRoom outer word read
+full_within outer inner within word read full = (full.0, full.1, within.full word full.0 full.2)
 
 pub read_within : (outer inner : Around) → Within outer inner → (owners : TreeOwners) (word : List ℕ) (read : Result Package TreeFault) → IsReadFor inner owners word read → IsReadFor outer owners word read
 read_within outer inner within owners word read (inl r) = inl (record {
@@ -50,7 +56,8 @@ read_within outer inner within owners word read (inl r) = inl (record {
   counts = r.counts;
 })
 read_within outer inner within owners word read (inr (inl failed)) = inr (inl (failed.0, within.failed failed.1))
-read_within outer inner within owners word read (inr (inr memory)) = inr (inr memory)
+read_within outer inner within owners word read (inr (inr (inl memory))) = inr (inr (inl memory))
+read_within outer inner within owners word read (inr (inr (inr full))) = inr (inr (inr (full_within outer inner within word read full)))
 
 case_within : (b : Bool) (P : Type 0) {Q R : Type 0} → (Q → R) → MatchBool b P Q → MatchBool b P R
 case_within true P so h = h
@@ -79,7 +86,8 @@ found_within outer inner within word read (some, inl r) = (
     counts = r.counts;
   }),
 )
-found_within outer inner within word read (some, inr failed) = (some, inr (failed.0, within.failed failed.1))
+found_within outer inner within word read (some, inr (inl failed)) = (some, inr (inl (failed.0, within.failed failed.1)))
+found_within outer inner within word read (some, inr (inr full)) = (some, inr (inr (full_within outer inner within word read full)))
 
 pub looked_within : (outer inner : Around) → Within outer inner → (word : List ℕ) (found : Option ControlFile) → HasLooked inner word found → HasLooked outer word found
 looked_within outer inner within word found h = (h.0, found_within outer inner within word h.0 h.1, h.2)
@@ -159,15 +167,16 @@ module _ {Hosts Opened : Type 0} (of : Ghosts Hosts Opened) (a b c : Hosts) wher
   gone_then first rest = record {
     trees = λ word s h. first.trees word s (rest.trees word s h);
     seen = λ s h. rest.seen s (first.seen s h);
+    full = λ word path h. rest.full word path (first.full word path h);
     faults = omega (arith, first.faults, rest.faults);
     below = rest.below ∙ first.below;
   }
 
   pub within_first : HaveGoneOn of b c → Within (around of a c) (around of a b)
-  within_first rest = record { tree = λ word s h. h; seen = rest.seen; failed = λ h. omega (arith, h, rest.faults) }
+  within_first rest = record { tree = λ word s h. h; seen = rest.seen; full = rest.full; failed = λ h. omega (arith, h, rest.faults) }
 
   pub within_rest : HaveGoneOn of a b → Within (around of a c) (around of b c)
-  within_rest first = record { tree = first.trees; seen = λ s h. h; failed = λ h. omega (arith, h, first.faults) }
+  within_rest first = record { tree = first.trees; seen = λ s h. h; full = λ word path h. h; failed = λ h. omega (arith, h, first.faults) }
 
 -- trees that are read one after another
 module _ {T Hosts Opened : Type 0} (reads : T → Candidate → T → Type 0) (of : Ghosts Hosts Opened) (hosts : T → Hosts) (words : T → List (List ℕ)) (asked : T → Unpacking) (all : T → List (List ℕ)) where
@@ -183,13 +192,14 @@ module _ {T Hosts Opened : Type 0} (reads : T → Candidate → T → Type 0) (o
 
   module _ (one : (old : T) (c : Candidate) (new : T) → reads old c new → Step old c new) where
     pub gone_on : (cs : List Candidate) (old new : T) → AreRead reads old cs new → Goes old new
-    gone_on [] old new same = subst (Goes old) (sym same) (record { trees = λ word s h. h; seen = λ s h. h; faults = omega arith; below = refl })
+    gone_on [] old new same = subst (Goes old) (sym same) (record { trees = λ word s h. h; seen = λ s h. h; full = λ word path h. h; faults = omega arith; below = refl })
     gone_on (c ∷ cs) old new read =
         let first = (one old c read.0 read.1).3 in
         let rest = gone_on cs read.0 new read.2 in
         record {
           trees = λ word s h. first.trees word s (rest.trees word s h);
           seen = λ s h. rest.seen s (first.seen s h);
+          full = λ word path h. rest.full word path (first.full word path h);
           faults = omega (arith, first.faults, rest.faults);
           below = rest.below ∙ first.below;
         }
@@ -209,8 +219,8 @@ module _ {T Hosts Opened : Type 0} (reads : T → Candidate → T → Type 0) (o
         (subst (λ (x : Unpacking). IsReadOnce (between old mid) x.owners (words_before (all old) (length (words old))) c.label c.tree) same step.2) in (
           step.4 ∙ ap (λ (l : List (List ℕ)). c.label ∷ l) rest.0,
           (
-            once_within (between old new) (between old mid) (record { tree = λ word s h. h; seen = gone.seen; failed = λ h. omega (arith, h, gone.faults) }) u.owners earlier c.label c.tree first,
-            all_within (between old new) (between mid new) (record { tree = step.3.trees; seen = λ s h. h; failed = λ h. omega (arith, h, step.3.faults) }) u.owners (earlier ++ c.label ∷ []) cs rest.1,
+            once_within (between old new) (between old mid) (record { tree = λ word s h. h; seen = gone.seen; full = gone.full; failed = λ h. omega (arith, h, gone.faults) }) u.owners earlier c.label c.tree first,
+            all_within (between old new) (between mid new) (record { tree = step.3.trees; seen = λ s h. h; full = λ word path h. h; failed = λ h. omega (arith, h, step.3.faults) }) u.owners (earlier ++ c.label ∷ []) cs rest.1,
           ),
         )
 

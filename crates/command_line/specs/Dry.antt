@@ -32,4 +32,5 @@ dry a = record {
   failed = a.failed;
   unopened = a.unopened;
   locked = λ word lock. ⊥;
+  full = a.full;
 }

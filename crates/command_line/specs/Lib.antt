@@ -12,5 +12,6 @@ pub mod Reports
 pub mod Rehearsed
 pub mod Reading
 pub mod Order
+pub mod Limits
 pub mod Printing
 pub mod Triggering

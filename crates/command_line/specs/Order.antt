@@ -13,6 +13,7 @@ use Rattle.recorded_packages.specs.Packages.{ArePackagesOf}
 use Rattle.relation_index.specs.declared.package.Package.{Package}
 use Rattle.status_records.specs.declared.record.Record.{Record}
 use Rattle.command_words.specs.declared.unpacking.Unpacking.{Unpacking}
+use Rattle.command_line.specs.Reading.{IsWithoutRoom}
 use Rattle.command_line.specs.Roots.{Around}
 
 -- what a look at a tree finds: its control file, or a fault
@@ -31,10 +32,10 @@ pub record IsLooking (a : Around) (word : List ℕ) (read : Result ControlFile T
   pub given : a.seen end
   pub counts : CountsTree state end read
 
--- What is found for a word: what a look finds, or that the device failed on opening a host for it. A look for which memory is wanting
--- finds nothing, and ends the command.
+-- What is found for a word: what a look finds, or that the device failed on opening a host for it, or that there was no room for an
+-- archive. A look for which memory is wanting finds nothing, and ends the command.
 abbrev pub IsLookedAt : Around → List ℕ → Result ControlFile TreeFault → Type 0
-IsLookedAt a word read = (read ≢ Err tree_faults.NoMemory) × (IsLooking a word read ⊎ ((read ≡ Err tree_faults.Device) × a.failed))
+IsLookedAt a word read = (read ≢ Err tree_faults.NoMemory) × (IsLooking a word read ⊎ (((read ≡ Err tree_faults.Device) × a.failed) ⊎ IsWithoutRoom a word read))
 
 -- one that can't be read needs nothing of others, and meets nothing
 abbrev pub looked_as : Result ControlFile TreeFault → Option ControlFile

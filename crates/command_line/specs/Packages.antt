@@ -1,5 +1,5 @@
 -- What is asked of packages by their names, or by what is wanted of them, and what came of it.
-use Rattle.std.specs.Prelude.{◌≡◌, ◌⊎◌, ℕ, Bool, IsNone, List, [], Option, Result, Ok, Err, Some, None, true, false, if◌then◌else◌, map}
+use Rattle.std.specs.Prelude.{◌≡◌, ◌⊎◌, ◌++◌, ℕ, Bool, IsNone, List, [], Option, Result, Ok, Err, Some, None, true, false, if◌then◌else◌, map}
 use Rattle.host_core.specs.Events.{Event}
 use Rattle.host_core.specs.Host.{Since, State}
 use Rattle.host_core.specs.World.{World}
@@ -33,8 +33,9 @@ use Rattle.command_words.specs.declared.selections.Selected.{Selected as Told}
 use Rattle.command_words.specs.declared.selections.Wanted.{Wanted}
 use Rattle.command_words.specs.declared.selections.Wanted.TheVariants as wanted
 use Rattle.command_line.specs.Endings.{HasEnded}
+use Rattle.command_line.specs.Limits.{KeepsLimit}
 use Rattle.command_line.specs.Roots.{Around, Given, IsOpenedOn, IsUnitsFault, held_anew}
-use Rattle.command_line.specs.Triggering.{HasTriggeredBehind, IsAround, IsUntriggered, last_behind, touched_of}
+use Rattle.command_line.specs.Triggering.{HasTriggeredBehind, IsAround, IsUntriggered, last_behind, touched_of, units_behind}
 use Rattle.command_line.specs.declared.triggering.Triggered.{Triggered}
 use Rattle.command_line.specs.declared.triggering.Known.{Known}
 use Rattle.command_line.specs.declared.triggering.Triggering.{Triggering}
@@ -158,6 +159,6 @@ abbrev pub HasWorkedUnder : Around → List ℕ → Work → Bool → Ended Repo
 HasWorkedUnder a word asked process ended = (begun : State) × a.root word begun × IsWorkedOn a.left begun asked process ended
 
 -- what came of it: its report, or why it wasn't begun
-abbrev pub HasEndedWork : Around → List ℕ → Work → Bool → Result (Ended Report) NotOpened → Type 0
-HasEndedWork a word asked process (Ok ended) = HasWorkedUnder a word asked process ended
-HasEndedWork a word asked process (Err fault) = IsUnitsFault (triggering_of asked process) a word fault
+abbrev pub HasEndedWork : Around → List ℕ → Work → Bool → Option ℕ → Result (Ended Report) NotOpened → Type 0
+HasEndedWork a word asked process limit (Ok ended) = HasWorkedUnder a word asked process ended × KeepsLimit limit (ended.done.units.items ++ units_behind ended.triggered)
+HasEndedWork a word asked process limit (Err fault) = IsUnitsFault (triggering_of asked process) a word fault

@@ -3,6 +3,7 @@ use Rattle.std.specs.Prelude.{◌≡◌, ◌≤◌, ◌⊎◌, ◌++◌, ◌∷�
 use Rattle.std.specs.List.{list_any}
 use Rattle.std.specs.Str.{bytes_eq}
 use Rattle.host_core.specs.Host.{Reads, Silent, State}
+use Rattle.host_core.specs.Paths.{Path}
 use Rattle.host_core.specs.World.{World}
 use Rattle.command_words.specs.declared.owners.TreeOwners.{TreeOwners}
 use Rattle.command_words.specs.declared.owners.TreeOwners.TheVariants.{Kept, Root}
@@ -38,9 +39,13 @@ pub record IsReading (a : Around) (owners : TreeOwners) (word : List ℕ) (read 
   pub given : a.seen end
   pub counts : CountsTree state end read
 
--- what is read for a word, unless no host could be opened for it: the device failed, or memory was wanting
+-- an archive was behind a word, and is refused for the path at which there was no room for it
+abbrev pub IsWithoutRoom : {T : Type 0} → Around → List ℕ → Result T TreeFault → Type 0
+IsWithoutRoom a word read = (path : Path) × (read ≡ Err (tree_faults.NoRoom path)) × a.full word path
+
+-- what is read for a word, unless no host could be opened for it: the device failed, memory was wanting, or room for an archive
 abbrev pub IsReadFor : Around → TreeOwners → List ℕ → Result Package TreeFault → Type 0
-IsReadFor a owners word read = IsReading a owners word read ⊎ (((read ≡ Err tree_faults.Device) × a.failed) ⊎ (read ≡ Err tree_faults.NoMemory))
+IsReadFor a owners word read = IsReading a owners word read ⊎ (((read ≡ Err tree_faults.Device) × a.failed) ⊎ ((read ≡ Err tree_faults.NoMemory) ⊎ IsWithoutRoom a word read))
 
 -- a slash at the end of a word says nothing
 abbrev pub ends_in_slash : List ℕ → Bool
@@ -70,10 +75,11 @@ abbrev pub words_before : List (List ℕ) → ℕ → List (List ℕ)
 words_before all left = take (length all - left) all
 
 -- Hosts between two moments: what stands behind words for trees later stood there before, hosts that were given back stay so,
--- no fault is forgotten, and they are over the same hosts, if over any.
+-- no fault and no want of room is forgotten, and they are over the same hosts, if over any.
 pub record HaveGoneOn {Hosts Opened : Type 0} (of : Ghosts Hosts Opened) (old new : Hosts) : Type 0 where
   pub trees : (word : List ℕ) (s : State) → of.tree new word s → of.tree old word s
   pub seen : (s : State) → of.seen old s → of.seen new s
+  pub full : (word : List ℕ) (path : Path) → of.full old word path → of.full new word path
   pub faults : of.faults old ≤ of.faults new
   pub below : of.below new ≡ of.below old
 

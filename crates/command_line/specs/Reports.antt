@@ -16,9 +16,10 @@ use Rattle.command_line.specs.declared.packages.Work.TheVariants as work
 use Rattle.configure_run.specs.declared.options.ConfigureOptions.{ConfigureOptions}
 use Rattle.command_line.specs.Queries.{IsQueryAnswer, bad_path_answer, inquiry_of, text_answer}
 use Rattle.command_line.specs.declared.changing.Change.{Change}
-use Rattle.command_line.specs.Printing.{AppendsPart}
+use Rattle.command_line.specs.Limits.{KeepsLimit}
+use Rattle.command_line.specs.Printing.{AppendsPart, units_of}
 use Rattle.command_line.specs.Roots.{Around, IsUnitsFault, opening_answer}
-use Rattle.command_line.specs.Triggering.{with_triggers}
+use Rattle.command_line.specs.Triggering.{units_behind, with_triggers}
 use Rattle.command_line.specs.Unpacks.{HasUnpacked, triggering_for}
 use Rattle.command_line.specs.Verifying.{IsVerifyAnswer}
 use Rattle.command_line.specs.Endings.{with_notes}
@@ -76,10 +77,10 @@ abbrev pub done_answer : Done → Answer
 done_answer (done.Unpacked report) = report_answer report
 done_answer (done.Installed rounds) = install_answer rounds.items
 
--- what came of trees, whose packages are configured too where it is told how: reports, or why their units weren't
--- begun
+-- what came of trees, whose packages are configured too where it is told how: reports, of which as many units may fail as is asked
+-- for, or why their units weren't begun
 abbrev pub HasEndedAs : Around → Option ConfigureOptions → Unpacking → Result (Ended Done) NotOpened → Type 0
-HasEndedAs a options u (Ok ended) = HasUnpacked a options u ended
+HasEndedAs a options u (Ok ended) = HasUnpacked a options u ended × KeepsLimit u.limit (units_of ended.done ++ units_behind ended.triggered)
 HasEndedAs a options u (Err fault) = IsUnitsFault (Some (triggering_for u)) a u.root fault
 
 abbrev pub trees_answer : Result (Ended Done) NotOpened → Answer
@@ -110,8 +111,8 @@ abbrev pub IsTreesAnswer : Around → Option ConfigureOptions → Unpacking → 
 IsTreesAnswer a options u answer = (ended : Result (Ended Done) NotOpened) × HasEndedAs a options u ended × (answer ≡ trees_answer ended)
 
 -- work on packages by their names has ended as its answer tells
-abbrev pub IsWorkAnswer : Around → List ℕ → Work → Bool → Answer → Type 0
-IsWorkAnswer a word asked process answer = (ended : Result (Ended Report) NotOpened) × HasEndedWork a word asked process ended × (answer ≡ work_answer ended)
+abbrev pub IsWorkAnswer : Around → List ℕ → Work → Bool → Option ℕ → Answer → Type 0
+IsWorkAnswer a word asked process limit answer = (ended : Result (Ended Report) NotOpened) × HasEndedWork a word asked process limit ended × (answer ≡ work_answer ended)
 
 -- help is the screen of the topic, on standard output
 abbrev pub IsHelpAnswer : Topic → Answer → Type 0
@@ -129,12 +130,12 @@ IsAnswerTo a (Divert d) answer = IsReadChange a d.root (bad_of_divert d) (IsDive
 IsAnswerTo a (Undivert u) answer = IsReadChange a u.root (bad_of_undivert u) (IsUndivertOf u) answer
 IsAnswerTo a (Unpack u) answer = IsTreesAnswer a None u answer
 IsAnswerTo a (Install u) answer = IsTreesAnswer a (Some (options_of u.forced)) u answer
-IsAnswerTo a (Configure c) answer = IsWorkAnswer a c.root (work_of c) c.triggers answer
-IsAnswerTo a (ProcessTriggers p) answer = IsWorkAnswer a p.root work.ProcessTriggers true answer
-IsAnswerTo a (Remove r) answer = IsWorkAnswer a r.root (work.Remove r.names r.ignore_depends) r.triggers answer
-IsAnswerTo a (Purge r) answer = IsWorkAnswer a r.root (work.Purge r.names r.ignore_depends) r.triggers answer
-IsAnswerTo a (Select x) answer = IsWorkAnswer a x.root (work.Select x.selections) false answer
-IsAnswerTo a (RemoveSelected x) answer = IsWorkAnswer a x.root (work.RemoveSelected x.ignore_depends) x.triggers answer
+IsAnswerTo a (Configure c) answer = IsWorkAnswer a c.root (work_of c) c.triggers c.limit answer
+IsAnswerTo a (ProcessTriggers p) answer = IsWorkAnswer a p.root work.ProcessTriggers true p.limit answer
+IsAnswerTo a (Remove r) answer = IsWorkAnswer a r.root (work.Remove r.names r.ignore_depends) r.triggers r.limit answer
+IsAnswerTo a (Purge r) answer = IsWorkAnswer a r.root (work.Purge r.names r.ignore_depends) r.triggers r.limit answer
+IsAnswerTo a (Select x) answer = IsWorkAnswer a x.root (work.Select x.selections) false None answer
+IsAnswerTo a (RemoveSelected x) answer = IsWorkAnswer a x.root (work.RemoveSelected x.ignore_depends) x.triggers x.limit answer
 
 -- for want of memory
 abbrev pub memory_answer : Answer

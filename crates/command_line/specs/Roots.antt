@@ -1,6 +1,7 @@
 -- How the root of a command is opened, and what is known of its hosts.
 use Rattle.std.specs.Prelude.{◌≡◌, ◌<◌, ◌⊎◌, ℕ, false, List, [], ◌++◌, Option, Some, None, codes}
 use Rattle.host_core.specs.Host.{AtEachMoment, Needs, Silent, State}
+use Rattle.host_core.specs.Paths.{Path}
 use Rattle.administration.specs.declared.fault.AdministrationFault.{AdministrationFault}
 use Rattle.command_line.specs.declared.hosts.Hosts.{Ghosts}
 use Rattle.command_line.specs.declared.fault.Lock.{Lock}
@@ -30,8 +31,9 @@ abbrev pub Given : Type 1
 Given = State → Type 0
 
 -- What is known of the hosts of a command: the states behind words for the root and for trees before it, the states in
--- which they were given back by its end, whether the device failed on opening one and no root was opened, and whether another
--- program held a lock of the root behind a word before it.
+-- which they were given back by its end, whether the device failed on opening one and no root was opened, whether another
+-- program held a lock of the root behind a word before it, and at which paths there was no room for the archive behind a word by its
+-- end.
 pub record Around : Type 1 where
   pub root : Behind
   pub tree : Behind
@@ -40,6 +42,7 @@ pub record Around : Type 1 where
   pub failed : Type 0
   pub unopened : Type 0
   pub locked : List ℕ → Lock → Type 0
+  pub full : List ℕ → Path → Type 0
 
 -- the same of hosts between two moments
 abbrev pub around : {Hosts Opened : Type 0} → Ghosts Hosts Opened → Hosts → Hosts → Around
@@ -51,6 +54,7 @@ around of old new = record {
   failed = of.faults old < of.faults new;
   unopened = of.unopened old new;
   locked = of.locked old;
+  full = of.full new;
 }
 
 -- The administration on a host was opened: no script was called, and nothing but what opening changes has changed. These are

@@ -1,7 +1,7 @@
 -- What a rehearsal tells of the paths that would be changed, once the root is given back.
-use Rattle.std.specs.Prelude.{◌≡◌, ◌⊎◌, ◌+◌, IsTrue, ℕ, zero, suc, Option, List, []}
+use Rattle.std.specs.Prelude.{◌≡◌, ◌⊎◌, IsTrue, ℕ, zero, suc, Option, List, []}
 use Rattle.host_core.specs.Events.{follow_all}
-use Rattle.host_core.specs.Host.{State, Reads, Silent, faults}
+use Rattle.host_core.specs.Host.{State, Reads, Silent}
 use Rattle.host_core.specs.World.{World}
 use Rattle.foretold_changes.specs.Told.{AreTold}
 use Rattle.command_line.specs.Dry.{dry}
@@ -13,14 +13,14 @@ use Rattle.command_line.specs.declared.fault.NotOpened.TheVariants.{Opening}
 use Rattle.command_line.specs.declared.telling_hosts.Told.{Told}
 use Rattle.command_line.specs.declared.telling_hosts.Told.TheVariants.{Nothing, Lines, Failed}
 
--- the lines of the paths, unless one of the two administrations can't be read; as unread no more are told than looks failed between these counts
-abbrev pub Tells : Told → State → World → World → ℕ → ℕ → Type 0
-Tells Nothing below old new first last = ⊥
-Tells (Lines text) below old new first last = IsTrue below.honest → AreTold old new first last text
-Tells (Failed fault) below old new first last = Unit {0}
+-- The lines of the paths, unless one of the two administrations can't be read. Which looks failed, of which paths are told as unread, isn't
+-- said of these hosts.
+abbrev pub Tells : Told → State → World → World → Type 0
+Tells Nothing below old new = ⊥
+Tells (Lines text) below old new = IsTrue below.honest → (first last : ℕ) × AreTold old new first last text
+Tells (Failed fault) below old new = Unit {0}
 
--- What was given back of a host with this state, and what is told of it: as of a rehearsal without lines of paths; for these it was
--- looked at once more, and so was the host below when it was given back.
+-- What was given back of a host with this state, and what is told of it: as of a rehearsal without lines of paths.
 pub record IsToldOver (told : Told) (left : Given) (state : State) : Type 0 where
   pub begun : State
   pub below : State
@@ -29,12 +29,7 @@ pub record IsToldOver (told : Told) (left : Given) (state : State) : Type 0 wher
   pub silent : Silent begun below
   pub honest : IsTrue below.honest → IsTrue state.honest
   pub world : state.world ≡ follow_all state.events begun.world
-  -- as it was once it was looked at, and the host below as it was given back
-  pub looked : State
-  pub looking : Reads state looked
-  pub returned : State
-  pub returning : Reads returned below
-  pub changes : Tells told below begun.world state.world (faults state + faults returned) (faults looked + faults below)
+  pub changes : Tells told below begun.world state.world
 
 abbrev pub told_left : Told → Given → Given
 told_left told left state = IsToldOver told left state

@@ -9,6 +9,7 @@ ghost use Rattle.command_words.specs.Topics.{named_in};
 ghost use Rattle.command_line.specs.Changes.{HasEndedChange, IsDivertOf, IsUndivertOf, bad_of_divert, bad_of_undivert, is_good, owner_in};
 ghost use Rattle.command_line.specs.Packages.{HasEndedWork, HasWorkedUnder, triggering_of, work_of};
 ghost use Rattle.command_line.specs.Endings.{with_notes};
+ghost use Rattle.command_line.specs.Limits.{KeepsLimit};
 ghost use Rattle.command_line.specs.Printing.{HasPrinted, IsLeft, output_left, status_left, units_answer, units_of};
 ghost use Rattle.command_line.specs.Queries.{IsInquired, IsQueryAnswer, bad_path_answer, inquiry_of, unanswered_answer};
 ghost use Rattle.command_line.specs.Reports.{HasEndedAs, IsAnswerOf, IsHelpAnswer, IsReadChange, comparison_answer, done_answer, ended_answer, has_units, memory_answer, names_answer, opens_root, prints, report_answer, round_status, rounds_status, trees_answer, version_answer, work_answer};
@@ -275,6 +276,8 @@ fn unpack_telling<S: Hosts, O: Write>(
         result (λ ended. HasPrinted (flat_map unit_lines (units_of ended.done ++ units_behind
         ended.triggered)) printer.new.flow
         (O.contents printer.old.out.now) (O.contents printer.new.out.now)) }
+    ensures kept { IfOk result (λ ended. KeepsLimit printer.old.left (units_of ended.done
+        ++ units_behind ended.triggered)) }
     ensures untold { OnErr result (printer.new ≡ printer.old) }
     ensures below { S.below hosts.new ≡ S.below hosts.old }
 {
@@ -299,6 +302,7 @@ fn unpacked<S: Hosts, O: Write>(
         alloc,
         out,
         flow: Flow::Whole,
+        left: unpacking.limit,
     };
     let ended = unpack_telling(alloc, hosts, unpacking, options, &mut printer);
     let flow = printer.flow;
@@ -352,6 +356,8 @@ fn work_telling<S: Hosts, O: Write>(
         result (λ ended. HasPrinted (flat_map unit_lines (ended.done.units.items ++ units_behind
         ended.triggered)) printer.new.flow
         (O.contents printer.old.out.now) (O.contents printer.new.out.now)) }
+    ensures kept { IfOk result (λ ended. KeepsLimit printer.old.left (ended.done.units.items
+        ++ units_behind ended.triggered)) }
     ensures untold { OnErr result (printer.new ≡ printer.old) }
     ensures below { S.below hosts.new ≡ S.below hosts.old }
 {
@@ -366,11 +372,12 @@ fn worked<S: Hosts, O: Write>(
     wait: u32,
     asked: &Work,
     process: bool,
+    limit: Option<u32>,
     out: &mut O,
 ) -> Result<Left, AllocError>
     ensures ended { (ended : Result (AnEnded AReport) ANotOpened)
         × HasEndedWork (around S.Hosts hosts.old hosts.new) root.now asked.now process
-        ended
+        limit ended
         × IsLeft (work_answer ended) (O.contents out.old) (O.contents out.new) result }
     ensures bound { IfOk result (λ left. status_left left ≤ 2) }
     ensures below { S.below hosts.new ≡ S.below hosts.old }
@@ -379,6 +386,7 @@ fn worked<S: Hosts, O: Write>(
         alloc,
         out,
         flow: Flow::Whole,
+        left: limit,
     };
     let ended = work_telling(
         alloc,
@@ -409,7 +417,7 @@ fn configured<S: Hosts, O: Write>(
 ) -> Result<Left, AllocError>
     ensures ended { (ended : Result (AnEnded AReport) ANotOpened)
         × HasEndedWork (around S.Hosts hosts.old hosts.new) asked.root (work_of asked)
-        asked.triggers ended
+        asked.triggers asked.limit ended
         × IsLeft (work_answer ended) (O.contents out.old) (O.contents out.new) result }
     ensures bound { IfOk result (λ left. status_left left ≤ 2) }
     ensures below { S.below hosts.new ≡ S.below hosts.old }
@@ -419,11 +427,14 @@ fn configured<S: Hosts, O: Write>(
         names,
         streams,
         triggers,
+        limit,
         forced,
         wait,
     } = asked;
     let work = Work::Configure(names, options_of(forced));
-    worked(alloc, hosts, &root, streams, wait, &work, triggers, out)
+    worked(
+        alloc, hosts, &root, streams, wait, &work, triggers, limit, out,
+    )
 }
 
 fn removed<S: Hosts, O: Write>(
@@ -434,7 +445,7 @@ fn removed<S: Hosts, O: Write>(
 ) -> Result<Left, AllocError>
     ensures ended { (ended : Result (AnEnded AReport) ANotOpened)
         × HasEndedWork (around S.Hosts hosts.old hosts.new) asked.root (Work.Remove asked.names asked.ignore_depends)
-        asked.triggers ended × IsLeft (work_answer ended) (O.contents out.old) (O.contents out.new)
+        asked.triggers asked.limit ended × IsLeft (work_answer ended) (O.contents out.old) (O.contents out.new)
         result }
     ensures bound { IfOk result (λ left. status_left left ≤ 2) }
     ensures below { S.below hosts.new ≡ S.below hosts.old }
@@ -444,11 +455,14 @@ fn removed<S: Hosts, O: Write>(
         names,
         streams,
         triggers,
+        limit,
         ignore_depends,
         wait,
     } = asked;
     let work = Work::Remove(names, ignore_depends);
-    worked(alloc, hosts, &root, streams, wait, &work, triggers, out)
+    worked(
+        alloc, hosts, &root, streams, wait, &work, triggers, limit, out,
+    )
 }
 
 fn purged<S: Hosts, O: Write>(
@@ -459,7 +473,7 @@ fn purged<S: Hosts, O: Write>(
 ) -> Result<Left, AllocError>
     ensures ended { (ended : Result (AnEnded AReport) ANotOpened)
         × HasEndedWork (around S.Hosts hosts.old hosts.new) asked.root (Work.Purge asked.names asked.ignore_depends)
-        asked.triggers ended × IsLeft (work_answer ended) (O.contents out.old) (O.contents out.new)
+        asked.triggers asked.limit ended × IsLeft (work_answer ended) (O.contents out.old) (O.contents out.new)
         result }
     ensures bound { IfOk result (λ left. status_left left ≤ 2) }
     ensures below { S.below hosts.new ≡ S.below hosts.old }
@@ -469,11 +483,14 @@ fn purged<S: Hosts, O: Write>(
         names,
         streams,
         triggers,
+        limit,
         ignore_depends,
         wait,
     } = asked;
     let work = Work::Purge(names, ignore_depends);
-    worked(alloc, hosts, &root, streams, wait, &work, triggers, out)
+    worked(
+        alloc, hosts, &root, streams, wait, &work, triggers, limit, out,
+    )
 }
 
 fn selected<S: Hosts, O: Write>(
@@ -484,7 +501,7 @@ fn selected<S: Hosts, O: Write>(
 ) -> Result<Left, AllocError>
     ensures ended { (ended : Result (AnEnded AReport) ANotOpened)
         × HasEndedWork (around S.Hosts hosts.old hosts.new) asked.root
-        (Work.Select asked.selections) false ended
+        (Work.Select asked.selections) false None ended
         × IsLeft (work_answer ended) (O.contents out.old) (O.contents out.new) result }
     ensures bound { IfOk result (λ left. status_left left ≤ 2) }
     ensures below { S.below hosts.new ≡ S.below hosts.old }
@@ -503,6 +520,7 @@ fn selected<S: Hosts, O: Write>(
         wait,
         &work,
         false,
+        None,
         out,
     )
 }
@@ -515,7 +533,7 @@ fn removed_selected<S: Hosts, O: Write>(
 ) -> Result<Left, AllocError>
     ensures ended { (ended : Result (AnEnded AReport) ANotOpened)
         × HasEndedWork (around S.Hosts hosts.old hosts.new) asked.now.root
-        (Work.RemoveSelected asked.now.ignore_depends) asked.now.triggers ended × IsLeft (work_answer ended) (O.contents out.old) (O.contents out.new)
+        (Work.RemoveSelected asked.now.ignore_depends) asked.now.triggers asked.now.limit ended × IsLeft (work_answer ended) (O.contents out.old) (O.contents out.new)
         result }
     ensures bound { IfOk result (λ left. status_left left ≤ 2) }
     ensures below { S.below hosts.new ≡ S.below hosts.old }
@@ -529,6 +547,7 @@ fn removed_selected<S: Hosts, O: Write>(
         asked.wait,
         &work,
         asked.triggers,
+        asked.limit,
         out,
     )
 }
@@ -541,7 +560,7 @@ fn processed<S: Hosts, O: Write>(
 ) -> Result<Left, AllocError>
     ensures ended { (ended : Result (AnEnded AReport) ANotOpened)
         × HasEndedWork (around S.Hosts hosts.old hosts.new) asked.now.root Work.ProcessTriggers
-        true ended × IsLeft (work_answer ended) (O.contents out.old) (O.contents out.new)
+        true asked.now.limit ended × IsLeft (work_answer ended) (O.contents out.old) (O.contents out.new)
         result }
     ensures bound { IfOk result (λ left. status_left left ≤ 2) }
     ensures below { S.below hosts.new ≡ S.below hosts.old }
@@ -555,6 +574,7 @@ fn processed<S: Hosts, O: Write>(
         asked.wait,
         &work,
         true,
+        asked.limit,
         out,
     )
 }

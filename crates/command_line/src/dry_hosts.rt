@@ -1,7 +1,7 @@
 // Hosts of which nothing is changed.
 ghost use Rattle.command_line.specs.Dry.{dry_left, dry_root};
 
-use crate::fault::RootFault;
+use crate::fault::{RootFault, TreeOpening};
 use crate::hosts::Hosts;
 use command_words::{ScriptStreams, TreeOwners};
 use host_core::HostFault;
@@ -52,6 +52,8 @@ impl<'a, S: Hosts> Hosts for DryHosts<'a, S> {
 
     ghost locked = { λ _ _ _. ⊥ };
 
+    ghost full = { λ d. S.full d.hosts.now };
+
     ghost below = { λ d. d.hosts.ghost_name };
 
     fn open_root(
@@ -78,7 +80,7 @@ impl<'a, S: Hosts> Hosts for DryHosts<'a, S> {
         &mut self,
         directory: &str,
         owners: TreeOwners,
-    ) -> Result<Overlay<S::Opened>, HostFault> {
+    ) -> Result<Overlay<S::Opened>, TreeOpening> {
         match self.hosts.open_tree(directory, owners) {
             Ok(host) => Ok(Overlay::over(self.alloc, host, Vec::new(self.alloc))),
             Err(fault) => Err(fault),

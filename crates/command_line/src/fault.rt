@@ -1,10 +1,13 @@
-// Why a root isn't opened.
+// Why a root or a tree isn't opened.
 ghost use Rattle.std.specs.Prelude.{◌≡◌};
+ghost use Rattle.host_core.specs.declared.fault.HostFault.TheVariants.{NoMemory};
 ghost use Rattle.command_line.specs.Roots.{lock_path};
 ghost use Rattle.command_line.specs.declared.fault.RootFault.TheVariants.{Host as OfHost};
+ghost use Rattle.command_line.specs.declared.fault.TreeOpening.TheVariants.{Host as OfTreeHost};
 
 use administration::AdministrationFault;
-use host_core::HostFault;
+use host_core::{HostFault, RootPath};
+use std::alloc::AllocError;
 
 /// A lock that a program holds while it changes packages. Both are dpkg's.
 #[derive(Clone, Copy)]
@@ -39,6 +42,30 @@ impl From<HostFault> for RootFault {
 
     fn from(fault: HostFault) -> Self {
         RootFault::Host(fault)
+    }
+}
+
+/// Why there is no host for a tree.
+#[derive(Drop)]
+pub enum TreeOpening {
+    /// An archive can't be unpacked at this path for want of room. It lies under the root, or is one of the machine.
+    NoRoom(RootPath),
+    Host(HostFault),
+}
+
+impl From<HostFault> for TreeOpening {
+    ghost from_gives = { λ fault e. e ≡ OfTreeHost fault };
+
+    fn from(fault: HostFault) -> Self {
+        TreeOpening::Host(fault)
+    }
+}
+
+impl From<AllocError> for TreeOpening {
+    ghost from_gives = { λ _ e. e ≡ OfTreeHost NoMemory };
+
+    fn from(_: AllocError) -> Self {
+        TreeOpening::Host(HostFault::NoMemory)
     }
 }
 

@@ -1,11 +1,13 @@
 // Where roots and trees are opened.
 ghost use Rattle.std.specs.Prelude.{◌≡◌, ◌≤◌, ◌<◌, ℕ, List, IfOk, IsErrOf, OnErr};
 ghost use Rattle.host_core.specs.Host.{State};
+ghost use Rattle.host_core.specs.Paths.{Path};
 ghost use Rattle.host_core.specs.declared.fault.HostFault.TheVariants.{Declined, Device};
 ghost use Rattle.command_line.specs.declared.fault.Lock.{Lock};
 ghost use Rattle.command_line.specs.declared.fault.RootFault.TheVariants.{Host as OfHost, Locked};
+ghost use Rattle.command_line.specs.declared.fault.TreeOpening.TheVariants.{Host as OfTreeHost, NoRoom};
 
-use crate::fault::RootFault;
+use crate::fault::{RootFault, TreeOpening};
 use command_words::{ScriptStreams, TreeOwners};
 use host_core::{Host, HostFault};
 
@@ -34,6 +36,9 @@ pub trait Hosts {
     /// Whether another program holds a lock of the root behind a word.
     ghost locked: { Self → List ℕ → Lock → Type 0 };
 
+    /// Whether there was no room at a path for the archive behind a word when it was to be opened.
+    ghost full: { Self → List ℕ → Path → Type 0 };
+
     /// Of hosts that are put over others the name of the reference to these: they stay over the same.
     ghost below: { Self → ℕ };
 
@@ -50,6 +55,8 @@ pub trait Hosts {
         ensures unopened { OnErr result (unopened self.old self.new) }
         ensures trees { (word : List ℕ) (s : State) → tree self.new word s → tree self.old word s }
         ensures seen { (s : State) → seen self.old s → seen self.new s }
+        ensures full { (word : List ℕ) (path : Path) → full self.old word path
+            → full self.new word path }
         ensures below { below self.new ≡ below self.old }
         ensures faults { faults self.old ≤ faults self.new }
         ensures cause { IsErrOf result (OfHost Device) → faults self.old < faults self.new }
@@ -64,27 +71,40 @@ pub trait Hosts {
         ensures unopened { OnErr result (unopened self.old self.new) }
         ensures trees { (word : List ℕ) (s : State) → tree self.new word s → tree self.old word s }
         ensures seen { (s : State) → seen self.old s → seen self.new s }
+        ensures full { (word : List ℕ) (path : Path) → full self.old word path
+            → full self.new word path }
         ensures below { below self.new ≡ below self.old }
         ensures faults { faults self.old ≤ faults self.new }
         ensures cause { IsErrOf result Device → faults self.old < faults self.new }
         ensures undeclined { IsErrOf result Declined → ⊥ };
 
-    /// The host for a TREE as it was given. It shows the tree's own owners, whatever they become.
-    fn open_tree(&mut self, directory: &str, owners: TreeOwners) -> Result<Self::Opened, HostFault>
+    /// The host for a TREE as it was given. It shows the tree's own owners, whatever they become. For an archive there is one only
+    /// where there is room to unpack it.
+    fn open_tree(
+        &mut self,
+        directory: &str,
+        owners: TreeOwners,
+    ) -> Result<Self::Opened, TreeOpening>
         ensures opened { IfOk result (λ host. tree self.old directory.now
             (Self.Opened.state host)) }
         ensures trees { (word : List ℕ) (s : State) → tree self.new word s → tree self.old word s }
         ensures seen { (s : State) → seen self.old s → seen self.new s }
+        ensures full { (word : List ℕ) (path : Path) → full self.old word path
+            → full self.new word path }
         ensures below { below self.new ≡ below self.old }
         ensures faults { faults self.old ≤ faults self.new }
-        ensures cause { IsErrOf result Device → faults self.old < faults self.new }
-        ensures undeclined { IsErrOf result Declined → ⊥ };
+        ensures cause { IsErrOf result (OfTreeHost Device) → faults self.old < faults self.new }
+        ensures undeclined { IsErrOf result (OfTreeHost Declined) → ⊥ }
+        ensures room { (path : Path) → IsErrOf result (NoRoom path)
+            → full self.new directory.now path };
 
     /// Takes the host of a root back.
     fn close_root(&mut self, host: Self::Opened)
         ensures given { left self.new (Self.Opened.state host) }
         ensures trees { (word : List ℕ) (s : State) → tree self.new word s → tree self.old word s }
         ensures seen { (s : State) → seen self.old s → seen self.new s }
+        ensures full { (word : List ℕ) (path : Path) → full self.old word path
+            → full self.new word path }
         ensures below { below self.new ≡ below self.old }
         ensures faults { faults self.new ≡ faults self.old };
 
@@ -93,6 +113,8 @@ pub trait Hosts {
         ensures given { seen self.new (Self.Opened.state host) }
         ensures trees { (word : List ℕ) (s : State) → tree self.new word s → tree self.old word s }
         ensures seen { (s : State) → seen self.old s → seen self.new s }
+        ensures full { (word : List ℕ) (path : Path) → full self.old word path
+            → full self.new word path }
         ensures below { below self.new ≡ below self.old }
         ensures faults { faults self.new ≡ faults self.old };
 }

@@ -9,6 +9,7 @@ ghost use Rattle.command_line.specs.Order.{AreLookedAt, AreRoundsOf, HasLooked, 
 ghost use Rattle.command_line.specs.Reading.{HaveGoneOn};
 ghost use Rattle.command_line.specs.Roots.{around};
 
+use crate::fault::TreeOpening;
 use crate::hosts::Hosts;
 use crate::packages::listed;
 use command_words::{TreeOwners, Unpacking};
@@ -33,7 +34,7 @@ fn look_on<H: Host>(alloc: Global, host: &mut H) -> Result<ControlFile, TreeFaul
     }
 }
 
-// What is found for a word, unless memory is wanting; a tree that can't be opened has the host's fault.
+// What is found for a word, unless memory is wanting; a tree that can't be opened has the fault of that.
 fn look<S: Hosts>(
     alloc: Global,
     hosts: &mut S,
@@ -50,7 +51,10 @@ fn look<S: Hosts>(
             hosts.close_tree(host);
             return read;
         }
-        Err(fault) => {
+        Err(TreeOpening::NoRoom(path)) => {
+            return Err(TreeFault::NoRoom(path));
+        }
+        Err(TreeOpening::Host(fault)) => {
             return Err(TreeFault::from(fault));
         }
     }

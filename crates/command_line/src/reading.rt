@@ -6,6 +6,7 @@ ghost use Rattle.package_tree.specs.Fault.{CountsTree};
 ghost use Rattle.command_line.specs.Reading.{HaveGoneOn, IsReadAs, IsReadFor, IsReadOnce, ends_in_slash, is_among, is_same_tree, owned_as, without_slash, words_before};
 ghost use Rattle.command_line.specs.Roots.{around};
 
+use crate::fault::TreeOpening;
 use crate::hosts::Hosts;
 use command_words::{TreeOwners, Unpacking};
 use dpkg_session::{Candidate, Trees};
@@ -107,7 +108,7 @@ fn read_once<S: Hosts>(
     read_package(alloc, hosts, owners, tree)
 }
 
-/// What a tree gives; one that can't be opened has the host's fault.
+/// What a tree gives; one that can't be opened has the fault of that.
 pub(crate) fn read_package<S: Hosts>(
     alloc: Global,
     hosts: &mut S,
@@ -123,7 +124,10 @@ pub(crate) fn read_package<S: Hosts>(
             hosts.close_tree(host);
             return read;
         }
-        Err(fault) => {
+        Err(TreeOpening::NoRoom(path)) => {
+            return Err(TreeFault::NoRoom(path));
+        }
+        Err(TreeOpening::Host(fault)) => {
             return Err(TreeFault::from(fault));
         }
     }

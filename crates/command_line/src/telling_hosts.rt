@@ -1,6 +1,6 @@
 // Hosts of which nothing is changed, with what is told of the paths that would be.
 ghost use Rattle.std.specs.Prelude.{◌≡◌, ◌≤◌, ◌+◌, ℕ, IfOk, IsTrue};
-ghost use Rattle.host_core.specs.Host.{Reads, Silent, faults};
+ghost use Rattle.host_core.specs.Host.{Reads, Silent};
 ghost use Rattle.host_core.specs.World.{World};
 ghost use Rattle.foretold_changes.specs.Changes.{unread_paths};
 ghost use Rattle.foretold_changes.specs.Told.{IsLookedOver};
@@ -8,7 +8,7 @@ ghost use Rattle.command_line.specs.Telling.{Tells, told_left};
 ghost use Rattle.command_line.specs.Dry.{dry_left, dry_root};
 
 use crate::dry_hosts::DryHosts;
-use crate::fault::RootFault;
+use crate::fault::{RootFault, TreeOpening};
 use crate::hosts::Hosts;
 use administration::AdministrationFault;
 use command_words::{ScriptStreams, TreeOwners};
@@ -37,8 +37,7 @@ fn tell_changes<H: Host>(
         → IfOk looked (λ over. IsTrue (H.state host.new).honest
         → IsLookedOver (H.state host.old).world new over)
         → IfOk looked (λ over. unread_paths over.looked.items + first ≤ last)
-        → Tells result (H.state host.new) (H.state host.old).world new
-        (first + faults (H.state host.old)) (last + faults (H.state host.new)) }
+        → Tells result (H.state host.new) (H.state host.old).world new }
     ensures reads { Reads (H.state host.old) (H.state host.new) }
     ensures silent { Silent (H.state host.old) (H.state host.new) }
 {
@@ -75,6 +74,8 @@ impl<'a, S: Hosts> Hosts for TellingHosts<'a, S> {
 
     ghost locked = { λ _ _ _. ⊥ };
 
+    ghost full = { λ t. S.full t.dry.hosts.now };
+
     ghost below = { λ t. t.dry.hosts.ghost_name };
 
     fn open_root(
@@ -94,7 +95,7 @@ impl<'a, S: Hosts> Hosts for TellingHosts<'a, S> {
         &mut self,
         directory: &str,
         owners: TreeOwners,
-    ) -> Result<Overlay<S::Opened>, HostFault> {
+    ) -> Result<Overlay<S::Opened>, TreeOpening> {
         self.dry.open_tree(directory, owners)
     }
 

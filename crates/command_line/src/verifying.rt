@@ -1,6 +1,7 @@
 // Packages that are verified: the root is looked at, as for a question, and a tree is read.
-ghost use Rattle.std.specs.Prelude.{◌≡◌, ◌≢◌, ◌≤◌, ◌↔◌, [], IfErr, IfOk, IsTrue, Result};
+ghost use Rattle.std.specs.Prelude.{◌≡◌, ◌≢◌, ◌≤◌, ◌↔◌, ℕ, [], IfErr, IfOk, IsTrue, List, Result};
 ghost use Rattle.host_core.specs.Host.{Reads, Silent, State};
+ghost use Rattle.host_core.specs.Paths.{Path};
 ghost use Rattle.inquiries.specs.Read.{FindsAll, IsAllDamage};
 ghost use Rattle.opening.specs.Parts.{fault_in};
 ghost use Rattle.verification.specs.Counting.{CountsVerified};
@@ -119,6 +120,8 @@ fn verify_on<S: Hosts>(
     ensures bound { IfOk result (λ answer. answer.status ≤ 2) }
     ensures refused { IfErr result (IsLeftUnverifiedOn (S.left hosts.new) (S.Opened.state host)) }
     ensures seen { (s : State) → S.seen hosts.old s → S.seen hosts.new s }
+    ensures full { (word : List ℕ) (path : Path) → S.full hosts.old word path
+        → S.full hosts.new word path }
     ensures faults { S.faults hosts.old ≤ S.faults hosts.new }
     ensures below { S.below hosts.new ≡ S.below hosts.old }
 {
@@ -171,6 +174,8 @@ fn refuse_on<S: Hosts>(
     ensures refused { IfErr result (IsLeftUnverifiedOn (S.left hosts.new) (S.Opened.state host)) }
     ensures given { S.left hosts.new (S.Opened.state host) }
     ensures seen { (s : State) → S.seen hosts.old s → S.seen hosts.new s }
+    ensures full { (word : List ℕ) (path : Path) → S.full hosts.old word path
+        → S.full hosts.new word path }
     ensures faults { S.faults hosts.old ≤ S.faults hosts.new }
     ensures below { S.below hosts.new ≡ S.below hosts.old }
 {

@@ -98,11 +98,11 @@ with_conffiles_forced a = with_rule (with_rule (with_rule a (flag_rule (codes "f
 abbrev pub with_forced : App → App
 with_forced a = with_rule (with_conffiles_forced a) (flag_rule (codes "force-depends"))
 
--- one that calls scripts: `--scripts-stderr` and `--no-triggers`
+-- one that calls scripts: `--scripts-stderr`, `--no-triggers` and `--abort-after N`
 abbrev pub calling_app : Text → App
-calling_app name = with_rule (with_rule (changing_app name) (flag_rule (codes "scripts-stderr"))) (flag_rule (codes "no-triggers"))
+calling_app name = with_rule (with_rule (with_rule (changing_app name) (flag_rule (codes "scripts-stderr"))) (flag_rule (codes "no-triggers"))) (option_rule (codes "abort-after"))
 
--- `install [--root DIR] [--json] [--wait SECONDS] [--status-fd N].. [--log FILE] [--dry-run [--changes] [--assume-failure PKG:SCRIPT:WORD]..] [--scripts-stderr] [--no-triggers] [--owner-root] [--auto-deconfigure]
+-- `install [--root DIR] [--json] [--wait SECONDS] [--status-fd N].. [--log FILE] [--dry-run [--changes] [--assume-failure PKG:SCRIPT:WORD]..] [--scripts-stderr] [--no-triggers] [--abort-after N] [--owner-root] [--auto-deconfigure]
 -- [--force-confold | --force-confnew] [--force-confmiss] [--force-depends] [--as-given] TREE..`; `unpack` likewise, without `--as-given`
 abbrev pub unpacking_app : Text → App
 unpacking_app name = with_forced (with_rule (with_rule (calling_app name) (flag_rule (codes "owner-root"))) (flag_rule (codes "auto-deconfigure")))
@@ -113,16 +113,16 @@ install_app = with_rule (with_rule (unpacking_app (codes "install")) (flag_rule 
 abbrev pub unpack_app : App
 unpack_app = with_rule (unpacking_app (codes "unpack")) (words_rule (codes "TREE") true)
 
--- `configure [--root DIR] [--json] [--wait SECONDS] [--status-fd N].. [--log FILE] [--dry-run [--changes] [--assume-failure PKG:SCRIPT:WORD]..] [--scripts-stderr] [--force-confold | --force-confnew] [--force-confmiss]
--- [--force-depends] ([--no-triggers] [PKG..] | --triggers-only)`
+-- `configure [--root DIR] [--json] [--wait SECONDS] [--status-fd N].. [--log FILE] [--dry-run [--changes] [--assume-failure PKG:SCRIPT:WORD]..] [--scripts-stderr] [--abort-after N]
+-- [--force-confold | --force-confnew] [--force-confmiss] [--force-depends] ([--no-triggers] [PKG..] | --triggers-only)`
 abbrev pub configure_app : App
 configure_app = with_rule (with_rule (with_forced (calling_app (codes "configure"))) (flag_rule (codes "triggers-only"))) (words_rule (codes "PKG") false)
 
--- `remove [--root DIR] [--json] [--wait SECONDS] [--status-fd N].. [--log FILE] [--dry-run [--changes] [--assume-failure PKG:SCRIPT:WORD]..] [--scripts-stderr] [--no-triggers] [--force-depends] PKG..`; `purge` likewise
+-- `remove [--root DIR] [--json] [--wait SECONDS] [--status-fd N].. [--log FILE] [--dry-run [--changes] [--assume-failure PKG:SCRIPT:WORD]..] [--scripts-stderr] [--no-triggers] [--abort-after N] [--force-depends] PKG..`; `purge` likewise
 abbrev pub removing_app : Text → App
 removing_app name = with_rule (with_rule (calling_app name) (flag_rule (codes "force-depends"))) (words_rule (codes "PKG") true)
 
--- `remove-selected [--root DIR] [--json] [--wait SECONDS] [--status-fd N].. [--log FILE] [--dry-run [--changes] [--assume-failure PKG:SCRIPT:WORD]..] [--scripts-stderr] [--no-triggers] [--force-depends]`
+-- `remove-selected [--root DIR] [--json] [--wait SECONDS] [--status-fd N].. [--log FILE] [--dry-run [--changes] [--assume-failure PKG:SCRIPT:WORD]..] [--scripts-stderr] [--no-triggers] [--abort-after N] [--force-depends]`
 abbrev pub remove_selected_app : App
 remove_selected_app = with_rule (calling_app (codes "remove-selected")) (flag_rule (codes "force-depends"))
 

@@ -5,6 +5,7 @@ pub mod Rehearsals
 pub mod Owners
 pub mod Streams
 pub mod Waits
+pub mod Limits
 pub mod Topics
 pub mod Queries
 pub mod Forced

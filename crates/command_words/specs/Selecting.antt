@@ -6,6 +6,7 @@ use Rattle.std.specs.Str.{bytes_eq}
 use Rattle.clap.specs.Words.{Row, Text, all_of, first_of}
 use Rattle.command_words.specs.Forced.{depends_forced}
 use Rattle.command_words.specs.Given.{is_absolute}
+use Rattle.command_words.specs.Limits.{limit_of}
 use Rattle.command_words.specs.Streams.{streams_of}
 use Rattle.command_words.specs.Triggers.{processes_triggers}
 use Rattle.command_words.specs.Waits.{wait_of}
@@ -60,11 +61,12 @@ selecting_from _ _ _ = None
 abbrev pub selecting_of : List Row → Option Selecting
 selecting_of rows = selecting_from (first_of (codes "root") rows) (all_of (codes "PKG=WANT") rows) (wait_of rows)
 
--- the packages that are no longer wanted under an absolute root, to be removed or purged; triggers are processed then, or let be
-abbrev pub removing_selected_from : Option Text → ScriptStreams → Bool → Bool → Option ℕ → Option RemovingSelected
-removing_selected_from (Some root) streams triggers ignore_depends (Some wait) =
-    if is_absolute root then Some (record { root = root; streams = streams; triggers = triggers; ignore_depends = ignore_depends; wait = wait }) else None
-removing_selected_from _ _ _ _ _ = None
+-- the packages that are no longer wanted under an absolute root, to be removed or purged; triggers are processed then, or let be;
+-- and how many units may fail
+abbrev pub removing_selected_from : Option Text → ScriptStreams → Bool → Option (Option ℕ) → Bool → Option ℕ → Option RemovingSelected
+removing_selected_from (Some root) streams triggers (Some limit) ignore_depends (Some wait) =
+    if is_absolute root then Some (record { root = root; streams = streams; triggers = triggers; limit = limit; ignore_depends = ignore_depends; wait = wait }) else None
+removing_selected_from _ _ _ _ _ _ = None
 
 abbrev pub removing_selected_of : List Row → Option RemovingSelected
-removing_selected_of rows = removing_selected_from (first_of (codes "root") rows) (streams_of rows) (processes_triggers rows) (depends_forced rows) (wait_of rows)
+removing_selected_of rows = removing_selected_from (first_of (codes "root") rows) (streams_of rows) (processes_triggers rows) (limit_of rows) (depends_forced rows) (wait_of rows)

@@ -6,9 +6,9 @@ use Rattle.std.specs.Str.Parse.{digits_value}
 use Rattle.clap.specs.Words.{Row, Text, first_of}
 
 -- the number that a text of decimal digits writes, where it is below 2^32
-abbrev pub seconds_in : Text → Option ℕ
-seconds_in [] = None
-seconds_in (first ∷ rest) =
+abbrev pub number_in : Text → Option ℕ
+number_in [] = None
+number_in (first ∷ rest) =
     if list_all is_ascii_digit (first ∷ rest) && nat_lt (digits_value 10 (first ∷ rest)) (2 ^ 32)
     then Some (digits_value 10 (first ∷ rest))
     else None
@@ -16,7 +16,7 @@ seconds_in (first ∷ rest) =
 -- so many seconds, and none where nothing is given
 abbrev pub wait_from : Option Text → Option ℕ
 wait_from None = Some 0
-wait_from (Some text) = seconds_in text
+wait_from (Some text) = number_in text
 
 abbrev pub wait_of : List Row → Option ℕ
 wait_of rows = wait_from (first_of (codes "wait") rows)

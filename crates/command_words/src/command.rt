@@ -241,7 +241,8 @@ fn calling<'a>(alloc: Global, name: &'a str) -> Result<Command<'a>, AllocError>
     ensures local { IfOk result (λ c. (fields_of c).has_globals ≡ false) }
 {
     let command = with_arg(changing(alloc, name)?, flag(alloc, "scripts-stderr"))?;
-    with_arg(command, flag(alloc, "no-triggers"))
+    let command = with_arg(command, flag(alloc, "no-triggers"))?;
+    with_arg(command, option(alloc, "abort-after"))
 }
 
 // A subcommand that takes trees, without these.

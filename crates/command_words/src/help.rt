@@ -87,6 +87,7 @@ of all that wait for it where none is named.
                     in a dry run this call fails, which WORD is the first argument of
   --scripts-stderr  what scripts write goes to standard error
   --no-triggers     triggers stay pending and aren't processed then
+  --abort-after N   behind N units that failed, no further one is begun
   --triggers-only   triggers that are pending are processed, and no package is configured
   --force-confold   an edited conffile stays, as without a flag
   --force-confnew   the package's takes the place of an edited conffile
@@ -144,6 +145,7 @@ rounds, so that what a package needs before its unpack is configured before.
                       in a dry run this call fails, which WORD is the first argument of
   --scripts-stderr    what scripts write goes to standard error
   --no-triggers       triggers stay pending and aren't processed then
+  --abort-after N     behind N units that failed, no further one is begun
   --owner-root        files get user and group 0, whoever made the tree
   --auto-deconfigure  installed packages may be deconfigured in their favour
   --force-confold     an edited conffile stays, as without a flag
@@ -189,6 +191,7 @@ const PURGE: &str = "Removes packages with their conffiles, in the order that re
                     in a dry run this call fails, which WORD is the first argument of
   --scripts-stderr  what scripts write goes to standard error
   --no-triggers     triggers stay pending and aren't processed then
+  --abort-after N   behind N units that failed, no further one is begun
   --force-depends   those go too on which others depend
 
 Example: coizkerra purge --root /srv/root hello
@@ -207,6 +210,7 @@ const REMOVE: &str = "Removes packages but their conffiles, in the order that re
                     in a dry run this call fails, which WORD is the first argument of
   --scripts-stderr  what scripts write goes to standard error
   --no-triggers     triggers stay pending and aren't processed then
+  --abort-after N   behind N units that failed, no further one is begun
   --force-depends   those go too on which others depend
 
 Example: coizkerra remove --root /srv/root hello
@@ -227,6 +231,7 @@ the order that relations ask for.
                     in a dry run this call fails, which WORD is the first argument of
   --scripts-stderr  what scripts write goes to standard error
   --no-triggers     triggers stay pending and aren't processed then
+  --abort-after N   behind N units that failed, no further one is begun
   --force-depends   those go too on which others depend
 
 Example: coizkerra remove-selected --root /srv/root
@@ -318,6 +323,7 @@ const UNPACK: &str =
                       in a dry run this call fails, which WORD is the first argument of
   --scripts-stderr    what scripts write goes to standard error
   --no-triggers       triggers stay pending and aren't processed then
+  --abort-after N     behind N units that failed, no further one is begun
   --owner-root        files get user and group 0, whoever made the tree
   --auto-deconfigure  installed packages may be deconfigured in their favour
   --force-depends     Pre-Depends are ignored, and that others depend on what has to go
@@ -379,21 +385,21 @@ impl Topic {
             Topic::Audit => "audit [--root DIR] [--json]",
             Topic::CompareVersions => "compare-versions A OP B",
             Topic::Configure =>
-                "configure [--root DIR] [--json] [--wait SECONDS] [--status-fd N].. [--log FILE] [--dry-run [--changes] [--assume-failure PKG:SCRIPT:WORD]..] [--scripts-stderr] [--force-confold | --force-confnew] [--force-confmiss] [--force-depends] ([--no-triggers] [PKG..] | --triggers-only)",
+                "configure [--root DIR] [--json] [--wait SECONDS] [--status-fd N].. [--log FILE] [--dry-run [--changes] [--assume-failure PKG:SCRIPT:WORD]..] [--scripts-stderr] [--abort-after N] [--force-confold | --force-confnew] [--force-confmiss] [--force-depends] ([--no-triggers] [PKG..] | --triggers-only)",
             Topic::Diversions => "diversions [--root DIR] [--json]",
             Topic::Divert =>
                 "divert [--root DIR] [--json] [--wait SECONDS] [--status-fd N].. [--log FILE] [--dry-run [--changes] [--assume-failure PKG:SCRIPT:WORD]..] (--package P | --local) [--divert TARGET] [--rename] PATH",
             Topic::Help => "help [COMMAND]",
             Topic::Install =>
-                "install [--root DIR] [--json] [--wait SECONDS] [--status-fd N].. [--log FILE] [--dry-run [--changes] [--assume-failure PKG:SCRIPT:WORD]..] [--scripts-stderr] [--no-triggers] [--owner-root] [--auto-deconfigure] [--force-confold | --force-confnew] [--force-confmiss] [--force-depends] [--as-given] TREE..",
+                "install [--root DIR] [--json] [--wait SECONDS] [--status-fd N].. [--log FILE] [--dry-run [--changes] [--assume-failure PKG:SCRIPT:WORD]..] [--scripts-stderr] [--no-triggers] [--abort-after N] [--owner-root] [--auto-deconfigure] [--force-confold | --force-confnew] [--force-confmiss] [--force-depends] [--as-given] TREE..",
             Topic::List => "list [--root DIR] [--json | --table | --format FORMAT] [PATTERN..]",
             Topic::ListFiles => "listfiles [--root DIR] [--json] PKG",
             Topic::Purge =>
-                "purge [--root DIR] [--json] [--wait SECONDS] [--status-fd N].. [--log FILE] [--dry-run [--changes] [--assume-failure PKG:SCRIPT:WORD]..] [--scripts-stderr] [--no-triggers] [--force-depends] PKG..",
+                "purge [--root DIR] [--json] [--wait SECONDS] [--status-fd N].. [--log FILE] [--dry-run [--changes] [--assume-failure PKG:SCRIPT:WORD]..] [--scripts-stderr] [--no-triggers] [--abort-after N] [--force-depends] PKG..",
             Topic::Remove =>
-                "remove [--root DIR] [--json] [--wait SECONDS] [--status-fd N].. [--log FILE] [--dry-run [--changes] [--assume-failure PKG:SCRIPT:WORD]..] [--scripts-stderr] [--no-triggers] [--force-depends] PKG..",
+                "remove [--root DIR] [--json] [--wait SECONDS] [--status-fd N].. [--log FILE] [--dry-run [--changes] [--assume-failure PKG:SCRIPT:WORD]..] [--scripts-stderr] [--no-triggers] [--abort-after N] [--force-depends] PKG..",
             Topic::RemoveSelected =>
-                "remove-selected [--root DIR] [--json] [--wait SECONDS] [--status-fd N].. [--log FILE] [--dry-run [--changes] [--assume-failure PKG:SCRIPT:WORD]..] [--scripts-stderr] [--no-triggers] [--force-depends]",
+                "remove-selected [--root DIR] [--json] [--wait SECONDS] [--status-fd N].. [--log FILE] [--dry-run [--changes] [--assume-failure PKG:SCRIPT:WORD]..] [--scripts-stderr] [--no-triggers] [--abort-after N] [--force-depends]",
             Topic::Search => "search [--root DIR] [--json] PATH | PATTERN",
             Topic::Select =>
                 "select [--root DIR] [--json] [--wait SECONDS] [--status-fd N].. [--log FILE] [--dry-run [--changes] [--assume-failure PKG:SCRIPT:WORD]..] PKG=WANT..",
@@ -403,7 +409,7 @@ impl Topic {
             Topic::Undivert =>
                 "undivert [--root DIR] [--json] [--wait SECONDS] [--status-fd N].. [--log FILE] [--dry-run [--changes] [--assume-failure PKG:SCRIPT:WORD]..] (--package P | --local) [--rename] PATH",
             Topic::Unpack =>
-                "unpack [--root DIR] [--json] [--wait SECONDS] [--status-fd N].. [--log FILE] [--dry-run [--changes] [--assume-failure PKG:SCRIPT:WORD]..] [--scripts-stderr] [--no-triggers] [--owner-root] [--auto-deconfigure] [--force-confold | --force-confnew] [--force-confmiss] [--force-depends] TREE..",
+                "unpack [--root DIR] [--json] [--wait SECONDS] [--status-fd N].. [--log FILE] [--dry-run [--changes] [--assume-failure PKG:SCRIPT:WORD]..] [--scripts-stderr] [--no-triggers] [--abort-after N] [--owner-root] [--auto-deconfigure] [--force-confold | --force-confnew] [--force-confmiss] [--force-depends] TREE..",
             Topic::Verify => "verify [--root DIR] [--json] [PKG.. | --tree TREE [--owner-root]]",
         }
     }

@@ -20,6 +20,7 @@ mod forced;
 mod found;
 mod frontends;
 mod help;
+mod limits;
 mod mistakes;
 mod objects;
 mod owners;

@@ -1,6 +1,7 @@
 // What is wrong with the words of a subcommand in which clap finds no fault: one thing, with its word.
 use crate::found::{all_texts_of, flag_of, is_absolute, is_package, text_of};
 use crate::frontends::is_descriptor;
+use crate::limits::limit_of;
 use crate::rehearsal::is_failure;
 use crate::selecting::is_selection;
 use crate::triggers::{is_of_triggers_only, processes_triggers};
@@ -57,6 +58,17 @@ fn of_wait(alloc: Global, found: &ArgMatches<'_>) -> Result<Option<String>, Allo
     }
     let why = "is no number of seconds below 4294967296";
     Ok(Some(wrong_word(alloc, "--wait", text_of(found, "wait"), why)?))
+}
+
+fn of_limit(alloc: Global, found: &ArgMatches<'_>) -> Result<Option<String>, AllocError> {
+    if limit_of(found).is_some() {
+        return Ok(None);
+    }
+    let (text, why) = (
+        text_of(found, "abort-after"),
+        "is no number below 4294967296",
+    );
+    Ok(Some(wrong_word(alloc, "--abort-after", text, why)?))
 }
 
 fn of_frontends(alloc: Global, found: &ArgMatches<'_>) -> Result<Option<String>, AllocError> {
@@ -152,7 +164,7 @@ fn of_configure(alloc: Global, found: &ArgMatches<'_>) -> Result<String, AllocEr
     String::from_str(alloc, BOTH_CONFFILES)
 }
 
-/// What is wrong: first with the root, then with the wait, then with a descriptor, then with a rehearsal, then with what else the subcommand takes.
+/// What is wrong: first with the root, then with the wait, then with how many units may fail, then with a descriptor, then with a rehearsal, then with what else the subcommand takes.
 pub(crate) fn mistake_text(
     alloc: Global,
     name: &str,
@@ -162,6 +174,9 @@ pub(crate) fn mistake_text(
         return Ok(text);
     }
     if let Some(text) = of_wait(alloc, found)? {
+        return Ok(text);
+    }
+    if let Some(text) = of_limit(alloc, found)? {
         return Ok(text);
     }
     if let Some(text) = of_frontends(alloc, found)? {

@@ -5,6 +5,7 @@ ghost use Rattle.command_words.specs.Packages.{configuring_from, configuring_of,
 
 use crate::forced::{Forced, depends_forced, forced_of};
 use crate::found::{all_texts_of, copies, is_absolute, text_of};
+use crate::limits::limit_of;
 use crate::streams::{ScriptStreams, streams_of};
 use crate::triggers::processes_triggers;
 use crate::waits::wait_of;
@@ -21,6 +22,8 @@ pub struct Configuring {
     pub streams: ScriptStreams,
     /// The triggers that are pending then are processed.
     pub triggers: bool,
+    /// How many units may fail; behind them no further one is begun.
+    pub limit: Option<u32>,
     pub forced: Forced,
     /// For how many seconds another program's lock is waited for.
     pub wait: u32,
@@ -34,6 +37,8 @@ pub struct Removing {
     pub streams: ScriptStreams,
     /// As above.
     pub triggers: bool,
+    /// As above.
+    pub limit: Option<u32>,
     /// They go too where others depend on them.
     pub ignore_depends: bool,
     /// As above.
@@ -55,13 +60,17 @@ fn configuring_from(
     names: Option<Texts>,
     streams: ScriptStreams,
     triggers: bool,
+    limit: Option<Option<u32>>,
     forced: Option<Forced>,
     wait: Option<u32>,
 ) -> Result<Option<Configuring>, AllocError>
     ensures { IfOk result (λ asked. asked
-        ≡ configuring_from (option_map (λ s. s.now) root.entry) names streams triggers forced wait) }
+        ≡ configuring_from (option_map (λ s. s.now) root.entry) names streams triggers limit forced wait) }
 {
-    let (Some(root), Some(forced), Some(wait)) = (root, forced, wait) else {
+    let (Some(root), Some(limit)) = (root, limit) else {
+        return Ok(None);
+    };
+    let (Some(forced), Some(wait)) = (forced, wait) else {
         return Ok(None);
     };
     if !is_absolute(root) {
@@ -73,6 +82,7 @@ fn configuring_from(
         names,
         streams,
         triggers,
+        limit,
         forced,
         wait,
     }))
@@ -92,6 +102,7 @@ pub(crate) fn configuring_of(
         names,
         streams_of(found),
         processes_triggers(found),
+        limit_of(found),
         forced_of(found),
         wait_of(found),
     )
@@ -103,13 +114,17 @@ fn removing_from(
     names: Option<Texts>,
     streams: ScriptStreams,
     triggers: bool,
+    limit: Option<Option<u32>>,
     ignore_depends: bool,
     wait: Option<u32>,
 ) -> Result<Option<Removing>, AllocError>
     ensures { IfOk result (λ asked. asked ≡ removing_from (option_map (λ s. s.now) root.entry) names
-        streams triggers ignore_depends wait) }
+        streams triggers limit ignore_depends wait) }
 {
-    let (Some(root), Some(names), Some(wait)) = (root, names, wait) else {
+    let (Some(root), Some(names), Some(limit)) = (root, names, limit) else {
+        return Ok(None);
+    };
+    let Some(wait) = wait else {
         return Ok(None);
     };
     if !is_absolute(root) {
@@ -121,6 +136,7 @@ fn removing_from(
         names,
         streams,
         triggers,
+        limit,
         ignore_depends,
         wait,
     }))
@@ -136,6 +152,6 @@ pub(crate) fn removing_of(
     let names = names_of(alloc, found)?;
     let (root, wait) = (text_of(found, "root"), wait_of(found));
     let (streams, triggers) = (streams_of(found), processes_triggers(found));
-    let ignored = depends_forced(found);
-    removing_from(alloc, root, names, streams, triggers, ignored, wait)
+    let (limit, ignored) = (limit_of(found), depends_forced(found));
+    removing_from(alloc, root, names, streams, triggers, limit, ignored, wait)
 }

@@ -5,6 +5,7 @@ ghost use Rattle.command_words.specs.Selecting.{are_selections, cut_at_last_equa
 
 use crate::forced::depends_forced;
 use crate::found::{all_texts_of, is_absolute, text_of};
+use crate::limits::limit_of;
 use crate::selections::{Selected, Selections, Wanted};
 use crate::streams::{ScriptStreams, streams_of};
 use crate::triggers::processes_triggers;
@@ -29,6 +30,8 @@ pub struct RemovingSelected {
     pub streams: ScriptStreams,
     /// The triggers that are pending then are processed.
     pub triggers: bool,
+    /// How many units may fail; behind them no further one is begun.
+    pub limit: Option<u32>,
     /// They go too where others depend on them.
     pub ignore_depends: bool,
     /// As above.
@@ -162,13 +165,14 @@ fn removing_selected_from(
     root: Option<&str>,
     streams: ScriptStreams,
     triggers: bool,
+    limit: Option<Option<u32>>,
     ignore_depends: bool,
     wait: Option<u32>,
 ) -> Result<Option<RemovingSelected>, AllocError>
     ensures { IfOk result (λ asked. asked
-        ≡ removing_selected_from (option_map (λ s. s.now) root.entry) streams triggers ignore_depends wait) }
+        ≡ removing_selected_from (option_map (λ s. s.now) root.entry) streams triggers limit ignore_depends wait) }
 {
-    let (Some(root), Some(wait)) = (root, wait) else {
+    let (Some(root), Some(limit), Some(wait)) = (root, limit, wait) else {
         return Ok(None);
     };
     if !is_absolute(root) {
@@ -179,6 +183,7 @@ fn removing_selected_from(
         root,
         streams,
         triggers,
+        limit,
         ignore_depends,
         wait,
     }))
@@ -193,6 +198,6 @@ pub(crate) fn removing_selected_of(
 {
     let (root, wait) = (text_of(found, "root"), wait_of(found));
     let (streams, triggers) = (streams_of(found), processes_triggers(found));
-    let ignored = depends_forced(found);
-    removing_selected_from(alloc, root, streams, triggers, ignored, wait)
+    let (limit, ignored) = (limit_of(found), depends_forced(found));
+    removing_selected_from(alloc, root, streams, triggers, limit, ignored, wait)
 }

@@ -5,6 +5,7 @@ ghost use Rattle.command_words.specs.Triggers.{is_of_triggers_only, processes_tr
 
 use crate::forced::{Forced, forced_of};
 use crate::found::{all_texts_of, flag_of, is_absolute, text_of};
+use crate::limits::limit_of;
 use crate::streams::{ScriptStreams, streams_of};
 use crate::waits::wait_of;
 use clap::ArgMatches;
@@ -16,6 +17,8 @@ use texts::Text;
 pub struct ProcessingTriggers {
     pub root: Text,
     pub streams: ScriptStreams,
+    /// How many units may fail; behind them no further one is begun.
+    pub limit: Option<u32>,
     /// For how many seconds another program's lock is waited for.
     pub wait: u32,
 }
@@ -40,14 +43,18 @@ fn processing_from(
     names: Option<&[&str]>,
     streams: ScriptStreams,
     triggers: bool,
+    limit: Option<Option<u32>>,
     forced: Option<Forced>,
     wait: Option<u32>,
 ) -> Result<Option<ProcessingTriggers>, AllocError>
     ensures { IfOk result (λ asked. asked
         ≡ processing_from (option_map (λ s. s.now) root.entry)
-        (option_map (λ s. map (λ t. t.now) s.now) names.entry) streams triggers forced wait) }
+        (option_map (λ s. map (λ t. t.now) s.now) names.entry) streams triggers limit forced wait) }
 {
-    let (Some(root), None, true, Some(_), Some(wait)) = (root, names, triggers, forced, wait) else {
+    let (Some(root), None, true, Some(limit)) = (root, names, triggers, limit) else {
+        return Ok(None);
+    };
+    let (Some(_), Some(wait)) = (forced, wait) else {
         return Ok(None);
     };
     if !is_absolute(root) {
@@ -57,6 +64,7 @@ fn processing_from(
     Ok(Some(ProcessingTriggers {
         root,
         streams,
+        limit,
         wait,
     }))
 }
@@ -74,6 +82,7 @@ pub(crate) fn processing_of(
         all_texts_of(found, "PKG"),
         streams_of(found),
         processes_triggers(found),
+        limit_of(found),
         forced_of(found),
         wait_of(found),
     )

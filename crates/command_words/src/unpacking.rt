@@ -5,6 +5,7 @@ ghost use Rattle.command_words.specs.Unpacks.{unpacking_from, unpacking_of};
 
 use crate::forced::{Forced, forced_of};
 use crate::found::{all_texts_of, copies, flag_of, is_absolute, text_of};
+use crate::limits::limit_of;
 use crate::owners::{TreeOwners, owners_of};
 use crate::streams::{ScriptStreams, streams_of};
 use crate::triggers::processes_triggers;
@@ -25,6 +26,8 @@ pub struct Unpacking {
     pub streams: ScriptStreams,
     /// The triggers that are pending then are processed.
     pub triggers: bool,
+    /// How many units may fail; behind them no further one is begun.
+    pub limit: Option<u32>,
     pub forced: Forced,
     /// An install takes the trees in the order given, all in one round.
     pub as_given: bool,
@@ -40,6 +43,7 @@ fn unpacking_from(
     owners: TreeOwners,
     streams: ScriptStreams,
     triggers: bool,
+    limit: Option<Option<u32>>,
     forced: Option<Forced>,
     as_given: bool,
     wait: Option<u32>,
@@ -47,9 +51,12 @@ fn unpacking_from(
     ensures { IfOk result (λ asked. asked
         ≡ unpacking_from (option_map (λ s. s.now) root.entry)
         (option_map (λ s. map (λ t. t.now) s.now) trees.entry)
-        auto_deconfigure owners streams triggers forced as_given wait) }
+        auto_deconfigure owners streams triggers limit forced as_given wait) }
 {
-    let (Some(root), Some(trees), Some(forced), Some(wait)) = (root, trees, forced, wait) else {
+    let (Some(root), Some(trees), Some(limit)) = (root, trees, limit) else {
+        return Ok(None);
+    };
+    let (Some(forced), Some(wait)) = (forced, wait) else {
         return Ok(None);
     };
     if !is_absolute(root) {
@@ -64,6 +71,7 @@ fn unpacking_from(
         owners,
         streams,
         triggers,
+        limit,
         forced,
         as_given,
         wait,
@@ -85,6 +93,7 @@ pub(crate) fn unpacking_of(
         owners_of(found),
         streams_of(found),
         processes_triggers(found),
+        limit_of(found),
         forced_of(found),
         flag_of(found, "as-given"),
         wait_of(found),

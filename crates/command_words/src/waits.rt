@@ -3,7 +3,7 @@ ghost use Rattle.std.specs.Prelude.{◌≡◌, option_map};
 ghost use Rattle.std.specs.Char.{is_ascii_digit};
 ghost use Rattle.std.specs.List.{list_all};
 ghost use Rattle.clap.specs.Words.{found_of, rows_of};
-ghost use Rattle.command_words.specs.Waits.{seconds_in, wait_from, wait_of};
+ghost use Rattle.command_words.specs.Waits.{number_in, wait_from, wait_of};
 
 use crate::found::text_of;
 use clap::ArgMatches;
@@ -14,8 +14,9 @@ fn are_digits(text: &str) -> bool
     text.as_bytes().iter().all(u8::is_ascii_digit)
 }
 
-fn seconds_in(text: &str) -> Option<u32>
-    ensures { result ≡ seconds_in text.now }
+/// The number that decimal digits write, below 2^32.
+pub(crate) fn number_in(text: &str) -> Option<u32>
+    ensures { result ≡ number_in text.now }
 {
     if !are_digits(text) {
         return None;
@@ -27,7 +28,7 @@ fn wait_from(text: Option<&str>) -> Option<u32>
     ensures { result ≡ wait_from (option_map (λ s. s.now) text.entry) }
 {
     match text {
-        Some(text) => seconds_in(text),
+        Some(text) => number_in(text),
         None => Some(0),
     }
 }

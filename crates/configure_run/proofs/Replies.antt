@@ -1,18 +1,17 @@
 -- Answers of units, and the faults they count.
 use Rattle.std.specs.Prelude.{MatchBool}
-use Rattle.std.proofs.Common.{◌≡◌, ◌⊎◌, inl, inr, ℕ, Bool, true, false, List, Option, Some, None, Result, Err, sym, subst, ◌∙◌}
+use Rattle.std.proofs.Common.{◌≡◌, ◌⊎◌, inl, inr, ℕ, Bool, true, false, List, Option, Some, None, Result, Err, sym, subst}
 use Rattle.std.proofs.lemmas.Bool.{true≢false}
 use Rattle.host_core.specs.Host.{State, Counts, NoFault}
 use Rattle.host_core.specs.declared.call.Call.{Call}
 use Rattle.host_core.specs.declared.fault.HostFault.{HostFault}
 use Rattle.status_records.specs.declared.record.Record.{Record}
-use Rattle.unit_reports.proofs.Counting.{counts_broken, counts_no_memory, no_memory_not_closed}
-use Rattle.unit_reports.specs.Units.{CountsReply, IsBroken, IsBrokenBy, IsRefusedUnit, breakage_of}
+use Rattle.unit_reports.proofs.Counting.{counts_broken, counts_no_memory, no_memory_within}
+use Rattle.unit_reports.specs.Units.{CountsReply, IsBroken, IsBrokenBy, IsFromBefore, IsRefusedUnit, breakage_of}
 use Rattle.unit_reports.specs.declared.refusal.Rule.{Rule}
 use Rattle.unit_reports.specs.declared.report.Breakage.{Breakage}
-use Rattle.unit_reports.specs.declared.report.Breakage.TheVariants.{NoMemory, Closed}
+use Rattle.unit_reports.specs.declared.report.Breakage.TheVariants.{NoMemory}
 use Rattle.unit_reports.specs.declared.report.Reply.{Reply}
-use Rattle.unit_reports.specs.declared.report.Reply.TheVariants.{Refused, Broken}
 use Rattle.unit_reports.specs.declared.report.Unit.{Unit as AUnit}
 use Rattle.configure_run.specs.Turns.{Answers, reply_to}
 
@@ -42,19 +41,19 @@ pub either_so : {P Q R : Type 0} → (Q → R) → P ⊎ Q → P ⊎ R
 either_so so (inl p) = inl p
 either_so so (inr q) = inr (so q)
 
--- nor is it one that is closed
+-- nor was it broken off for what was there before it
 
-reply_not_closed : (name : List ℕ) (failed : Option Call) → IsBrokenBy Closed (reply_to name failed) → ⊥
-reply_not_closed name None closed = cc
-reply_not_closed name (Some call) closed = cc
+reply_within : (name : List ℕ) (failed : Option Call) → IsFromBefore (reply_to name failed) → ⊥
+reply_within name None before = before
+reply_within name (Some call) before = before
 
-pub answer_not_closed : (name : List ℕ) (records : List Record) (failed : Option Call) (u : AUnit) → IsBrokenBy NoMemory u.reply ⊎ Answers name records failed u → IsBrokenBy Closed u.reply → ⊥
-answer_not_closed name records failed u (inl broken) closed = no_memory_not_closed u.reply broken closed
-answer_not_closed name records failed u (inr answers) closed = reply_not_closed name failed (sym answers.replied ∙ closed)
+pub answer_within : (name : List ℕ) (records : List Record) (failed : Option Call) (u : AUnit) → IsBrokenBy NoMemory u.reply ⊎ Answers name records failed u → IsFromBefore u.reply → ⊥
+answer_within name records failed u (inl broken) before = no_memory_within u.reply broken before
+answer_within name records failed u (inr answers) before = reply_within name failed (subst IsFromBefore answers.replied before)
 
-pub refused_not_closed : (rule : Rule) (name : List ℕ) (u : AUnit) → IsBrokenBy NoMemory u.reply ⊎ IsRefusedUnit rule name u → IsBrokenBy Closed u.reply → ⊥
-refused_not_closed rule name u (inl broken) closed = no_memory_not_closed u.reply broken closed
-refused_not_closed rule name u (inr refused) closed = let e : Refused (record { rule = rule; «package» = name }) ≡ Broken Closed = sym refused.reply ∙ closed in cc
+pub refused_within : (rule : Rule) (name : List ℕ) (u : AUnit) → IsBrokenBy NoMemory u.reply ⊎ IsRefusedUnit rule name u → IsFromBefore u.reply → ⊥
+refused_within rule name u (inl broken) before = no_memory_within u.reply broken before
+refused_within rule name u (inr refused) before = subst IsFromBefore refused.reply before
 
 -- the faults of a unit
 

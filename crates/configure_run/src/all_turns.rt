@@ -1,5 +1,5 @@
 // All turns, and the refusals of those that are left over behind them.
-ghost use Rattle.std.specs.Prelude.{◌≡◌, ◌++◌, ℕ, None, Some, IfErr, IfOk, OnOk};
+ghost use Rattle.std.specs.Prelude.{◌≡◌, ◌++◌, ℕ, None, Some, IfErr, IfOk, IsTrue, OnOk};
 ghost use Rattle.dependency_check.specs.Waiting.{IsConfigurableNow};
 ghost use Rattle.dependency_sets.specs.Sets.{has};
 ghost use Rattle.held_administration.specs.Open.{IsOpen};
@@ -8,7 +8,7 @@ ghost use Rattle.host_core.specs.Loss.{IsAnswered};
 ghost use Rattle.held_administration.specs.Order.{IsInOrder};
 ghost use Rattle.unit_reports.specs.Held.{held_by};
 ghost use Rattle.unit_reports.specs.Units.{CountsReply, IsBrokenBy, calls_of};
-ghost use Rattle.unit_reports.specs.declared.report.Breakage.TheVariants.{Closed};
+ghost use Rattle.unit_reports.specs.declared.report.Breakage.TheVariants.{Abandoned, Closed};
 ghost use Rattle.unit_reports.specs.Watching.{AddsTold};
 ghost use Rattle.undo_rows.specs.Transcript.{TellsAll};
 ghost use Rattle.configure_run.specs.Starting.{AreSameButWaiting, AreWaiting};
@@ -69,6 +69,8 @@ fn take_turns<H: Host, W: Watcher>(
     ensures counts { IfErr result (λ unit. CountsReply (H.state host.old) (H.state host.new)
         unit.reply) }
     ensures not_closed { IfErr result (λ unit. IsBrokenBy Closed unit.reply → ⊥) }
+    ensures abandoned { IfErr result (λ unit. IsBrokenBy Abandoned unit.reply
+        → IsTrue (W.ends watcher.new)) }
     ensures watched { AddsTold W.tells (H.state host.old) units.old.items units.new.items
         watcher.old watcher.new }
 {
@@ -137,6 +139,8 @@ pub(crate) fn run_turns<H: Host, W: Watcher>(
     ensures counts { IfErr result (λ unit. CountsReply (H.state host.old) (H.state host.new)
         unit.reply) }
     ensures not_closed { IfErr result (λ unit. IsBrokenBy Closed unit.reply → ⊥) }
+    ensures abandoned { IfErr result (λ unit. IsBrokenBy Abandoned unit.reply
+        → IsTrue (W.ends watcher.new)) }
     ensures watched { AddsTold W.tells (H.state host.old) units.old.items units.new.items
         watcher.old watcher.new }
 {

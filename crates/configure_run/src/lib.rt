@@ -15,7 +15,8 @@
 //! from their caller and give them back as those of the records that they leave, unless a unit was
 //! broken off (`indexed`); so does displaced_packages. A `Watcher` (unit_reports) is told each unit
 //! of the report once, in order, when it is on the disk and no later one has made a call, and
-//! nothing of the one that was broken off (`watched`). The turns themselves are taken by unit_runs.
+//! nothing of the one that was broken off (`watched`). Once it wants no further unit the next one
+//! is abandoned before it begins (`abandoned`). The turns themselves are taken by unit_runs.
 #![tactic(auto)]
 
 mod all_turns;

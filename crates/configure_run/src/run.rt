@@ -1,5 +1,5 @@
 // All units of a configure.
-ghost use Rattle.std.specs.Prelude.{◌≡◌, ◌++◌, [], Some, IfErr, IfOk, IfSome, IsNone, OnErr, OnOk};
+ghost use Rattle.std.specs.Prelude.{◌≡◌, ◌++◌, [], Some, IfErr, IfOk, IfSome, IsNone, IsTrue, OnErr, OnOk};
 ghost use Rattle.dependency_sets.specs.Sets.{has};
 ghost use Rattle.held_administration.specs.Open.{IsOpen};
 ghost use Rattle.host_core.specs.Host.{Needs, Since, NoFault};
@@ -9,7 +9,7 @@ ghost use Rattle.recorded_packages.specs.Packages.{ArePackagesOf};
 ghost use Rattle.held_administration.specs.Order.{IsInOrder};
 ghost use Rattle.unit_reports.specs.Held.{held_by};
 ghost use Rattle.unit_reports.specs.Units.{CountsLast, CountsReply, IsBrokenBy, TellsCalls, calls_of};
-ghost use Rattle.unit_reports.specs.declared.report.Breakage.TheVariants.{Closed};
+ghost use Rattle.unit_reports.specs.declared.report.Breakage.TheVariants.{Abandoned, Closed};
 ghost use Rattle.unit_reports.specs.Watching.{AddsTold, IsTold};
 ghost use Rattle.undo_rows.specs.Transcript.{TellsAll};
 ghost use Rattle.configure_run.specs.Asked.{each_once};
@@ -119,6 +119,8 @@ fn run_and_renew<H: Host, W: Watcher>(
     ensures counts { IfErr result (λ unit. CountsReply (H.state host.old) (H.state host.new)
         unit.reply) }
     ensures not_closed { IfErr result (λ unit. IsBrokenBy Closed unit.reply → ⊥) }
+    ensures abandoned { IfErr result (λ unit. IsBrokenBy Abandoned unit.reply
+        → IsTrue (W.ends watcher.new)) }
     ensures watched { AddsTold W.tells (H.state host.old) units.old.items units.new.items
         watcher.old watcher.new }
 {
@@ -182,6 +184,8 @@ fn run_all<H: Host, W: Watcher>(
     ensures counts { IfErr result (λ unit. CountsReply (H.state host.old) (H.state host.new)
         unit.reply) }
     ensures not_closed { IfErr result (λ unit. IsBrokenBy Closed unit.reply → ⊥) }
+    ensures abandoned { IfErr result (λ unit. IsBrokenBy Abandoned unit.reply
+        → IsTrue (W.ends watcher.new)) }
     ensures watched { AddsTold W.tells (H.state host.old) units.old.items units.new.items
         watcher.old watcher.new }
 {
@@ -242,6 +246,8 @@ pub fn configure_packages<H: Host, W: Watcher>(
         packages.new }
     ensures counts { CountsLast (H.state host.old) (H.state host.new) result.last }
     ensures not_closed { IfSome result.last (λ unit. IsBrokenBy Closed unit.reply → ⊥) }
+    ensures abandoned { IfSome result.last (λ unit. IsBrokenBy Abandoned unit.reply
+        → IsTrue (W.ends watcher.new)) }
     ensures watched { IsTold W.tells (H.state host.old) watcher.old result.units.items watcher.new }
 {
     let mut units = Vec::new(administration.alloc);

@@ -1,12 +1,13 @@
 // A refused unit more.
 ghost use Rattle.std.specs.Prelude.{◌≡◌, ◌++◌, ◌∷◌, [], OnErr, OnOk};
+ghost use Rattle.unit_reports.specs.Units.{IsRefusal};
 ghost use Rattle.unit_reports.specs.Watching.{AddsTold};
 
 use host_core::Host;
 use std::alloc::AllocError;
 use unit_reports::{Unit, Watcher};
 
-/// A unit more that made no call, which is told once there is room for it.
+/// A unit more that a rule refuses, which is told once there is room for it.
 pub(crate) fn add_finished<H: Host, W: Watcher>(
     host: &H,
     unit: Unit,
@@ -14,6 +15,7 @@ pub(crate) fn add_finished<H: Host, W: Watcher>(
     watcher: &mut W,
 ) -> Result<(), AllocError>
     requires quiet { unit.calls.items ≡ [] }
+    requires refused { IsRefusal unit.reply }
     ensures ok { OnOk result (units.new.items ≡ units.old.items ++ unit ∷ []) }
     ensures err { OnErr result (units.new.items ≡ units.old.items) }
     ensures watched { AddsTold W.tells (H.state host.now) units.old.items units.new.items

@@ -1,5 +1,5 @@
 // The turns of the packages that wait.
-ghost use Rattle.std.specs.Prelude.{◌≡◌, ℕ, Bool, [], false, true, None, IfErr, IfOk, IfSome, IsTrue, OnOk};
+ghost use Rattle.std.specs.Prelude.{◌≡◌, ℕ, Bool, [], true, None, Some, IfErr, IfOk, IfSome, IsTrue, OnOk, is_some};
 ghost use Rattle.dependency_sets.specs.Sets.{has};
 ghost use Rattle.held_administration.specs.Open.{IsOpen};
 ghost use Rattle.host_core.specs.Host.{AtEachMomentOf, Needs, NoFault};
@@ -7,10 +7,11 @@ ghost use Rattle.host_core.specs.Loss.{IsAnswered};
 ghost use Rattle.held_administration.specs.Order.{IsInOrder};
 ghost use Rattle.unit_reports.specs.Held.{held_by};
 ghost use Rattle.unit_reports.specs.Units.{CountsReply, IsBrokenBy};
-ghost use Rattle.unit_reports.specs.declared.report.Breakage.TheVariants.{Closed};
+ghost use Rattle.unit_reports.specs.declared.report.Breakage.TheVariants.{Abandoned, Closed};
 ghost use Rattle.undo_rows.specs.Transcript.{TellsAll};
 ghost use Rattle.unit_runs.specs.Taking.{CountsTaken, IsTaken, calls_in};
 ghost use Rattle.unit_runs.specs.Turns as runs;
+ghost use Rattle.unit_runs.specs.declared.barring.Bar.TheVariants as bar;
 ghost use Rattle.configure_run.specs.Starting.{AreWaiting};
 ghost use Rattle.configure_run.specs.Turns.{HasCalledNext, IsAmidTurn, IsTurn, after_turn, is_done};
 ghost use Rattle.configure_run.specs.Taking.{IsAmidTurnOf, IsBrokenAt, IsNoneLeft, IsTurnOf, left_behind};
@@ -24,7 +25,7 @@ use held_administration::Administration;
 use host_core::Host;
 use std::mem;
 use unit_reports::{Unit, is_broken};
-use unit_runs::Turns;
+use unit_runs::{Bar, Turns, barred_unit};
 
 // The unit of the package of a number, or the unit that was broken off.
 fn take_turn<H: Host>(
@@ -34,7 +35,7 @@ fn take_turn<H: Host>(
     policy: ConfPolicy,
     queue: &Queue,
     number: usize,
-    room: bool,
+    barred: Option<Bar>,
 ) -> Result<Unit, Unit>
     requires open { IsOpen diversions.now.ways administration.old }
     requires wait { AreWaiting queue.now administration.old.database.records }
@@ -44,7 +45,7 @@ fn take_turn<H: Host>(
     ensures ok { IfOk result (IsTurnOf policy queue.now number
         (held_by administration.old diversions.now) (held_by administration.new diversions.now)
         (H.state host.old) (H.state host.new)) }
-    ensures room { OnOk result (room ≡ true) }
+    ensures barred { OnOk result (barred ≡ None) }
     ensures wait { IfOk result (λ unit. AreWaiting (after_turn (is_done unit.reply) number
         queue.now) administration.new.database.records) }
     ensures order { OnOk result (Needs (H.state host.new)
@@ -62,9 +63,11 @@ fn take_turn<H: Host>(
     ensures counts { IfErr result (λ unit. CountsReply (H.state host.old) (H.state host.new)
         unit.reply) }
     ensures not_closed { IfErr result (λ unit. IsBrokenBy Closed unit.reply → ⊥) }
+    ensures abandoned { IfErr result (λ unit. IsBrokenBy Abandoned unit.reply
+        → barred ≡ Some bar.Abandoned) }
 {
-    if !room {
-        return Err(no_memory(administration.alloc));
+    if let Some(bar) = barred {
+        return Err(barred_unit(administration.alloc, bar));
     }
     queue.law();
     let packages = queue.packages();
@@ -84,7 +87,7 @@ fn take_next<H: Host>(
     options: ConfigureOptions,
     queue: &Queue,
     silent: &[bool],
-    room: bool,
+    barred: Option<Bar>,
     taken: &mut Option<(usize, bool)>,
 ) -> Result<Option<Unit>, Unit>
     requires open { IsOpen diversions.now.ways administration.old }
@@ -99,7 +102,7 @@ fn take_next<H: Host>(
     ensures waits { OnOk result (IfSome taken.new (λ n. IsTrue (has queue.now.waiting n.0))) }
     ensures found { IfOk result (λ found. IfSome found (λ unit. (n : ℕ × Bool) × (taken.new
         ≡ Some n) × IsTrue (has queue.now.waiting n.0))) }
-    ensures room { room ≡ false → IfOk result (λ found. found ≡ None) }
+    ensures barred { is_some barred ≡ true → IfOk result (λ found. found ≡ None) }
     ensures wait { OnOk result (AreWaiting (left_behind queue.now taken.new)
         administration.new.database.records) }
     ensures order { OnOk result (Needs (H.state host.new)
@@ -112,6 +115,8 @@ fn take_next<H: Host>(
         (held_by administration.old diversions.now)) (H.state host.old) (H.state host.new) }
     ensures counts { CountsTaken (H.state host.old) (H.state host.new) result }
     ensures not_closed { IfErr result (λ unit. IsBrokenBy Closed unit.reply → ⊥) }
+    ensures abandoned { IfErr result (λ unit. IsBrokenBy Abandoned unit.reply
+        → barred ≡ Some bar.Abandoned) }
 {
     let alloc = administration.alloc;
     *taken = None;
@@ -123,7 +128,7 @@ fn take_next<H: Host>(
             options.policy,
             queue,
             number,
-            room,
+            barred,
         ) {
             Ok(unit) => {
                 *taken = Some((number, is_done(&unit)));
@@ -182,7 +187,7 @@ impl<'d, H: Host> Turns<H> for Configuring<'d> {
         &mut self,
         host: &mut H,
         administration: &mut Administration,
-        room: bool,
+        barred: Option<Bar>,
     ) -> Result<Option<Unit>, Unit> {
         let alloc = administration.alloc;
         match mem::replace(&mut self.queue, None) {
@@ -195,7 +200,7 @@ impl<'d, H: Host> Turns<H> for Configuring<'d> {
                         self.options,
                         &queue,
                         self.silent.as_slice(),
-                        room,
+                        barred,
                         &mut self.taken,
                     );
                     self.queue = Some(queue);

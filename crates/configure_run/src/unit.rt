@@ -8,8 +8,8 @@ ghost use Rattle.host_core.specs.Loss.{IsAnswered, IsOnDisk};
 ghost use Rattle.held_administration.specs.Order.{IsInOrder};
 ghost use Rattle.unit_reports.specs.Held.{held_by};
 ghost use Rattle.unit_reports.specs.Units as reports;
-ghost use Rattle.unit_reports.specs.Units.{CountsReply, IsBroken, IsBrokenBy, IsRefusedUnit, TellsNoPackage};
-ghost use Rattle.unit_reports.specs.declared.report.Breakage.TheVariants.{Closed, NoMemory};
+ghost use Rattle.unit_reports.specs.Units.{CountsReply, IsBroken, IsBrokenBy, IsFromBefore, IsRefusedUnit, TellsNoPackage};
+ghost use Rattle.unit_reports.specs.declared.report.Breakage.TheVariants.{NoMemory};
 ghost use Rattle.unit_reports.specs.declared.refusal.Rule.TheVariants.{BrokenBy};
 ghost use Rattle.configure_run.specs.Starting.{name_at};
 ghost use Rattle.configure_run.specs.Turns.{Answers, ConfiguresToDisk, HasCalledFor, HasCalledToDisk, HasObstacle, IsAmidUnit, IsBeside, IsConfigured, IsUnit, IsUnitFor, given_by, holding_of, is_done, reply_to};
@@ -219,7 +219,7 @@ fn configured_unit<H: Host>(
         (IsAmidConfiguring (given_by policy name.now (held_by administration.old diversions.now))
         old)) (H.state host.old) (H.state host.new) }
     ensures counts { CountsReply (H.state host.old) (H.state host.new) result.reply }
-    ensures not_closed { IsBrokenBy Closed result.reply → ⊥ }
+    ensures not_closed { IsFromBefore result.reply → ⊥ }
 {
     let alloc = administration.alloc;
     let mut calls = Vec::new(alloc);
@@ -254,7 +254,7 @@ fn unit_for<H: Host>(
     ensures any_moment { AtEachMomentOf (IsAmidUnit policy name.now
         (held_by administration.old diversions.now)) (H.state host.old) (H.state host.new) }
     ensures counts { CountsReply (H.state host.old) (H.state host.new) result.reply }
-    ensures not_closed { IsBrokenBy Closed result.reply → ⊥ }
+    ensures not_closed { IsFromBefore result.reply → ⊥ }
 {
     let alloc = administration.alloc;
     match obstacle_of(alloc, host, diversions, &administration.database, name) {
@@ -304,7 +304,7 @@ pub(crate) fn unit_of<H: Host>(
     ensures any_moment { AtEachMomentOf (IsAmidUnit policy of.now.name
         (held_by administration.old diversions.now)) (H.state host.old) (H.state host.new) }
     ensures counts { CountsReply (H.state host.old) (H.state host.new) result.reply }
-    ensures not_closed { IsBrokenBy Closed result.reply → ⊥ }
+    ensures not_closed { IsFromBefore result.reply → ⊥ }
 {
     match broken_by(packages, of) {
         Some(breaking) => refused_for(

@@ -1,5 +1,5 @@
 -- What is written is read again.
-use Rattle.std.proofs.Common.{◌≡◌, ◌+◌, ℕ, true, false, eqb, List, [], ◌∷◌, ◌++◌, length, refl, sym, ap, subst, ◌∙◌, append_assoc, arith}
+use Rattle.std.proofs.Common.{◌≡◌, ◌+◌, ℕ, Bool, true, false, cond, eqb, List, [], ◌∷◌, ◌++◌, length, refl, sym, ap, subst, ◌∙◌, append_assoc, arith}
 use Rattle.std.specs.List.{AllByRecursion}
 use Rattle.std.proofs.lemmas.Str.{IsUtf8-nil}
 use Rattle.std.proofs.lemmas.Bool.{ne_eqb}
@@ -8,7 +8,7 @@ use Rattle.std.proofs.lemmas.List.Concat.{flat_map-cons}
 use Rattle.control_fields.specs.Names.{is_blank, trim_end, trim_start, settled_last, stands, with_line, begin_line}
 use Rattle.control_fields.specs.Faults.{BeginsBlank}
 use Rattle.control_fields.specs.Grammar.{Reading, nothing, closed, with_last, Takes, Run, Reads, lines_of, paragraphs_of}
-use Rattle.control_fields.specs.Spelling.{spell_more, spell_first, spell_field, spell, spell_all, first_line, IsMore, IsField, AreFields, IsParagraph}
+use Rattle.control_fields.specs.Spelling.{has_no_blank, spell_more, spell_first, spell_field, spell, spell_all, first_line, IsMore, IsField, AreFields, IsParagraph}
 use Rattle.control_fields.specs.declared.field.Field.{Field}
 use Rattle.control_fields.specs.declared.located.Located.{Located}
 use Rattle.control_fields.proofs.Cases.{at, takes_separator, takes_continuation, takes_field}
@@ -71,15 +71,19 @@ field_lines f tail is =
     (simp append_assoc) is.one_line
     ∙ ap (λ (t : List (List ℕ)). first_line f ∷ t) (more_lines f.more tail is.more)
 
-first_again : (first : List ℕ) → trim_start first ≡ first → trim_start (spell_first first) ≡ first
-first_again [] e = refl
-first_again (b ∷ bs) e = e
+first_again : (name first : List ℕ) → trim_start first ≡ first → trim_start (spell_first name first) ≡ first
+first_again name [] e = by (has_no_blank name [])
+  where
+    by : (b : Bool) → trim_start (cond b [] (32 ∷ [])) ≡ []
+    by true = refl
+    by false = refl
+first_again name (b ∷ bs) e = e
 
 takes_first : (n : ℕ) (d : List Located) (i : ℕ) (before : List Field) (f : Field) → settled_last before ≡ before → IsField f → stands f.name before ≡ false
     → Takes n (first_line f) (at d i before) (at d (begin_line before i n) (before ++ (let g : Field = record { name = f.name; first = f.first; more = [] } in g) ∷ []))
-takes_first n d i before f whole is new = takes_field n (first_line f) d d i (begin_line before i n) before (before ++ (let g : Field = record { name = f.name; first = f.first; more = [] } in g) ∷ []) f.name (spell_first f.first) is.utf8 refl is.no_colon is.name new refl refl
+takes_first n d i before f whole is new = takes_field n (first_line f) d d i (begin_line before i n) before (before ++ (let g : Field = record { name = f.name; first = f.first; more = [] } in g) ∷ []) f.name (spell_first f.name f.first) is.utf8 refl is.no_colon is.name new refl refl
     (ap (λ (fs : List Field). fs ++ (let g : Field = record { name = f.name; first = f.first; more = [] } in g) ∷ []) (sym whole)
-    ∙ ap (λ (t : List ℕ). settled_last before ++ (let g : Field = record { name = f.name; first = t; more = [] } in g) ∷ []) (sym (first_again f.first is.start_trimmed)))
+    ∙ ap (λ (t : List ℕ). settled_last before ++ (let g : Field = record { name = f.name; first = t; more = [] } in g) ∷ []) (sym (first_again f.name f.first is.start_trimmed)))
 
 whole_last : (before : List Field) (f : Field) → IsField f → settled_last (before ++ f ∷ []) ≡ before ++ f ∷ []
 whole_last before f is = settled_end before f ∙ ap (λ (g : Field). before ++ g ∷ []) is.ended

@@ -10,7 +10,7 @@ use Rattle.std.proofs.lemmas.Str.Ascii.{IsAscii-nil, IsAscii-cons}
 use Rattle.control_fields.specs.Names.{Lacks, is_blank, keep_before, trim_end, trim_start, ended, ended_first, settled, settled_last, IsName, stands, with_line}
 use Rattle.control_fields.specs.Grammar.{Reading, start, closed, with_last, field_of, lines_of, paragraphs_of, Takes, Run, Reads}
 use Rattle.control_fields.specs.Faults.{BeginsBlank}
-use Rattle.control_fields.specs.Spelling.{spell_first, IsMore, IsField, AreFields, IsParagraph}
+use Rattle.control_fields.specs.Spelling.{has_no_blank, spell_first, IsMore, IsField, AreFields, IsParagraph}
 use Rattle.control_fields.specs.declared.field.Field.{Field}
 use Rattle.control_fields.specs.declared.located.Located.{Located}
 use Rattle.control_fields.proofs.Cases.{begins}
@@ -35,13 +35,27 @@ name_utf8 name is = IsUtf8-from_ascii name (name_is_ascii name is)
 name_lacks : (name : List ℕ) → IsName name → Lacks name 10
 name_lacks name is = λ i lt e. let k = (is.3 i lt).0 in omega arith
 
-colon_utf8 : (v : List ℕ) → IsUtf8 v → IsUtf8 (58 ∷ spell_first v)
-colon_utf8 [] is = IsUtf8-from_ascii (58 ∷ []) (IsAscii-cons 58 [] (omega arith) IsAscii-nil)
-colon_utf8 (b ∷ bs) is = IsUtf8-append (58 ∷ 32 ∷ []) (b ∷ bs) (IsUtf8-from_ascii (58 ∷ 32 ∷ []) (IsAscii-cons 58 (32 ∷ []) (omega arith) (IsAscii-cons 32 [] (omega arith) IsAscii-nil))) is
+blank_utf8 : (v : List ℕ) → IsUtf8 v → IsUtf8 (58 ∷ 32 ∷ v)
+blank_utf8 v is = IsUtf8-append (58 ∷ 32 ∷ []) v (IsUtf8-from_ascii (58 ∷ 32 ∷ []) (IsAscii-cons 58 (32 ∷ []) (omega arith) (IsAscii-cons 32 [] (omega arith) IsAscii-nil))) is
 
-colon_lacks : (v : List ℕ) → Lacks v 10 → Lacks (58 ∷ spell_first v) 10
-colon_lacks [] h = lacks_cons 58 [] 10 (λ e. omega arith) h
-colon_lacks (b ∷ bs) h = lacks_cons 58 (32 ∷ b ∷ bs) 10 (λ e. omega arith) (lacks_cons 32 (b ∷ bs) 10 (λ e. omega arith) h)
+colon_utf8 : (name v : List ℕ) → IsUtf8 v → IsUtf8 (58 ∷ spell_first name v)
+colon_utf8 name [] is = by (has_no_blank name [])
+  where
+    by : (b : Bool) → IsUtf8 (58 ∷ cond b [] (32 ∷ []))
+    by true = IsUtf8-from_ascii (58 ∷ []) (IsAscii-cons 58 [] (omega arith) IsAscii-nil)
+    by false = blank_utf8 [] is
+colon_utf8 name (b ∷ bs) is = blank_utf8 (b ∷ bs) is
+
+blank_lacks : (v : List ℕ) → Lacks v 10 → Lacks (58 ∷ 32 ∷ v) 10
+blank_lacks v h = lacks_cons 58 (32 ∷ v) 10 (λ e. omega arith) (lacks_cons 32 v 10 (λ e. omega arith) h)
+
+colon_lacks : (name v : List ℕ) → Lacks v 10 → Lacks (58 ∷ spell_first name v) 10
+colon_lacks name [] h = by (has_no_blank name [])
+  where
+    by : (b : Bool) → Lacks (58 ∷ cond b [] (32 ∷ [])) 10
+    by true = lacks_cons 58 [] 10 (λ e. omega arith) h
+    by false = blank_lacks [] h
+colon_lacks name (b ∷ bs) h = blank_lacks (b ∷ bs) h
 
 -- a line that goes on with a field, with no blanks at its end
 pub record IsTrimmedMore (l : List ℕ) : Type 0 where
@@ -72,8 +86,8 @@ ended_field : (f : Field) → IsOpen f → settled f ≡ f → IsField f
 ended_field f is whole = record {
   name = is.name;
   no_colon = is.no_colon;
-  utf8 = IsUtf8-append f.name (58 ∷ spell_first f.first) (name_utf8 f.name is.name) (colon_utf8 f.first is.utf8);
-  one_line = lacks_append f.name (58 ∷ spell_first f.first) 10 (name_lacks f.name is.name) (colon_lacks f.first is.one_line);
+  utf8 = IsUtf8-append f.name (58 ∷ spell_first f.name f.first) (name_utf8 f.name is.name) (colon_utf8 f.name f.first is.utf8);
+  one_line = lacks_append f.name (58 ∷ spell_first f.name f.first) 10 (name_lacks f.name is.name) (colon_lacks f.name f.first is.one_line);
   start_trimmed = is.start_trimmed;
   more = is.more;
   ended = whole;

@@ -1,6 +1,6 @@
 // The written form of paragraphs.
 ghost use Rattle.std.specs.Prelude.{◌≡◌, OnOk, IfOk, IfErr, ◌++◌, ◌∷◌, []};
-ghost use Rattle.control_fields.specs.Spelling.{first_line, spell_field, spell, spell_all};
+ghost use Rattle.control_fields.specs.Spelling.{first_line, has_no_blank, spell_field, spell, spell_all};
 ghost use Rattle.control_fields.specs.declared.fault.ControlFault.TheVariants.{NoMemory};
 
 use crate::fault::ControlFault;
@@ -8,13 +8,22 @@ use crate::field::Field;
 use crate::paragraph::Paragraph;
 use std::alloc::{AllocError, Global};
 
+// Whether nothing stands behind the colon, as of conffiles, whose values begin on the next line.
+fn has_no_blank(field: &Field) -> bool
+    ensures { result ≡ has_no_blank field.now.name field.now.first }
+{
+    let name = field.name.as_slice();
+    field.first.as_slice().is_empty()
+        && (name.eq_ignore_ascii_case(b"conffiles") || name.eq_ignore_ascii_case(b"new-conffiles"))
+}
+
 // The line of the field's name.
 fn write_first_line(out: &mut Vec<u8>, field: &Field) -> Result<(), AllocError>
     ensures { OnOk result (out.new.items ≡ out.old.items ++ first_line field.now ++ 10 ∷ []) }
 {
     out.extend_from_slice(field.name.as_slice())?;
     out.push(b':')?;
-    if !field.first.as_slice().is_empty() {
+    if !has_no_blank(field) {
         out.push(b' ')?;
         out.extend_from_slice(field.first.as_slice())?;
     }

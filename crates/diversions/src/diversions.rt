@@ -1,6 +1,6 @@
 // The open table.
 ghost use Rattle.std.specs.Str.{bytes_eq};
-ghost use Rattle.std.specs.Prelude.{◌≡◌, ◌↔◌, not, [], IfOk, IfErr, OnErr, IsTrue, true, false, length, option_copied, ◌<◌, ◌^◌};
+ghost use Rattle.std.specs.Prelude.{◌≡◌, ◌≢◌, ◌↔◌, not, [], IfOk, IfErr, MatchBool, OnErr, IsTrue, true, false, length, option_copied, ◌<◌, ◌^◌};
 ghost use Rattle.std.specs.Map.Iter.{ShowsInOrder, deref};
 ghost use Rattle.host_core.specs.Host.{AtEachMoment, Counts, Leaves, Needs, Reads, Silent, Tells};
 ghost use Rattle.administration.specs.Fault.{CountsAdministration};
@@ -164,6 +164,36 @@ impl Diversions {
         ensures { IfOk result (λ o. option_copied o ≡ entry_to self.now.ways path.now) }
     {
         self.ways.entry_to(&self.known, path)
+    }
+
+    /// Whether another table has the same entries, in the same order.
+    pub fn has_entries_of(&self, other: &Diversions) -> bool
+        ensures { MatchBool result (self.now.ways.entries ≡ other.now.ways.entries)
+            (self.now.ways.entries ≢ other.now.ways.entries) }
+    {
+        let mut left = other.entries();
+        let mut entries = self.entries();
+        while let Some(entry) = entries.next() {
+            let Some(found) = left.next() else {
+                return false;
+            };
+            if !entry.is(found) {
+                return false;
+            }
+        }
+        left.next().is_none()
+    }
+
+    /// Takes the entries of another table that was read; the aliases stay.
+    pub fn take_entries(&mut self, read: Diversions)
+        ensures { self.new ≡ record self.old {
+          ways = record self.old.ways { entries = read.ways.entries };
+        } }
+    {
+        let Diversions { ways, .. } = read;
+        let Ways { entries, .. } = ways;
+        self.ways.entries = entries;
+        self.known = Known::nothing();
     }
 
     /// Adds what is missing of the aliases above a path.

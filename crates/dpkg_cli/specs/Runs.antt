@@ -18,7 +18,7 @@ use Rattle.command_line.specs.Rehearsed.{IsEndOf}
 use Rattle.command_line.specs.Roots.{Around}
 
 -- Of real directories: a root is as an account has it when it is opened, and a host for a tree has done nothing by then. Of what
--- they hold when they are given back, of openings and of other programs nothing is claimed.
+-- they hold when they are given back, of openings, of other programs and of room for archives nothing is claimed.
 abbrev pub around_real : Model → Type 0 → Around
 around_real model failed = record {
   root = λ word state. state ≡ replay model [];
@@ -28,6 +28,7 @@ around_real model failed = record {
   failed = failed;
   unopened = ⊤;
   locked = λ word lock. ⊤;
+  full = λ word path. ⊤;
 }
 
 -- The status that a program ends with is that of the reply to its words, or of want of memory; it is 2 where not all of that

@@ -1,10 +1,14 @@
 // Archives of packages: `dpkg-deb -R` unpacks each into a directory of its own, which is there while its tree is read. Where there
 // is no such program `ar` and `tar` do it.
-use std::fs::DirBuilder;
-use std::io::{Error, ErrorKind};
+ghost use Rattle.std.specs.Prelude.{◌≡◌};
+ghost use Rattle.dpkg_cli.specs.declared.archives.Missing.TheVariants.{Other};
+
+use host_core::RootPath;
+use std::fs::{DirBuilder, File};
+use std::io::{Error, ErrorKind, Write};
 use std::os::unix::fs::DirBuilderExt;
 use std::process::{Command, ExitStatus, Stdio};
-use std::{env, fs, io, process};
+use std::{env, fs, io, path, process};
 
 // Below a root that is held. A killed program leaves it, and the next one that holds the root takes it away.
 const ROOM: &str = "/var/lib/dpkg/tmp.trees";
@@ -28,6 +32,25 @@ do
   rm \"$member\"
 done
 [ -f \"$2/DEBIAN/control\" ]";
+
+// So much is written where a tool failed, to see whether it was for want of room.
+const PROBE: usize = 65536;
+
+/// Why the tree of an archive isn't there.
+#[derive(Drop)]
+pub(crate) enum Missing {
+    /// For want of room at a path under the root that is held, or at one of the machine; with the place, and the system's error.
+    NoRoom(RootPath, String, Error),
+    Other(Error),
+}
+
+impl From<Error> for Missing {
+    ghost from_gives = { λ error e. e ≡ Other error };
+
+    fn from(error: Error) -> Self {
+        Missing::Other(error)
+    }
+}
 
 /// Where archives are unpacked.
 #[derive(Drop)]
@@ -93,6 +116,33 @@ fn unpack(rt: &HostRuntime, archive: &str, tree: &str) -> io::Result<ExitStatus>
     }
 }
 
+fn is_full(error: &Error) -> bool {
+    error.kind() == ErrorKind::StorageFull || error.kind() == ErrorKind::QuotaExceeded
+}
+
+fn write_probe(rt: &HostRuntime, place: &str) -> io::Result<()> {
+    let bytes = vec![in rt.alloc(); 0u8; PROBE]?;
+    let mut file = File::create_new(rt, place)?;
+    file.write_all(bytes.as_slice())?;
+    file.sync_all()
+}
+
+// Whether there is room in a room; nothing is left of what is written for that.
+fn try_room(rt: &HostRuntime, room: &str) -> io::Result<()> {
+    let place = format!(in rt.alloc(); "{room}/probe")?;
+    let written = write_probe(rt, place.as_str());
+    let _ = fs::remove_file(rt, place.as_str());
+    written
+}
+
+// Why a tool failed in a room: for want of room, or it knows itself.
+fn why_failed(rt: &HostRuntime, room: &str) -> Error {
+    match try_room(rt, room) {
+        Err(error) if is_full(&error) => error,
+        _ => Error::other("the archive can't be unpacked"),
+    }
+}
+
 impl Archives {
     pub(crate) fn none() -> Archives {
         Archives {
@@ -119,31 +169,66 @@ impl Archives {
     }
 
     // Makes a room that its own user alone can enter, and unpacks the archive there.
-    fn fill(&mut self, rt: &HostRuntime, archive: &str, room: String) -> io::Result<String> {
-        DirBuilder::new().mode(0o700).create(rt, room.as_str())?;
-        let tree = format!(in rt.alloc(); "{}/tree", room.as_str())?;
-        self.room = Some(room);
+    fn fill(&mut self, rt: &HostRuntime, archive: &str, room: &str) -> io::Result<String> {
+        let made = String::from_str(rt.alloc(), room)?;
+        let tree = format!(in rt.alloc(); "{room}/tree")?;
+        DirBuilder::new().mode(0o700).create(rt, room)?;
+        self.room = Some(made);
         if unpack(rt, archive, tree.as_str())?.success() {
             return Ok(tree);
         }
-        Err(Error::other("the archive can't be unpacked"))
+        Err(why_failed(rt, room))
     }
 
-    /// The tree of a word that names a file: an archive, which is unpacked. The one before it goes; of no other word is there one.
-    pub(crate) fn tree_of(&mut self, rt: &HostRuntime, word: &str) -> io::Result<Option<String>> {
-        self.drop_last(rt);
-        if !is_file(rt, word) {
-            return Ok(None);
-        }
-        let room = self.place(rt)?;
-        clear(rt, room.as_str())?;
+    // The tree of an archive in a room, where nothing is left of an earlier one.
+    fn unpacked(&mut self, rt: &HostRuntime, word: &str, room: &str) -> io::Result<String> {
+        clear(rt, room)?;
         let archive = format!(in rt.alloc(); "./{word}")?;
         let place = if word.starts_with('-') {
             archive.as_str()
         } else {
             word
         };
-        Ok(Some(self.fill(rt, place, room)?))
+        self.fill(rt, place, room)
+    }
+
+    // The path of a room under the root that is held, or on the machine. Some places have none, as where they are too long.
+    fn path_of(&self, rt: &HostRuntime, room: &str) -> io::Result<Option<RootPath>> {
+        if self.held.is_some() {
+            return Ok(RootPath::parse(rt.alloc(), ROOM)?);
+        }
+        let whole = path::absolute(rt, room)?;
+        Ok(RootPath::parse(rt.alloc(), whole.as_str())?)
+    }
+
+    // Why there is no tree in a room. What was unpacked goes, so that the disk isn't left full.
+    fn missing(&mut self, rt: &HostRuntime, room: String, error: Error) -> Missing {
+        self.drop_last(rt);
+        if !is_full(&error) {
+            return Missing::Other(error);
+        }
+        match self.path_of(rt, room.as_str()) {
+            Ok(Some(path)) => Missing::NoRoom(path, room, error),
+            Ok(None) => Missing::Other(error),
+            Err(unknown) => Missing::Other(unknown),
+        }
+    }
+
+    /// The tree of a word that names a file: an archive, which is unpacked. The one before it goes; of no other word is there one.
+    pub(crate) fn tree_of(
+        &mut self,
+        rt: &HostRuntime,
+        word: &str,
+    ) -> Result<Option<String>, Missing> {
+        self.drop_last(rt);
+        if !is_file(rt, word) {
+            return Ok(None);
+        }
+        let room = self.place(rt)?;
+        match self.unpacked(rt, word, room.as_str()) {
+            Ok(tree) => Ok(Some(tree)),
+            Err(error) => Err(self.missing(rt, room, error)),
+        }
     }
 
     /// Takes the tree of the last archive away, as far as that can be done.

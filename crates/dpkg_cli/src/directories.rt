@@ -2,13 +2,14 @@
 ghost use Rattle.std.specs.Prelude.{◌≡◌, ◌≤◌, ◌<◌, [], ⊤, IfOk, IsErrOf, OnOk, is_some, true};
 ghost use Rattle.host_core.specs.declared.fault.HostFault.TheVariants.{Declined, Device};
 ghost use Rattle.command_line.specs.declared.fault.RootFault.TheVariants.{Host as OfHost};
+ghost use Rattle.command_line.specs.declared.fault.TreeOpening.TheVariants.{Host as OfTreeHost};
 
-use crate::archives::Archives;
+use crate::archives::{Archives, Missing};
 use crate::locks::{Held, locks_of};
 use crate::progress::Line;
 use crate::records::Records;
 use crate::watched::Watched;
-use command_line::{Hosts, RootFault, ScriptStreams, TreeOwners};
+use command_line::{Hosts, RootFault, ScriptStreams, TreeOpening, TreeOwners};
 use host_core::HostFault;
 use host_files::{Disk, Failure, FilesHost, is_superuser};
 use shown_lines::shown;
@@ -125,14 +126,19 @@ impl<'a, D: Disk> Directories<'a, D> {
     }
 
     // Where a tree lies: of an archive the directory that it is unpacked into, else where its word says.
-    fn place_of(&mut self, tree: &str) -> Result<Option<String>, HostFault>
+    fn place_of(&mut self, tree: &str) -> Result<Option<String>, TreeOpening>
         ensures faults { self.old.faults ≤ self.new.faults }
-        ensures cause { IsErrOf result Device → self.old.faults < self.new.faults }
-        ensures undeclined { IsErrOf result Declined → ⊥ }
+        ensures cause { IsErrOf result (OfTreeHost Device) → self.old.faults < self.new.faults }
+        ensures undeclined { IsErrOf result (OfTreeHost Declined) → ⊥ }
     {
         match self.archives.tree_of(&self.rt, tree) {
             Ok(place) => Ok(place),
-            Err(error) => Err(self.failed_at(tree, &error)),
+            Err(Missing::NoRoom(path, place, error)) => {
+                self.line.clear();
+                tell_line(&self.rt, format!(in self.rt.alloc(); "{place}: {error}"));
+                Err(TreeOpening::NoRoom(path))
+            }
+            Err(Missing::Other(error)) => Err(TreeOpening::Host(self.failed_at(tree, &error))),
         }
     }
 
@@ -285,6 +291,9 @@ impl<'a, D: Disk> Hosts for Directories<'a, D> {
     // nor of what other programs hold
     ghost locked = { λ _ _ _. ⊤ };
 
+    // nor of what room there is
+    ghost full = { λ _ _ _. ⊤ };
+
     ghost below = { λ _. 0 };
 
     fn open_root(
@@ -306,7 +315,7 @@ impl<'a, D: Disk> Hosts for Directories<'a, D> {
         Ok(self.watched(host))
     }
 
-    fn open_tree(&mut self, tree: &str, owners: TreeOwners) -> Result<Watched<'a, D>, HostFault> {
+    fn open_tree(&mut self, tree: &str, owners: TreeOwners) -> Result<Watched<'a, D>, TreeOpening> {
         self.line.show_tree(tree, self.trees);
         self.line.frontend.begin_tree();
         self.trees = self.trees.saturating_add(1);

@@ -16,16 +16,17 @@ use Rattle.recorded_packages.specs.Packages.{ArePackagesOf}
 use Rattle.undo_rows.specs.declared.rows.Called.{Called}
 use Rattle.unit_reports.specs.Held.{Held}
 use Rattle.unit_reports.specs.Units.{CountsLast, IsBroken, IsBrokenBy, TellsCalls, TellsNoPackage, calls_of, calls_told, last_calls}
-use Rattle.unit_reports.specs.declared.report.Breakage.TheVariants.{Closed}
+use Rattle.unit_reports.specs.declared.report.Breakage.TheVariants.{Abandoned, Closed}
 use Rattle.unit_reports.specs.Watching.{IsTold}
 use Rattle.unit_reports.specs.declared.report.Report.{Report}
 use Rattle.unit_reports.specs.declared.report.Unit.{Unit as AUnit}
+use Rattle.unit_reports.proofs.Counting.{not_abandoned, not_closed}
 use Rattle.unit_reports.proofs.Telling.{tells_both, told_more}
 use Rattle.dpkg_session.specs.Rereading.{BehindReading, HasReread, IsAmidReading, IsReread, IsUnread, IsUnreadUnit, reading_breakage, with_ways}
 use Rattle.dpkg_session.specs.Standing.{IsStanding}
 use Rattle.dpkg_session.proofs.Growth.{answered_from, moments_from}
 use Rattle.dpkg_session.proofs.Looking.{none_failed}
-use Rattle.dpkg_session.proofs.ReadingFaults.{counts_reading, damage_of, reading_not_closed}
+use Rattle.dpkg_session.proofs.ReadingFaults.{counts_reading, damage_of, reading_within}
 use Rattle.dpkg_session.proofs.Told.{tells_silent}
 
 -- the administration stands with the table that was read
@@ -111,7 +112,16 @@ counts_unread fault (Some u) s t counts is = counts_reading fault u.reply s t is
 
 pub unread_not_closed : (fault : AdministrationFault) (last : Option AUnit) → IsSomeAnd last (IsOf fault) → IfSome last (λ unit. IsBrokenBy Closed unit.reply → ⊥)
 unread_not_closed fault None is = tt
-unread_not_closed fault (Some u) is = reading_not_closed fault u.reply is.0
+unread_not_closed fault (Some u) is = not_closed u.reply (reading_within fault u.reply is.0)
+
+pub unread_not_abandoned : (fault : AdministrationFault) (last : Option AUnit) → IsSomeAnd last (IsOf fault) → IfSome last (λ unit. IsBrokenBy Abandoned unit.reply → ⊥)
+unread_not_abandoned fault None is = tt
+unread_not_abandoned fault (Some u) is = not_abandoned u.reply (reading_within fault u.reply is.0)
+
+-- a unit that isn't abandoned isn't so without cause
+pub never_abandoned : (last : Option AUnit) (P : Type 0) → IfSome last (λ unit. IsBrokenBy Abandoned unit.reply → ⊥) → IfSome last (λ unit. IsBrokenBy Abandoned unit.reply → P)
+never_abandoned None P never = tt
+never_abandoned (Some u) P never = λ told. absurd (never told)
 
 -- what holds where there is no report of it
 

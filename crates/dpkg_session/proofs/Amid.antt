@@ -3,6 +3,7 @@ use Rattle.std.proofs.Common.{◌≡◌, inl, inr, Bool, IsTrue, List, [], ◌�
 use Rattle.std.proofs.lemmas.List.{append-nil, append_cancel_left}
 use Rattle.displaced_packages.specs.Displacing.{IsAmidDisplacing}
 use Rattle.displaced_packages.specs.Losing.{losing_beside}
+use Rattle.diversions.specs.Ways.{Ways}
 use Rattle.file_lists.specs.declared.paths.PackageList.{PackageList}
 use Rattle.host_core.specs.Paths.{Path}
 use Rattle.host_core.specs.World.{World}
@@ -101,18 +102,19 @@ since_under_way p beside before places s t are since =
     (subst (λ ps. Since (IsAmidBeside p beside before ps s.world) s t) are since)
 
 -- the unpack is committed, and packages are displaced behind it
-pub since_behind : (p : Package) (beside : Beside) (before : Held) (records : Recorded) (lists : List PackageList) (places : List Path) (told between : List Called) (s m t : State) → places ≡ places_of before → told ≡ []
-    → HasUnpackedBeside p beside before places None records lists s m told between → Since (IsAmidBeside p beside before places s.world) s m
-    → Since (IsAmidDisplacing p.name p.version before.ways (losing_beside before.lists beside) beside.conflicting (holding_of (held_with before records lists)) m) m t → Since (IsAmidUnpack p beside before s.world) s t
-since_behind p beside before records lists places told between s m t are none unpacked since behind =
+pub since_behind : (p : Package) (beside : Beside) (before : Held) (late : Ways) (records : Recorded) (lists : List PackageList) (places : List Path) (told between : List Called) (s m t : State) → places ≡ places_of before → told ≡ []
+    → HasUnpackedBeside p beside before late places None records lists s m told between → Since (IsAmidBeside p beside before places s.world) s m
+    → Since (IsAmidDisplacing p.name p.version late (losing_beside before.lists beside) beside.conflicting (holding_of (held_with late records lists)) m) m t → Since (IsAmidUnpack p beside before s.world) s t
+since_behind p beside before late records lists places told between s m t are none unpacked since behind =
     let first = since_under_way p beside before places s m are since in
-    let done : HasUnpackedBeside p beside before (places_of before) None records lists s m [] between =
-    subst (λ l. HasUnpackedBeside p beside before (places_of before) None records lists s m l between) none (subst (λ ps. HasUnpackedBeside p beside before ps None records lists s m told between) are unpacked) in
+    let done : HasUnpackedBeside p beside before late (places_of before) None records lists s m [] between =
+    subst (λ l. HasUnpackedBeside p beside before late (places_of before) None records lists s m l between) none (subst (λ ps. HasUnpackedBeside p beside before late ps None records lists s m told between) are unpacked) in
     since_then (IsAmidUnpack p beside before s.world) s m t first
-    (since_weaker_if (IsAmidDisplacing p.name p.version before.ways (losing_beside before.lists beside) beside.conflicting (holding_of (held_with before records lists)) m) (λ so_far w. IsAmidUnpack p beside before s.world (first.added ++ so_far) w) m t
+    (since_weaker_if (IsAmidDisplacing p.name p.version late (losing_beside before.lists beside) beside.conflicting (holding_of (held_with late records lists)) m) (λ so_far w. IsAmidUnpack p beside before s.world (first.added ++ so_far) w) m t
     (λ honest so_far w is. inr (record {
       s = s;
       from = refl;
+      late = late;
       records = records;
       lists = lists;
       m = m;

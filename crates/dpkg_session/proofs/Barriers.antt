@@ -1,11 +1,11 @@
 -- A barrier behind what was done.
-use Rattle.std.proofs.Common.{◌≡◌, List, [], ◌∷◌, Option, Some, None, Result, inl, inr, length, sym, subst, ◌∙◌}
+use Rattle.std.proofs.Common.{◌≡◌, List, [], ◌∷◌, ◌++◌, Option, Some, None, Result, inl, inr, length, sym, subst, ◌∙◌}
 use Rattle.administration.specs.Fault.{fault_of}
 use Rattle.administration.specs.declared.fault.AdministrationFault.{AdministrationFault}
 use Rattle.undo_rows.specs.Telling.{Begun}
 use Rattle.host_core.specs.Paths.{Path}
 use Rattle.host_core.specs.World.{World, Barrier}
-use Rattle.host_core.specs.Events.{Ran, Did}
+use Rattle.host_core.specs.Events.{Event, Ran, Did, scripts_of}
 use Rattle.host_core.specs.Host.{State, Does, Falls, Happens, Needs, Silent, Since, WasDenied}
 use Rattle.host_core.specs.Loss.{IsLater}
 use Rattle.host_core.proofs.Moments.{since_barrier, since_then, silent_then}
@@ -23,7 +23,8 @@ use Rattle.status_db.specs.Recorded.{Recorded}
 use Rattle.held_administration.specs.Order.{IsInOrder}
 use Rattle.host_core.proofs.Denials.{denied_first}
 use Rattle.unpack_engine.proofs.Carrying.{left_wider}
-use Rattle.unpack_engine.specs.Units.{Given, Ground, HasCalled, HasCalledRows, HasCarriedOut, HasFailedFor, HasLeft, HasLeftUnless, HasUnpacked, IsPlanFor, changes, commit_records, ground_of}
+use Rattle.unpack_engine.proofs.Quiet.{amid_unit_still}
+use Rattle.unpack_engine.specs.Units.{as_begun, Given, GoesByTable, Ground, HasCalled, HasCalledRows, HasCarriedOut, HasFailedFor, HasLeft, HasLeftUnless, HasUnpacked, IsAmidEither, IsPlanFor, IsReadAgain, changes, commit_records, ground_of}
 use Rattle.unpack_plan.specs.Planned.{Planned}
 use Rattle.undo_rows.specs.declared.rows.Called.{Called}
 use Rattle.undo_rows.specs.declared.rows.Row.{Row}
@@ -65,6 +66,35 @@ unpacked_to_disk g places ended after lists s m t told now is goes silent later 
 
 pub failed_behind : (g : Given) (s m t : State) (u : Option Unwinding) → HasFailedFor g s m u → Silent m t → HasFailedFor g s t u
 failed_behind g s m t u failed behind = record { plan = failed.plan; plan_for = plan_behind g s.world m t failed.plan behind.honest failed.plan_for; cause = failed.cause }
+
+again_behind : (plan : Planned) (first late : Ways) (s m t : State) → IsReadAgain plan first late s m → IsLater m t → IsReadAgain plan first late s t
+again_behind plan first late s m t is later = record {
+  before = is.before;
+  files = is.files;
+  parted = is.parted;
+  m = is.m;
+  since = is.since;
+  until = since_then (λ so_far w. Unit {0}) is.m m t is.until later;
+  ran = is.ran;
+  calls_are = is.calls_are;
+  all = is.all;
+  table = is.table;
+  aliases = is.aliases;
+}
+
+pub goes_behind : (g : Given) (u : Option Unwinding) (s m t : State) → GoesByTable g u s m → Silent m t → IsLater m t → GoesByTable g u s t
+goes_behind g u s m t goes behind later = record {
+  either = elim goes.either [
+    | inl same ↦ inl same
+    | inr (plan, is, again) ↦ inr (plan, plan_behind (as_begun g) s.world m t plan behind.honest is, again_behind plan g.begun g.ways s m t again later)
+  ];
+  again = λ none has. (let (plan, is, again) = goes.again none has in (plan, plan_behind (as_begun g) s.world m t plan behind.honest is, again_behind plan g.begun g.ways s m t again later));
+}
+
+-- nothing is called at a barrier
+pub either_still : (first late : Given) (places : List Path) (old : World) (x quiet : List Event) (w : World) → scripts_of quiet ≡ [] → IsAmidEither first late places old x w → IsAmidEither first late places old (x ++ quiet) w
+either_still first late places old x quiet w none (inl amid) = inl (amid_unit_still first places old x quiet w none amid)
+either_still first late places old x quiet w none (inr amid) = inr (amid_unit_still late places old x quiet w none amid)
 
 begun_behind : (P : List Ran → Type 0) (s m t : State) (told now : List Called) → Begun P s m told now → Silent m t → Begun P s t told now
 begun_behind P s m t told now begun behind = record {

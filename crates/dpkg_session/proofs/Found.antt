@@ -9,6 +9,7 @@ use Rattle.administration.specs.Places.{diversions_path, info_path, temporary}
 use Rattle.administration.proofs.WholeFiles.{no_directory_at}
 use Rattle.undo_rows.specs.Place.{Place}
 use Rattle.undo_rows.specs.Transcripts.{Ended, Committed, Unwound}
+use Rattle.diversions.specs.Ways.{Ways}
 use Rattle.file_lists.specs.Info.{AreLoose, AreSound}
 use Rattle.file_lists.specs.Lists.{HasLists}
 use Rattle.file_lists.specs.declared.paths.PackageList.{PackageList}
@@ -96,10 +97,10 @@ module _ (j : Job) (g : Ground) (p : Planned) (planned : IsPlanned j p) (same : 
 
 -- a unit
 
-unpacked_info : (p : Package) (beside : Beside) (before : Held) (unwinding : Option Unwinding) (records : Recorded) (lists : List PackageList) (s t : State) (told now : List Called) → HasUnpackedBeside p beside before (places_of before) unwinding records lists s t told now
-    → IsTrue t.honest → IsInOrder records lists t.world → HasInfo before s.world → HasInfo (held_with before records lists) t.world
-unpacked_info p beside before unwinding records lists s t told now is h order info =
-    let g = ground_of (given_by p before is.others (all_yielding p beside before)) (places_of before) in
+unpacked_info : (p : Package) (beside : Beside) (before : Held) (late : Ways) (unwinding : Option Unwinding) (records : Recorded) (lists : List PackageList) (s t : State) (told now : List Called) → HasUnpackedBeside p beside before late (places_of before) unwinding records lists s t told now
+    → IsTrue t.honest → IsInOrder records lists t.world → HasInfo before s.world → HasInfo (held_with late records lists) t.world
+unpacked_info p beside before late unwinding records lists s t told now is h order info =
+    let g = ground_of (given_by p before late is.others (all_yielding p beside before)) (places_of before) in
     let out = is.unpacked.carried_out in
     let plan = is.unpacked.plan in
     let planned = is.unpacked.plan_for.planned in
@@ -116,7 +117,7 @@ unpacked_info p beside before unwinding records lists s t told now is h order in
       sound = sound_left g plan named planned.works_are.named planned.lists_are.spares planned.names_are.elsewhere ended out.mid s.world out.ran.begun out.last (out.ran.begins_so honest) at honest t.world (out.leaves h)
           (record_names g.records) (record_names records.records) (found_among _ g plan planned refl info.standing recorded)
           (known_name (record_names g.records) (package_name g plan) records.records known)
-          (gone_after (given_by p before is.others (all_yielding p beside before)) is.unpacked.plan_for.stored plan planned (places_of before) out.ran.begun out.last out.mid ended at records.records out.records) info.sound order.loose lists (lists_had t.world (record_names records.records) lists order.listed);
+          (gone_after (given_by p before late is.others (all_yielding p beside before)) is.unpacked.plan_for.stored plan planned (places_of before) out.ran.begun out.last out.mid ended at records.records out.records) info.sound order.loose lists (lists_had t.world (record_names records.records) lists order.listed);
     }
 
 -- what packages leave that aren't unpacked
@@ -136,11 +137,11 @@ info_left before after old new keeps named loose listed info =
 whole_info : (p : Package) (beside : Beside) (before after : Held) (u : AUnit) (s t : State) → IsUnpacked p beside before after u s t → IsTrue t.honest → HasInfo before s.world → HasInfo after t.world
 whole_info p beside before after u s t is h info =
     let whole = is.unpacked in
-    let mid = held_with before whole.records whole.lists in
+    let mid = held_with after.ways whole.records whole.lists in
     let leaves = behind_leaves (names_of whole.records.records) is.unwinding (displacing_by p beside before.lists) is.displaced is.failed mid after whole.m t whole.between u.calls.items whole.behind in
     let honest = leaves.falls h in
     info_left mid after whole.m.world t.world (leaves.keeps h) leaves.named (is.order h).loose (is.order h).listed
-    (unpacked_info p beside before is.unwinding whole.records whole.lists s whole.m [] whole.between whole.unpacked honest (whole.ready honest) info)
+    (unpacked_info p beside before after.ways is.unwinding whole.records whole.lists s whole.m [] whole.between whole.unpacked honest (whole.ready honest) info)
 
 same_info : (before after : Held) (v w : World) → after ≡ before → w ≡ v → HasInfo before v → HasInfo after w
 same_info before after v w held world info = subst (λ (h : Held). HasInfo h w) (sym held) (subst (HasInfo before) (sym world) info)

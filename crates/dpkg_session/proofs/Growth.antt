@@ -45,7 +45,8 @@ use Rattle.dpkg_session.specs.Rereading.{HasRead, with_ways}
 use Rattle.dpkg_session.specs.Overriding.{AreOverrides, taken_with}
 use Rattle.dpkg_session.specs.Run.{IsAmidOverridden, IsAmidPackage, IsAmidTaken}
 use Rattle.dpkg_session.specs.Units.{HasCalledBeside, HasCalledBy, HasCalledDecided, HasCalledOverridden, HasCalledPackage, HasCalledTaken, HasCalledWhole, HasUnpackedBeside, HasUnpackedWhole, HaveRows, IsOverriddenUnit, IsPackageUnit, IsTakenUnit, IsUnitBy, all_yielding, given_by}
-use Rattle.dpkg_session.proofs.Looking.{called_from, failed_from, none_failed, unpacked_from}
+use Rattle.unpack_engine.specs.Units.{IsTableIn}
+use Rattle.dpkg_session.proofs.Looking.{called_from, failed_from, goes_from, none_failed, unpacked_from}
 
 -- path by path
 
@@ -122,13 +123,15 @@ module _ (s m : State) (reads : Reads s m) (silent : Silent s m) where
   no_calls_from : (u : AUnit) (t : State) → HasNoCalls u m t → HasNoCalls u s t
   no_calls_from u t none = record { silent = silent_then s m t silent none.silent; told = none.told }
 
-  beside_from : (p : Package) (beside : Beside) (h : Held) (places : List Path) (unwinding : Option Unwinding) (after : Recorded) (lists : List PackageList) (t : State) (told now : List Called)
-      → HasUnpackedBeside p beside h places unwinding after lists m t told now → HasUnpackedBeside p beside h places unwinding after lists s t told now
-  beside_from p beside h places unwinding after lists t told now is = record {
+  beside_from : (p : Package) (beside : Beside) (h : Held) (late : Ways) (places : List Path) (unwinding : Option Unwinding) (after : Recorded) (lists : List PackageList) (t : State) (told now : List Called)
+      → HasUnpackedBeside p beside h late places unwinding after lists m t told now → HasUnpackedBeside p beside h late places unwinding after lists s t told now
+  beside_from p beside h late places unwinding after lists t told now is = record {
     others = is.others;
     have_rows = subst (λ (w : World). HaveRows p beside h.records.records w t.honest is.others) reads.world is.have_rows;
-    unpacked = unpacked_from (given_by p h is.others (all_yielding p beside h)) places s m reads silent t told now (ended_as unwinding) after lists is.unpacked;
-    cause = failed_from (given_by p h is.others (all_yielding p beside h)) places s m reads silent t unwinding is.cause;
+    unpacked = unpacked_from (given_by p h late is.others (all_yielding p beside h)) places s m reads silent t told now (ended_as unwinding) after lists is.unpacked;
+    cause = failed_from (given_by p h late is.others (all_yielding p beside h)) places s m reads silent t unwinding is.cause;
+    table = goes_from (given_by p h late is.others (all_yielding p beside h)) places s m reads silent t unwinding is.table;
+    file = λ honest. subst (λ (w : World). (late ≡ h.ways) ⊎ IsTableIn w h.ways late) reads.world (is.file honest);
   }
 
   whole_from : (p : Package) (beside : Beside) (h : Held) (unwinding : Option Unwinding) (displaced : List (List ℕ)) (failed : Option Call) (after : Held) (t : State) (told now : List Called)
@@ -138,7 +141,7 @@ module _ (s m : State) (reads : Reads s m) (silent : Silent s m) where
     lists = is.lists;
     m = is.m;
     between = is.between;
-    unpacked = beside_from p beside h _ unwinding is.records is.lists is.m told is.between is.unpacked;
+    unpacked = beside_from p beside h _ _ unwinding is.records is.lists is.m told is.between is.unpacked;
     ready = is.ready;
     behind = is.behind;
   }
@@ -152,7 +155,7 @@ module _ (s m : State) (reads : Reads s m) (silent : Silent s m) where
     names = is.names;
     unpacked = whole_from p beside h is.unwinding is.displaced is.failed after t [] u.calls.items is.unpacked;
     order = is.order;
-    ways = is.ways;
+    aliases = is.aliases;
     changed = is.changed;
     answers = is.answers;
     deconfigured = is.deconfigured;
@@ -161,13 +164,14 @@ module _ (s m : State) (reads : Reads s m) (silent : Silent s m) where
   called_whole_from : (p : Package) (beside : Beside) (h : Held) (t : State) (told now : List Called) → HasCalledWhole p beside h m t told now → HasCalledWhole p beside h s t told now
   called_whole_from p beside h t told now (inl (HasCalledBeside.looking quiet same)) = inl (HasCalledBeside.looking (silent_then s m t silent quiet) same)
   called_whole_from p beside h t told now (inl (HasCalledBeside.calling others rows called)) =
-      inl (HasCalledBeside.calling others (subst (λ (w : World). HaveRows p beside h.records.records w t.honest others) reads.world rows) (called_from (given_by p h others (all_yielding p beside h)) [] s m reads silent t told now called))
+      inl (HasCalledBeside.calling others (subst (λ (w : World). HaveRows p beside h.records.records w t.honest others) reads.world rows) (called_from (given_by p h h.ways others (all_yielding p beside h)) [] s m reads silent t told now called))
   called_whole_from p beside h t told now (inr is) = inr (record {
+    late = is.late;
     records = is.records;
     lists = is.lists;
     m = is.m;
     between = is.between;
-    unpacked = beside_from p beside h _ _ is.records is.lists is.m told is.between is.unpacked;
+    unpacked = beside_from p beside h is.late _ _ is.records is.lists is.m told is.between is.unpacked;
     called = is.called;
   })
 

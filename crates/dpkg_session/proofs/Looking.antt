@@ -1,6 +1,6 @@
 -- What was only looked at before an unpack, to see which rows other packages have, is no part of what it does.
 use Rattle.std.specs.Prelude.{Result, Ok, Err, IfOk}
-use Rattle.std.proofs.Common.{◌≡◌, inl, inr, Bool, IsTrue, true, ℕ, List, [], ◌∷◌, ◌++◌, Option, refl, ap, subst, ◌∙◌}
+use Rattle.std.proofs.Common.{◌≡◌, ◌⊎◌, inl, inr, Bool, IsTrue, true, ℕ, List, [], ◌∷◌, ◌++◌, Option, refl, ap, subst, sym, ◌∙◌}
 use Rattle.undo_rows.specs.Transcripts.{Ended}
 use Rattle.file_lists.specs.declared.paths.PackageList.{PackageList}
 use Rattle.host_core.specs.Paths.{Path}
@@ -13,7 +13,7 @@ use Rattle.package_tree.specs.declared.package.Package.{Package}
 use Rattle.undo_rows.specs.Ended.{ended_as}
 use Rattle.undo_rows.specs.declared.unwinding.Unwinding.{Unwinding}
 use Rattle.status_db.specs.Recorded.{Recorded}
-use Rattle.unpack_engine.specs.Units.{Begins, Given, HasCalled, HasCarriedOut, HasFailedFor, HasUnpacked, IsAmidUnit, IsPlanFor, IsUnderWay, ground_of}
+use Rattle.unpack_engine.specs.Units.{as_begun, Begins, Given, GoesByTable, HasCalled, HasCarriedOut, HasFailedFor, HasUnpacked, IsAmidEither, IsAmidUnit, IsPlanFor, IsReadAgain, IsTableIn, IsUnderWay, ground_of}
 use Rattle.unpack_engine.proofs.Planning.{under_way_behind}
 use Rattle.unpack_engine.proofs.Sequel.{called_behind}
 use Rattle.unpack_plan.specs.Planned.{Planned}
@@ -21,8 +21,17 @@ use Rattle.unpack_relations.specs.declared.beside.Beside.{Beside}
 use Rattle.unpack_rows.specs.declared.rows.OtherPackage.{OtherPackage}
 use Rattle.undo_rows.specs.declared.rows.Called.{Called}
 use Rattle.unit_reports.specs.Held.{Held}
+use Rattle.diversions.specs.Ways.{Ways}
+use Rattle.host_core.proofs.Scripts.{calls_of-scripts}
+use Rattle.host_core.specs.Events.{calls_of as calls_in}
+use Rattle.host_core.specs.Host.{calls}
+use Rattle.dpkg_session.proofs.TableRead.{table_kept}
 use Rattle.dpkg_session.specs.Run.{IsAmidBeside}
 use Rattle.dpkg_session.specs.Units.{HasCalledBeside, HasUnpackedBeside, HaveRows, all_yielding, given_by}
+
+-- no call has ended
+pub silent_calls : (s t : State) → Silent s t → calls t ≡ calls s
+silent_calls s t silent = sym (calls_of-scripts t.events) ∙ ap calls_in silent.scripts ∙ calls_of-scripts s.events
 
 none_before : (es fs : List Event) → scripts_of es ≡ [] → scripts_of fs ≡ [] → scripts_of (es ++ fs) ≡ []
 none_before es fs first second = scripts_of-append es fs ∙ ap (λ (l : List Event). l ++ scripts_of fs) first ∙ second
@@ -39,6 +48,9 @@ module _ (g : Given) (places : List Path) (s m : State) (reads : Reads s m) (sil
   plan_from : (honest : Bool) (plan : Planned) → IsPlanFor g m.world honest plan → IsPlanFor g s.world honest plan
   plan_from honest plan is = subst (λ w. IsPlanFor g w honest plan) reads.world is
 
+  plan_begun : (honest : Bool) (plan : Planned) → IsPlanFor (as_begun g) m.world honest plan → IsPlanFor (as_begun g) s.world honest plan
+  plan_begun honest plan is = subst (λ w. IsPlanFor (as_begun g) w honest plan) reads.world is
+
   amid_from : (early so_far : List Event) (now : World) → scripts_of early ≡ [] → IsAmidUnit g places m.world so_far now → IsAmidUnit g places s.world (early ++ so_far) now
   amid_from early so_far now none (inl here) = inl (here.0 ∙ reads.world, none_before early so_far none here.1)
   amid_from early so_far now none (inr amid) = inr (record {
@@ -46,6 +58,27 @@ module _ (g : Given) (places : List Path) (s m : State) (reads : Reads s m) (sil
     plan_for = plan_from true amid.plan amid.plan_for;
     under_way = under_way_behind (ground_of g places) amid.plan s.world early none so_far now (subst (λ w. IsUnderWay (ground_of g places) amid.plan w so_far now) reads.world amid.under_way);
   })
+
+  again_from : (plan : Planned) (late : Ways) (t : State) → IsReadAgain plan g.begun late m t → IsReadAgain plan g.begun late s t
+  again_from plan late t is = record {
+    before = is.before;
+    files = is.files;
+    parted = is.parted;
+    m = is.m;
+    since = since_then (λ so_far w. Unit {0}) s m is.m (since_reads (λ so_far w. Unit {0}) s m reads (λ es all. tt)) is.since;
+    until = is.until;
+    ran = is.ran;
+    calls_are = is.calls_are ∙ ap (λ l. l ++ is.ran) (silent_calls s m silent);
+    all = is.all;
+    table = is.table;
+    aliases = is.aliases;
+  }
+
+  pub goes_from : (t : State) (u : Option Unwinding) → GoesByTable g u m t → GoesByTable g u s t
+  goes_from t u goes = record {
+    either = elim goes.either [ inl same ↦ inl same | inr (plan, is, again) ↦ inr (plan, plan_begun t.honest plan is, again_from plan g.ways t again) ];
+    again = λ none has. (let (plan, is, again) = goes.again none has in (plan, plan_begun t.honest plan is, again_from plan g.ways t again));
+  }
 
   pub failed_from : (t : State) (u : Option Unwinding) → HasFailedFor g m t u → HasFailedFor g s t u
   failed_from t u failed = record { plan = failed.plan; plan_for = plan_from t.honest failed.plan failed.plan_for; cause = failed.cause }
@@ -98,32 +131,38 @@ module _ (p : Package) (beside : Beside) (h : Held) (places : List Path) (s m : 
     none_added : scripts_of looking.added ≡ []
     none_added = silent_added s m looking.added silent looking.events
 
-    pub under_way : Since (IsAmidUnit (given_by p h others yields) places m.world) m t → Since (IsAmidBeside p beside h places s.world) s t
-    under_way since = since_then (IsAmidBeside p beside h places s.world) s m t looking
-        (since_weaker_if (IsAmidUnit (given_by p h others yields) places m.world) (λ so_far. IsAmidBeside p beside h places s.world (looking.added ++ so_far)) m t
-        (λ honest so_far now amid. inr (
-          others,
-          rows_true honest,
-          subst (λ ys. IsAmidUnit (given_by p h others ys) places s.world (looking.added ++ so_far) now) are
-              (amid_from (given_by p h others yields) places s m reads silent looking.added so_far now none_added amid),
-        )) since)
+    by_table : (late : Ways) → IsTrue t.honest → (so_far : List Event) (now : World) → IsAmidUnit (given_by p h late others yields) places m.world so_far now → IsAmidBeside p beside h places s.world (looking.added ++ so_far) now
+    by_table late honest so_far now amid = inr (
+      others,
+      late,
+      rows_true honest,
+      subst (λ ys. IsAmidUnit (given_by p h late others ys) places s.world (looking.added ++ so_far) now) are
+          (amid_from (given_by p h late others yields) places s m reads silent looking.added so_far now none_added amid),
+    )
+
+    pub under_way : (late : Ways) → Since (IsAmidEither (given_by p h h.ways others yields) (given_by p h late others yields) places m.world) m t → Since (IsAmidBeside p beside h places s.world) s t
+    under_way late since = since_then (IsAmidBeside p beside h places s.world) s m t looking
+        (since_weaker_if (IsAmidEither (given_by p h h.ways others yields) (given_by p h late others yields) places m.world) (λ so_far. IsAmidBeside p beside h places s.world (looking.added ++ so_far)) m t
+        (λ honest so_far now either. elim either [ inl amid ↦ by_table h.ways honest so_far now amid | inr amid ↦ by_table late honest so_far now amid ]) since)
 
     module _ (told now : List Called) where
-      pub called_beside : HasCalled (given_by p h others yields) m t told now → HasCalledBeside p beside h s t told now
+      pub called_beside : HasCalled (given_by p h h.ways others yields) m t told now → HasCalledBeside p beside h s t told now
       called_beside called = HasCalledBeside.calling others rows_then
-          (subst (λ ys. HasCalled (given_by p h others ys) s t told now) are (called_from (given_by p h others yields) places s m reads silent t told now called))
+          (subst (λ ys. HasCalled (given_by p h h.ways others ys) s t told now) are (called_from (given_by p h h.ways others yields) places s m reads silent t told now called))
 
-      pub unpacked_beside : (u : Option Unwinding) (after : Recorded) (lists : List PackageList) → HasUnpacked (given_by p h others yields) places (ended_as u) after lists m t told now
-          → HasFailedFor (given_by p h others yields) m t u → HasUnpackedBeside p beside h places u after lists s t told now
-      unpacked_beside u after lists is failed = record {
+      pub unpacked_beside : (late : Ways) → Since (IsAmidEither (given_by p h h.ways others yields) (given_by p h late others yields) places m.world) m t → (u : Option Unwinding) (after : Recorded) (lists : List PackageList) → HasUnpacked (given_by p h late others yields) places (ended_as u) after lists m t told now
+          → HasFailedFor (given_by p h late others yields) m t u → GoesByTable (given_by p h late others yields) u m t → HasUnpackedBeside p beside h late places u after lists s t told now
+      unpacked_beside late since u after lists is failed goes = record {
         others = others;
         have_rows = rows_then;
-        unpacked = subst (λ ys. HasUnpacked (given_by p h others ys) places (ended_as u) after lists s t told now) are
-            (unpacked_from (given_by p h others yields) places s m reads silent t told now (ended_as u) after lists is);
-        cause = subst (λ ys. HasFailedFor (given_by p h others ys) s t u) are (failed_from (given_by p h others yields) places s m reads silent t u failed);
+        unpacked = subst (λ ys. HasUnpacked (given_by p h late others ys) places (ended_as u) after lists s t told now) are
+            (unpacked_from (given_by p h late others yields) places s m reads silent t told now (ended_as u) after lists is);
+        cause = subst (λ ys. HasFailedFor (given_by p h late others ys) s t u) are (failed_from (given_by p h late others yields) places s m reads silent t u failed);
+        table = subst (λ ys. GoesByTable (given_by p h late others ys) u s t) are (goes_from (given_by p h late others yields) places s m reads silent t u goes);
+        file = λ honest. subst (λ w. (late ≡ h.ways) ⊎ IsTableIn w h.ways late) reads.world (table_kept (given_by p h h.ways others yields) (given_by p h late others yields) places u m t goes since honest);
       }
 
--- of an answer two things hold
-pub if_ok_both : {T E : Type 0} (result : Result T E) (P Q R : T → Type 0) → ((x : T) → P x → Q x → R x) → IfOk result P → IfOk result Q → IfOk result R
-if_ok_both (Ok x) P Q R so p q = so x p q
-if_ok_both (Err e) P Q R so p q = tt
+-- of an answer three things hold
+pub if_ok_all : {T E : Type 0} (result : Result T E) (P Q R S : T → Type 0) → ((x : T) → P x → Q x → R x → S x) → IfOk result P → IfOk result Q → IfOk result R → IfOk result S
+if_ok_all (Ok x) P Q R S so p q r = so x p q r
+if_ok_all (Err e) P Q R S so p q r = tt

@@ -6,8 +6,8 @@ use Rattle.administration.specs.declared.fault.AdministrationFault.TheVariants a
 use Rattle.diversions.specs.Lines.{IsDiversionsDamage}
 use Rattle.host_core.specs.Host.{State}
 use Rattle.host_core.specs.World.{World}
-use Rattle.unit_reports.specs.Units.{CountsReply, IsBrokenBy}
-use Rattle.unit_reports.specs.declared.report.Breakage.TheVariants.{Device, NoMemory, Declined, Damaged, Closed}
+use Rattle.unit_reports.specs.Units.{CountsReply, IsBrokenBy, IsFromBefore}
+use Rattle.unit_reports.specs.declared.report.Breakage.TheVariants.{Device, NoMemory, Declined, Damaged}
 use Rattle.unit_reports.specs.declared.report.Reply.{Reply}
 use Rattle.unit_reports.specs.declared.report.Reply.TheVariants.{Broken}
 use Rattle.dpkg_session.specs.Rereading.{IsTableDamaged, reading_breakage}
@@ -27,8 +27,8 @@ counts_fault fault.Declined s t counts = counts
 pub counts_reading : (fault : AdministrationFault) (reply : Reply) (s t : State) → IsBrokenBy (reading_breakage fault) reply → CountsAdministration {T = Unit {0}} s t (Err fault) → CountsReply s t reply
 counts_reading fault reply s t is counts = subst (CountsReply s t) (sym is) (counts_fault fault s t counts)
 
-pub reading_not_closed : (fault : AdministrationFault) (reply : Reply) → IsBrokenBy (reading_breakage fault) reply → IsBrokenBy Closed reply → ⊥
-reading_not_closed (fault.Damaged file line) reply is closed = let e : Broken Damaged ≡ Broken Closed = sym is ∙ closed in cc
-reading_not_closed fault.Device reply is closed = let e : Broken Device ≡ Broken Closed = sym is ∙ closed in cc
-reading_not_closed fault.NoMemory reply is closed = let e : Broken NoMemory ≡ Broken Closed = sym is ∙ closed in cc
-reading_not_closed fault.Declined reply is closed = let e : Broken Declined ≡ Broken Closed = sym is ∙ closed in cc
+pub reading_within : (fault : AdministrationFault) (reply : Reply) → IsBrokenBy (reading_breakage fault) reply → IsFromBefore reply → ⊥
+reading_within (fault.Damaged file line) reply is before = subst IsFromBefore is before
+reading_within fault.Device reply is before = subst IsFromBefore is before
+reading_within fault.NoMemory reply is before = subst IsFromBefore is before
+reading_within fault.Declined reply is before = subst IsFromBefore is before

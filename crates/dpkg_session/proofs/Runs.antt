@@ -17,7 +17,10 @@ use Rattle.undo_rows.specs.declared.rows.Called.{Called}
 use Rattle.unit_reports.specs.declared.refusal.Rule.{Rule}
 use Rattle.unit_reports.specs.declared.refusal.Rule.TheVariants.{Tree}
 use Rattle.unit_reports.specs.declared.report.Breakage.{Breakage}
-use Rattle.unit_reports.specs.declared.report.Breakage.TheVariants.{NoMemory, Damaged, Closed}
+use Rattle.unit_reports.specs.declared.report.Breakage.TheVariants.{NoMemory, Damaged, Abandoned}
+use Rattle.unit_runs.specs.Barring.{breakage_by}
+use Rattle.unit_runs.specs.declared.barring.Bar.{Bar}
+use Rattle.unit_runs.specs.declared.barring.Bar.TheVariants as bar
 use Rattle.unpack_relations.specs.declared.options.UnpackOptions.{UnpackOptions}
 use Rattle.dpkg_session.specs.declared.report.Candidate.{Candidate}
 use Rattle.unit_reports.specs.declared.report.Reply.{Reply}
@@ -25,8 +28,8 @@ use Rattle.unit_reports.specs.declared.report.Reply.TheVariants.{Refused, Broken
 use Rattle.unit_reports.specs.declared.report.Unit.{Unit as AUnit}
 use Rattle.unit_reports.specs.Held.{Held}
 use Rattle.dpkg_session.specs.Run.{HasRun, IsAmidNext, IsBrokenNext, IsRun, RunsUnit}
-use Rattle.unit_reports.proofs.Counting.{no_fault_here}
-use Rattle.unit_reports.specs.Units.{CountsCause, CountsReply, IsRefused, IsRefusedUnit, IsBroken, IsBrokenBy, touched_at}
+use Rattle.unit_reports.proofs.Counting.{no_fault_here, no_memory_not_abandoned, no_memory_within}
+use Rattle.unit_reports.specs.Units.{CountsCause, CountsReply, IsRefused, IsRefusedUnit, IsBroken, IsBrokenBy, IsFromBefore, touched_at}
 use Rattle.unit_reports.specs.declared.report.Touched.{Touched}
 use Rattle.dpkg_session.specs.Rereading.{with_ways}
 use Rattle.dpkg_session.proofs.Overridden.{unit_alike}
@@ -137,10 +140,10 @@ broken_or breakage reply so (inr holds) = inr (so holds)
 
 -- the unit of a package that was unpacked, as it tells it
 pub is_unpacked : (p : Package) (beside : Beside) (before after : Held) (u : AUnit) (b : Behind) (unwinding : Option Unwinding) (touched displaced : List (List ℕ)) (failed : Option Call) (s t : State) (told now : List Called) → b.«package» ≡ p.name → KnowsRecords beside before.records.records b → told ≡ [] → u.calls.items ≡ now
-    → HasUnpackedWhole p beside before unwinding displaced failed after s t told now → Ready after t → after.ways ≡ before.ways
+    → HasUnpackedWhole p beside before unwinding displaced failed after s t told now → Ready after t → after.ways.aliases ≡ before.ways.aliases
     → ((names unchanged : List (List ℕ)) → AreOfBoth touched displaced names → AreUnchanged before.records.records after.records.records (yielding beside) unchanged → IsTouchedBeside p.name before.records.records after.records.records (told_among p.name unchanged names))
     → IsBrokenBy NoMemory u.reply ⊎ AnswersBoth b.«package» after.records.records b.copies.items b.half unwinding failed touched displaced u → IsBroken u.reply ⊎ IsUnpacked p beside before after u s t
-is_unpacked p beside before after u b unwinding touched displaced failed s t told now named knows none same unpacked order entries changed either =
+is_unpacked p beside before after u b unwinding touched displaced failed s t told now named knows none same unpacked order aliases changed either =
     broken_or NoMemory u.reply (λ answers.
     let records = after.records.records in
     let tells = answers.told in
@@ -154,7 +157,7 @@ is_unpacked p beside before after u b unwinding touched displaced failed s t tol
       unpacked = subst (λ l. HasUnpackedWhole p beside before unwinding displaced failed after s t [] l) (sym same)
           (subst (λ l. HasUnpackedWhole p beside before unwinding displaced failed after s t l now) none unpacked);
       order = order;
-      ways = entries;
+      aliases = aliases;
       changed = touches;
       answers = record {
         replied = answers.replied ∙ ap (λ n. reply_to n unwinding failed) named;
@@ -164,22 +167,32 @@ is_unpacked p beside before after u b unwinding touched displaced failed s t tol
           (deconfigured_beside p.name before.records.records records names b.half touches knows.order knows.half);
     }) either
 
--- a unit that wasn't broken off isn't one that is closed
-pub by_no_memory : {Q : Type 0} (reply : Reply) → (Q → IsBrokenBy Closed reply → ⊥) → IsBrokenBy NoMemory reply ⊎ Q → IsBrokenBy Closed reply → ⊥
-by_no_memory reply so (inl broken) closed = (let e : Broken NoMemory ≡ Broken Closed = sym broken ∙ closed in cc)
-by_no_memory reply so (inr holds) closed = so holds closed
+-- a unit that wasn't broken off isn't one that was for what was there before it
 
-reply_not_closed : (name : List ℕ) (unwinding : Option Unwinding) (failed : Option Call) → IsBrokenBy Closed (reply_to name unwinding failed) → ⊥
-reply_not_closed name None None closed = cc
-reply_not_closed name None (Some call) closed = cc
-reply_not_closed name (Some u) failed closed = cc
+reply_within : (name : List ℕ) (unwinding : Option Unwinding) (failed : Option Call) → IsFromBefore (reply_to name unwinding failed) → ⊥
+reply_within name None None before = before
+reply_within name None (Some call) before = before
+reply_within name (Some u) failed before = before
 
-pub answer_not_closed : (name : List ℕ) (records : List Record) (copies : List Touched) (half : List (List ℕ)) (unwinding : Option Unwinding) (failed : Option Call) (touched displaced : List (List ℕ)) (u : AUnit) → IsBrokenBy NoMemory u.reply ⊎ AnswersBoth name records copies half unwinding failed touched displaced u → IsBrokenBy Closed u.reply → ⊥
-answer_not_closed name records copies half unwinding failed touched displaced u either = by_no_memory u.reply (λ answers closed. reply_not_closed name unwinding failed (sym answers.replied ∙ closed)) either
+pub answer_within : (name : List ℕ) (records : List Record) (copies : List Touched) (half : List (List ℕ)) (unwinding : Option Unwinding) (failed : Option Call) (touched displaced : List (List ℕ)) (u : AUnit) → IsBrokenBy NoMemory u.reply ⊎ AnswersBoth name records copies half unwinding failed touched displaced u → IsFromBefore u.reply → ⊥
+answer_within name records copies half unwinding failed touched displaced u (inl broken) before = no_memory_within u.reply broken before
+answer_within name records copies half unwinding failed touched displaced u (inr answers) before = reply_within name unwinding failed (subst IsFromBefore answers.replied before)
+
+pub refused_within : (rule : Rule) (name : List ℕ) (u : AUnit) → IsRefusedUnit rule name u → IsFromBefore u.reply → ⊥
+refused_within rule name u refused before = subst IsFromBefore refused.reply before
 
 -- nor one of a table that can't be read
 pub no_memory_undamaged : (reply : Reply) → IsBrokenBy NoMemory reply → IsBrokenBy Damaged reply → ⊥
 no_memory_undamaged reply broken damaged = let e : Broken NoMemory ≡ Broken Damaged = sym broken ∙ damaged in cc
+
+pub barred_undamaged : (b : Bar) (reply : Reply) → IsBrokenBy (breakage_by b) reply → IsBrokenBy Damaged reply → ⊥
+barred_undamaged bar.NoRoom reply broken damaged = no_memory_undamaged reply broken damaged
+barred_undamaged bar.Abandoned reply broken damaged = let e : Broken Abandoned ≡ Broken Damaged = sym broken ∙ damaged in cc
+
+-- a barred unit is abandoned only where that was in its way
+pub barred_for : (b : Bar) (reply : Reply) → IsBrokenBy (breakage_by b) reply → IsBrokenBy Abandoned reply → b ≡ bar.Abandoned
+barred_for bar.NoRoom reply broken told = absurd (no_memory_not_abandoned reply broken told)
+barred_for bar.Abandoned reply broken told = refl
 
 reply_not_damaged : (name : List ℕ) (unwinding : Option Unwinding) (failed : Option Call) → IsBrokenBy Damaged (reply_to name unwinding failed) → ⊥
 reply_not_damaged name None None damaged = cc

@@ -5,10 +5,8 @@ use Rattle.std.proofs.lemmas.List.{append-nil}
 use Rattle.undo_rows.proofs.Tellings.{begun_calls, made_calls}
 use Rattle.displaced_packages.proofs.Calling.{displacing_tells}
 use Rattle.file_lists.specs.declared.paths.PackageList.{PackageList}
-use Rattle.host_core.specs.Events.{calls_of as calls_in}
-use Rattle.host_core.specs.Host.{State, Silent, calls}
+use Rattle.host_core.specs.Host.{State, Silent}
 use Rattle.host_core.specs.Paths.{Path}
-use Rattle.host_core.proofs.Scripts.{calls_of-scripts}
 use Rattle.package_tree.specs.declared.package.Package.{Package}
 use Rattle.package_tree.specs.declared.fault.TreeFault.{TreeFault}
 use Rattle.undo_rows.specs.declared.unwinding.Unwinding.{Unwinding}
@@ -28,6 +26,8 @@ use Rattle.unit_reports.specs.declared.report.Unit.{Unit as AUnit}
 use Rattle.unit_reports.specs.Units.{HasNoCalls, TellsCalls, calls_of, last_calls}
 use Rattle.unit_reports.specs.declared.report.Report.{Report}
 use Rattle.unpack_relations.specs.declared.options.UnpackOptions.{UnpackOptions}
+use Rattle.diversions.specs.Ways.{Ways}
+use Rattle.dpkg_session.proofs.Looking.{silent_calls}
 use Rattle.dpkg_session.specs.Refusals.{IsDecisionFor}
 use Rattle.dpkg_session.specs.Rereading.{with_ways}
 use Rattle.dpkg_session.specs.Overriding.{taken_with}
@@ -36,10 +36,6 @@ use Rattle.dpkg_session.specs.Units.{HasCalledBeside, HasCalledBy, HasCalledDeci
 -- nothing was done
 pub silent_here : (s : State) → Silent s s
 silent_here s = record { honest = λ h. h; scripts = refl }
-
--- no call has ended
-silent_calls : (s t : State) → Silent s t → calls t ≡ calls s
-silent_calls s t silent = sym (calls_of-scripts t.events) ∙ ap calls_in silent.scripts ∙ calls_of-scripts s.events
 
 calls_more : (us : List AUnit) (u : AUnit) → calls_of (us ++ u ∷ []) ≡ calls_of us ++ u.calls.items
 calls_more [] u = append-nil u.calls.items
@@ -87,11 +83,11 @@ has_called_tells g s t told now (HasCalled.planned plan is rows) = rows_tell pla
 
 beside_tells : (p : Package) (beside : Beside) (before : Held) (s t : State) (told now : List Called) → HasCalledBeside p beside before s t told now → TellsAll s t told now
 beside_tells p beside before s t told now (HasCalledBeside.looking silent same) = tells_none s t told now (silent_calls s t silent) same
-beside_tells p beside before s t told now (HasCalledBeside.calling others rows called) = has_called_tells (given_by p before others (all_yielding p beside before)) s t told now called
+beside_tells p beside before s t told now (HasCalledBeside.calling others rows called) = has_called_tells (given_by p before before.ways others (all_yielding p beside before)) s t told now called
 
 -- all calls of an unpack that was carried out
-unpacked_tells : (p : Package) (beside : Beside) (before : Held) (places : List Path) (unwinding : Option Unwinding) (after : Recorded) (lists : List PackageList) (s t : State) (told now : List Called) → HasUnpackedBeside p beside before places unwinding after lists s t told now → TellsAll s t told now
-unpacked_tells p beside before places unwinding after lists s t told now is =
+unpacked_tells : (p : Package) (beside : Beside) (before : Held) (late : Ways) (places : List Path) (unwinding : Option Unwinding) (after : Recorded) (lists : List PackageList) (s t : State) (told now : List Called) → HasUnpackedBeside p beside before late places unwinding after lists s t told now → TellsAll s t told now
+unpacked_tells p beside before late places unwinding after lists s t told now is =
     let out = is.unpacked.carried_out in
     let made = made_calls _ out.ran.begun out.last told now out.ran.run in
     tells_then s out.last t told now now
@@ -101,8 +97,8 @@ unpacked_tells p beside before places unwinding after lists s t told now is =
 whole_tells : (p : Package) (beside : Beside) (before : Held) (s t : State) (told now : List Called) → HasCalledWhole p beside before s t told now → TellsAll s t told now
 whole_tells p beside before s t told now (inl called) = beside_tells p beside before s t told now called
 whole_tells p beside before s t told now (inr is) =
-    tells_then s is.m t told is.between now (unpacked_tells p beside before (places_of before) None is.records is.lists s is.m told is.between is.unpacked)
-    (displacing_tells p.name p.version before.ways _ beside.conflicting _ is.m t is.between now is.called)
+    tells_then s is.m t told is.between now (unpacked_tells p beside before is.late (places_of before) None is.records is.lists s is.m told is.between is.unpacked)
+    (displacing_tells p.name p.version is.late _ beside.conflicting _ is.m t is.between now is.called)
 
 called_by_tells : (p : Package) (decision : Checked) (before : Held) (u : AUnit) (s t : State) → HasCalledBy p decision before u s t → TellsAll s t [] u.calls.items
 called_by_tells p (Refused rule) before u s t none = no_calls_tell u s t none

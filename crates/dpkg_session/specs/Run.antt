@@ -40,24 +40,25 @@ IsStill old so_far now = (now ≡ old) × (scripts_of so_far ≡ [])
 -- at each moment of the unpack of a package: nothing is done yet, or it is under way with the rows of other packages
 abbrev pub IsAmidBeside : Package → Beside → Held → List Path → World → List Event → World → Type 0
 IsAmidBeside p beside before places old so_far now = IsStill old so_far now
-    ⊎ ((others : List OtherPackage) × HaveRows p beside before.records.records old true others
-    × IsAmidUnit (given_by p before others (all_yielding p beside before)) places old so_far now)
+    ⊎ ((others : List OtherPackage) × (late : Ways) × HaveRows p beside before.records.records old true others
+    × IsAmidUnit (given_by p before late others (all_yielding p beside before)) places old so_far now)
 
 -- The unpack is committed, and packages are displaced behind it.
 pub record IsAmidBehind (p : Package) (beside : Beside) (before : Held) (old : World) (so_far : List Event) (now : World) : Type 0 where
   pub s : State
   pub from : s.world ≡ old
+  pub late : Ways
   pub records : Recorded
   pub lists : List PackageList
   pub m : State
   pub honest : IsTrue m.honest
   pub between : List Called
-  pub unpacked : HasUnpackedBeside p beside before (places_of before) None records lists s m [] between
+  pub unpacked : HasUnpackedBeside p beside before late (places_of before) None records lists s m [] between
   pub front : List Event
   pub rest : List Event
   pub split : so_far ≡ front ++ rest
   pub events : m.events ≡ s.events ++ front
-  pub displacing : IsAmidDisplacing p.name p.version before.ways (losing_beside before.lists beside) beside.conflicting (holding_of (held_with before records lists)) m rest now
+  pub displacing : IsAmidDisplacing p.name p.version late (losing_beside before.lists beside) beside.conflicting (holding_of (held_with late records lists)) m rest now
 
 -- at each moment of the unpack of a package, and of what is displaced behind it
 abbrev pub IsAmidUnpack : Package → Beside → Held → World → List Event → World → Type 0

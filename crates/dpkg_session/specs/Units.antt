@@ -24,7 +24,7 @@ use Rattle.status_db.specs.Order.{AreInOrder}
 use Rattle.status_records.specs.declared.record.Record.{Record}
 use Rattle.held_administration.specs.Order.{IsInOrder}
 use Rattle.unpack_engine.specs.Others.{AreOthers}
-use Rattle.unpack_engine.specs.Units.{Given, HasCalled, HasFailedFor, HasUnpacked, given_beside}
+use Rattle.unpack_engine.specs.Units.{Given, GoesByTable, HasCalled, HasFailedFor, HasUnpacked, IsTableIn, given_beside}
 use Rattle.unpack_relations.specs.declared.beside.Beside.{Beside}
 use Rattle.unpack_relations.specs.declared.checking.Checked.{Checked}
 use Rattle.unpack_relations.specs.declared.checking.Checked.TheVariants as checked
@@ -47,9 +47,10 @@ use Rattle.dpkg_session.specs.Touched.{AreDeconfigured, AreTold, IsTouchedBeside
 use Rattle.dpkg_session.specs.declared.displacing.Behind.{Behind}
 use Rattle.dpkg_session.specs.declared.report.Candidate.{Candidate}
 
--- a package to be unpacked, what is held, the other packages that have rows, and those that let it take paths of theirs
-abbrev pub given_by : Package → Held → List OtherPackage → List (List ℕ) → Given
-given_by p h others yields = given_beside p h.records.records h.lists h.ways others yields
+-- a package to be unpacked, what is held, the diversions by which its files go, the other packages that have rows, and those that
+-- let it take paths of theirs
+abbrev pub given_by : Package → Held → Ways → List OtherPackage → List (List ℕ) → Given
+given_by p h late others yields = given_beside p h.records.records h.lists h.ways late others yields
 
 -- the conflicting and the replaced packages let it take paths of theirs (Policy 7.4, 7.6)
 abbrev pub yielding : Beside → List (List ℕ)
@@ -82,12 +83,16 @@ pub record AnswersBoth (name : List ℕ) (records : List Record) (copies : List 
   pub replied : u.reply ≡ reply_to name unwinding failed
   pub told : AreTold name records copies half first second u.touched.items u.deconfigured
 
--- The package was unpacked with the rows of other packages, or all rows were unwound.
-pub record HasUnpackedBeside (p : Package) (beside : Beside) (h : Held) (places : List Path) (unwinding : Option Unwinding) (after : Recorded) (lists : List PackageList) (s t : State) (told now : List Called) : Type 0 where
+-- The package was unpacked with the rows of other packages, or all rows were unwound; its files went by these diversions, which are those
+-- held, or those that its scripts left before its files.
+pub record HasUnpackedBeside (p : Package) (beside : Beside) (h : Held) (late : Ways) (places : List Path) (unwinding : Option Unwinding) (after : Recorded) (lists : List PackageList) (s t : State) (told now : List Called) : Type 0 where
   pub others : List OtherPackage
   pub have_rows : HaveRows p beside h.records.records s.world t.honest others
-  pub unpacked : HasUnpacked (given_by p h others (all_yielding p beside h)) places (ended_as unwinding) after lists s t told now
-  pub cause : HasFailedFor (given_by p h others (all_yielding p beside h)) s t unwinding
+  pub unpacked : HasUnpacked (given_by p h late others (all_yielding p beside h)) places (ended_as unwinding) after lists s t told now
+  pub cause : HasFailedFor (given_by p h late others (all_yielding p beside h)) s t unwinding
+  pub table : GoesByTable (given_by p h late others (all_yielding p beside h)) unwinding s t
+  -- where the host was honest they are those of the world in which it began, since scripts leave the table's file alone
+  pub file : IsTrue t.honest → (late ≡ h.ways) ⊎ IsTableIn s.world h.ways late
 
 -- nothing was displaced
 pub record HasDisplacedNone (displaced : List (List ℕ)) (failed : Option Call) (mid after : Held) (m t : State) (told now : List Called) : Type 0 where
@@ -125,9 +130,9 @@ pub record KnowsRecords (beside : Beside) (records : List Record) (b : Behind) :
   pub copies : b.copies.items ≡ map (touched_at records) (yielding beside)
   pub half : b.half ≡ half_configured records
 
--- with the records and lists that the unpack left
-abbrev pub held_with : Held → Recorded → List PackageList → Held
-held_with h records lists = record { records = records; lists = lists; ways = h.ways }
+-- the records and lists that the unpack left, with the diversions by which its files went
+abbrev pub held_with : Ways → Recorded → List PackageList → Held
+held_with late records lists = record { records = records; lists = lists; ways = late }
 
 -- The package was unpacked, or all rows were unwound; and then what it displaces was displaced.
 pub record HasUnpackedWhole (p : Package) (beside : Beside) (before : Held) (unwinding : Option Unwinding) (displaced : List (List ℕ)) (failed : Option Call) (after : Held) (s t : State) (told now : List Called) : Type 0 where
@@ -135,9 +140,9 @@ pub record HasUnpackedWhole (p : Package) (beside : Beside) (before : Held) (unw
   pub lists : List PackageList
   pub m : State
   pub between : List Called
-  pub unpacked : HasUnpackedBeside p beside before (places_of before) unwinding records lists s m told between
+  pub unpacked : HasUnpackedBeside p beside before after.ways (places_of before) unwinding records lists s m told between
   pub ready : Needs m (IsInOrder records lists)
-  pub behind : HasDisplaced unwinding (displacing_by p beside before.lists) displaced failed (held_with before records lists) after m t between now
+  pub behind : HasDisplaced unwinding (displacing_by p beside before.lists) displaced failed (held_with after.ways records lists) after m t between now
 
 -- The unit was carried out, and the administration is in order: told are its packages, which of them it deconfigured, and for what
 -- the rows were unwound, or which call behind the commit failed.
@@ -148,7 +153,7 @@ pub record IsUnpacked (p : Package) (beside : Beside) (before after : Held) (u :
   pub names : List (List ℕ)
   pub unpacked : HasUnpackedWhole p beside before unwinding displaced failed after s t [] u.calls.items
   pub order : Needs t (IsInOrder after.records after.lists)
-  pub ways : after.ways ≡ before.ways
+  pub aliases : after.ways.aliases ≡ before.ways.aliases
   pub changed : IsTouchedBeside p.name before.records.records after.records.records names
   pub answers : AnswersUnpack p.name after.records.records unwinding failed names u
   pub deconfigured : AreDeconfigured p.name before.records.records after.records.records u.deconfigured
@@ -189,16 +194,17 @@ IsUnit allowed c before after u s t = IsUnitOf allowed c.label c.tree before aft
 pub data HasCalledBeside (p : Package) (beside : Beside) (h : Held) (s t : State) (told now : List Called) : Type 0 where
   looking : Silent s t → now ≡ told → HasCalledBeside p beside h s t told now
   calling : (others : List OtherPackage) → HaveRows p beside h.records.records s.world t.honest others
-      → HasCalled (given_by p h others (all_yielding p beside h)) s t told now → HasCalledBeside p beside h s t told now
+      → HasCalled (given_by p h h.ways others (all_yielding p beside h)) s t told now → HasCalledBeside p beside h s t told now
 
 -- all calls of an unpack that is committed, and then the first of those for what it displaces
 pub record HasCalledBehind (p : Package) (beside : Beside) (h : Held) (s t : State) (told now : List Called) : Type 0 where
+  pub late : Ways
   pub records : Recorded
   pub lists : List PackageList
   pub m : State
   pub between : List Called
-  pub unpacked : HasUnpackedBeside p beside h (places_of h) None records lists s m told between
-  pub called : HasCalledDisplacing p.name p.version h.ways (losing_beside h.lists beside) beside.conflicting (holding_of (held_with h records lists)) m t between now
+  pub unpacked : HasUnpackedBeside p beside h late (places_of h) None records lists s m told between
+  pub called : HasCalledDisplacing p.name p.version late (losing_beside h.lists beside) beside.conflicting (holding_of (held_with late records lists)) m t between now
 
 -- the first calls of an unpack, or all of them and the first behind it
 abbrev pub HasCalledWhole : Package → Beside → Held → State → State → List Called → List Called → Type 0

@@ -1,5 +1,5 @@
 // A session changes records.
-ghost use Rattle.std.specs.Prelude.{◌≡◌, true, false, IsNone, IfSome, is_some};
+ghost use Rattle.std.specs.Prelude.{◌≡◌, true, false, IsNone, IfSome, IsTrue, is_some};
 ghost use Rattle.host_core.specs.Host.{Silent, Since};
 ghost use Rattle.host_core.specs.Loss.{IsAnswered};
 ghost use Rattle.dpkg_session.specs.PowerLoss.{LosesLikeAStop, StandsOnceAnswered};
@@ -7,7 +7,7 @@ ghost use Rattle.record_changes.specs.Run.{HasRun, IsAmidRun, IsChangeRun};
 ghost use Rattle.unit_reports.specs.Held.{held_by};
 ghost use Rattle.unit_reports.specs.Units.{CountsLast, IsBrokenBy, IsClosedReport, TellsCalls};
 ghost use Rattle.unit_reports.specs.Watching.{IsTold};
-ghost use Rattle.unit_reports.specs.declared.report.Breakage.TheVariants.{Closed};
+ghost use Rattle.unit_reports.specs.declared.report.Breakage.TheVariants.{Abandoned, Closed};
 
 use crate::session::{Session, closed_report};
 use host_core::Host;
@@ -51,6 +51,9 @@ impl<H: Host> Session<H> {
             (H.state self.new.host) result.last }
         ensures not_closed { self.old.closed ≡ false
             → IfSome result.last (λ unit. IsBrokenBy Closed unit.reply → ⊥) }
+        ensures abandoned { self.old.closed ≡ false
+            → IfSome result.last (λ unit. IsBrokenBy Abandoned unit.reply
+            → IsTrue (W.ends watcher.new)) }
         ensures watched { IsTold W.tells (H.state self.old.host) watcher.old result.units.items
             watcher.new }
     {

@@ -1,5 +1,5 @@
 // A session configures packages.
-ghost use Rattle.std.specs.Prelude.{◌≡◌, ◌⊎◌, true, false, IfOk, IfSome, IsNone, is_some, option_map};
+ghost use Rattle.std.specs.Prelude.{◌≡◌, ◌⊎◌, true, false, IfOk, IfSome, IsNone, IsTrue, is_some, option_map};
 ghost use Rattle.configure_run.specs.Run.{HasRun, IsAmidRun, IsConfigureRun};
 ghost use Rattle.held_administration.specs.Open.{IsOpen};
 ghost use Rattle.host_core.specs.Host.{Falls, Needs, Since};
@@ -9,7 +9,7 @@ ghost use Rattle.held_administration.specs.Order.{IsInOrder};
 ghost use Rattle.unit_reports.specs.Held.{held_by};
 ghost use Rattle.unit_reports.specs.Units.{CountsLast, IsBrokenBy, IsClosedReport, TellsCalls};
 ghost use Rattle.unit_reports.specs.Watching.{IsTold};
-ghost use Rattle.unit_reports.specs.declared.report.Breakage.TheVariants.{Closed};
+ghost use Rattle.unit_reports.specs.declared.report.Breakage.TheVariants.{Abandoned, Closed};
 ghost use Rattle.dpkg_session.specs.Asked.{names_asked};
 ghost use Rattle.dpkg_session.specs.Growth.{StaysWritable};
 ghost use Rattle.dpkg_session.specs.PowerLoss.{LosesLikeAStop, StandsOnceAnswered};
@@ -68,6 +68,8 @@ pub(crate) fn configure_named<H: Host, W: Watcher>(
     ensures answered { IsNone result.last → IsAnswered (H.state host.old) (H.state host.new) }
     ensures counts { CountsLast (H.state host.old) (H.state host.new) result.last }
     ensures not_closed { IfSome result.last (λ unit. IsBrokenBy Closed unit.reply → ⊥) }
+    ensures abandoned { IfSome result.last (λ unit. IsBrokenBy Abandoned unit.reply
+        → IsTrue (W.ends watcher.new)) }
     ensures order { IsNone result.last → Needs (H.state host.new)
         (IsInOrder administration.new.database administration.new.lists.lists) }
     ensures open { IsNone result.last → IsOpen diversions.now.ways administration.new }
@@ -127,6 +129,8 @@ fn configure_on<H: Host, W: Watcher>(
     ensures answered { IsNone result.last → IsAnswered (H.state host.old) (H.state host.new) }
     ensures counts { CountsLast (H.state host.old) (H.state host.new) result.last }
     ensures not_closed { IfSome result.last (λ unit. IsBrokenBy Closed unit.reply → ⊥) }
+    ensures abandoned { IfSome result.last (λ unit. IsBrokenBy Abandoned unit.reply
+        → IsTrue (W.ends watcher.new)) }
     ensures order { IsNone result.last → Needs (H.state host.new)
         (IsInOrder administration.new.database administration.new.lists.lists) }
     ensures open { IsNone result.last → IsOpen diversions.now.ways administration.new }
@@ -177,6 +181,8 @@ impl<H: Host> Session<H> {
         ensures counts { CountsLast (H.state self.old.host)
             (H.state self.new.host) result.last }
         ensures not_closed { IfSome result.last (λ unit. IsBrokenBy Closed unit.reply → ⊥) }
+        ensures abandoned { IfSome result.last (λ unit. IsBrokenBy Abandoned unit.reply
+            → IsTrue (W.ends watcher.new)) }
         ensures watched { IsTold W.tells (H.state self.old.host) watcher.old result.units.items
             watcher.new }
     {
@@ -239,6 +245,9 @@ impl<H: Host> Session<H> {
             (H.state self.new.host) result.last }
         ensures not_closed { self.old.closed ≡ false
             → IfSome result.last (λ unit. IsBrokenBy Closed unit.reply → ⊥) }
+        ensures abandoned { self.old.closed ≡ false
+            → IfSome result.last (λ unit. IsBrokenBy Abandoned unit.reply
+            → IsTrue (W.ends watcher.new)) }
         ensures watched { IsTold W.tells (H.state self.old.host) watcher.old result.units.items
             watcher.new }
     {

@@ -1,5 +1,5 @@
 // What an unpack displaces behind its commit.
-ghost use Rattle.std.specs.Prelude.{◌≡◌, ℕ, List, [], None, IfOk, IfSome, OnOk, length, map, take, true};
+ghost use Rattle.std.specs.Prelude.{◌≡◌, ℕ, List, [], None, IfOk, IfSome, OnOk, false, length, map, take, true};
 ghost use Rattle.host_core.specs.Host.{AtEachMomentOf, Counts, Needs};
 ghost use Rattle.host_core.specs.Loss.{IsOnDisk};
 ghost use Rattle.file_lists.specs.Beside.{HadPlaces};
@@ -10,7 +10,7 @@ ghost use Rattle.recorded_packages.specs.Renewal.{AreSameBut};
 ghost use Rattle.status_db.specs.Order.{AreInOrder};
 ghost use Rattle.status_records.specs.declared.record.Record.{Record};
 ghost use Rattle.held_administration.specs.Order.{IsInOrder};
-ghost use Rattle.unpack_engine.specs.Units.{IsTouched};
+ghost use Rattle.unpack_engine.specs.Units.{IsTouched, with_entries_of};
 ghost use Rattle.unpack_relations.specs.Checks.{AreApart};
 ghost use Rattle.unit_reports.specs.Held.{held_by};
 ghost use Rattle.unit_reports.specs.Units.{CountsCause, touched_at};
@@ -112,8 +112,16 @@ fn place_count(places: &Places) -> usize
     places.items.len()
 }
 
-// Computes the places of the package anew, of which those of all lists were the first so many; or all, where another list has
-// changed.
+// Whether the places of all other packages are those of before: their lists are, and so is the table of diversions.
+fn keeps_others(unpacked: &Unpacked) -> bool
+    ensures alone { result ≡ true → unpacked.now.alone ≡ true }
+    ensures table { result ≡ true → unpacked.now.anew ≡ false }
+{
+    unpacked.alone && !unpacked.anew
+}
+
+// Computes the places of the package anew, of which those of all lists were the first so many; or all, where those of another
+// package aren't kept.
 fn renew_places(
     alloc: Global,
     lists: &FileLists,
@@ -121,13 +129,13 @@ fn renew_places(
     diversions: &Diversions,
     name: &Text,
     kept: usize,
-    alone: bool,
+    others_kept: bool,
 ) -> Result<(), AllocError>
-    requires had { alone ≡ true
+    requires had { others_kept ≡ true
         → HadPlaces diversions.now.ways name.now lists.now.lists (take kept places.old) }
     ensures { OnOk result (places.new ≡ places_in diversions.now.ways lists.now.lists) }
 {
-    if alone {
+    if others_kept {
         places.items.truncate(kept);
         lists.renew_places(alloc, diversions, name, places)?;
         return Ok(());
@@ -146,17 +154,17 @@ fn bring_up_to_date(
     diversions: &Diversions,
     name: &Text,
     kept: usize,
-    alone: bool,
+    others_kept: bool,
     touched: &[Text],
 ) -> Result<(), AllocError>
-    requires had { alone ≡ true
+    requires had { others_kept ≡ true
         → HadPlaces diversions.now.ways name.now lists.now.lists (take kept places.old) }
     ensures places { OnOk result (places.new ≡ places_in diversions.now.ways lists.now.lists) }
     ensures packages { OnOk result ((before : List Record) → AreInOrder before
         → ArePackagesOf before packages.old → AreSameBut touched.now before database.now.records
         → ArePackagesOf database.now.records packages.new) }
 {
-    renew_places(alloc, lists, places, diversions, name, kept, alone)?;
+    renew_places(alloc, lists, places, diversions, name, kept, others_kept)?;
     renew(alloc, packages, database, touched)?;
     Ok(())
 }
@@ -166,7 +174,7 @@ fn unpack_refreshed<H: Host>(
     host: &mut H,
     administration: &mut Administration,
     packages: &mut Packages,
-    diversions: &Diversions,
+    diversions: &mut Diversions,
     name: &Text,
     incoming: Package,
     beside: &Beside,
@@ -176,23 +184,25 @@ fn unpack_refreshed<H: Host>(
     requires apart { AreApart incoming.name administration.old.database.records beside.now }
     requires order { Needs (H.state host.old)
         (IsInOrder administration.old.database administration.old.lists.lists) }
-    requires open { IsOpen diversions.now.ways administration.old }
+    requires open { IsOpen diversions.old.ways administration.old }
     requires indexed { ArePackagesOf administration.old.database.records packages.old }
     ensures unit { IfOk result (λ u. HasUnpackedBeside incoming beside.now
-        (held_by administration.old diversions.now) administration.old.places u.unwinding
+        (held_by administration.old diversions.old) diversions.new.ways administration.old.places
+        u.unwinding
         administration.new.database administration.new.lists.lists (H.state host.old)
         (H.state host.new) told.old.items told.new.items) }
+    ensures diversions { diversions.new ≡ with_entries_of diversions.new diversions.old }
     ensures touched { IfOk result (λ u. IsTouched incoming.name administration.old.database.records
         administration.new.database.records u.touched) }
     ensures order { IfOk result (λ u. Needs (H.state host.new)
         (IsInOrder administration.new.database administration.new.lists.lists)) }
-    ensures open { OnOk result (IsOpen diversions.now.ways administration.new) }
+    ensures open { OnOk result (IsOpen diversions.new.ways administration.new) }
     ensures indexed { OnOk result (ArePackagesOf administration.new.database.records packages.new) }
     ensures on_disk { OnOk result (IsOnDisk (H.state host.new).events) }
-    ensures told { HasCalledBeside incoming beside.now (held_by administration.old diversions.now)
+    ensures told { HasCalledBeside incoming beside.now (held_by administration.old diversions.old)
         (H.state host.old) (H.state host.new) told.old.items told.new.items }
     ensures any_moment { AtEachMomentOf (IsAmidBeside incoming beside.now
-        (held_by administration.old diversions.now) administration.old.places) (H.state host.old)
+        (held_by administration.old diversions.old) administration.old.places) (H.state host.old)
         (H.state host.new) }
     ensures denied { IfOk result (λ u. IfSome u.unwinding (λ one. CountsCause (H.state host.old)
         (H.state host.new) one.failure)) }
@@ -211,7 +221,7 @@ fn unpack_refreshed<H: Host>(
             diversions,
             name,
             kept,
-            unpacked.alone,
+            keeps_others(&unpacked),
             unpacked.touched.as_slice(),
         ) {
             Ok(()) => Ok(unpacked),
@@ -226,7 +236,7 @@ pub(crate) fn unpack_whole<H: Host>(
     host: &mut H,
     administration: &mut Administration,
     packages: &mut Packages,
-    diversions: &Diversions,
+    diversions: &mut Diversions,
     incoming: Package,
     beside: &Beside,
     behind: &Behind,
@@ -236,13 +246,14 @@ pub(crate) fn unpack_whole<H: Host>(
     requires apart { AreApart incoming.name administration.old.database.records beside.now }
     requires order { Needs (H.state host.old)
         (IsInOrder administration.old.database administration.old.lists.lists) }
-    requires open { IsOpen diversions.now.ways administration.old }
+    requires open { IsOpen diversions.old.ways administration.old }
     requires indexed { ArePackagesOf administration.old.database.records packages.old }
     requires untold { told.old.items ≡ [] }
     ensures unit { IfOk result (λ e. HasUnpackedWhole incoming beside.now
-        (held_by administration.old diversions.now) e.unpacked.unwinding e.displaced.names
-        e.displaced.failed (held_by administration.new diversions.now) (H.state host.old)
+        (held_by administration.old diversions.old) e.unpacked.unwinding e.displaced.names
+        e.displaced.failed (held_by administration.new diversions.new) (H.state host.old)
         (H.state host.new) told.old.items told.new.items) }
+    ensures diversions { diversions.new ≡ with_entries_of diversions.new diversions.old }
     ensures touched { IfOk result (λ e. (names unchanged : List (List ℕ))
         → AreOfBoth e.unpacked.touched e.displaced.names names
         → AreUnchanged administration.old.database.records administration.new.database.records
@@ -251,13 +262,13 @@ pub(crate) fn unpack_whole<H: Host>(
         administration.new.database.records (told_among incoming.name unchanged names)) }
     ensures order { OnOk result (Needs (H.state host.new)
         (IsInOrder administration.new.database administration.new.lists.lists)) }
-    ensures open { OnOk result (IsOpen diversions.now.ways administration.new) }
+    ensures open { OnOk result (IsOpen diversions.new.ways administration.new) }
     ensures indexed { OnOk result (ArePackagesOf administration.new.database.records packages.new) }
     ensures on_disk { OnOk result (IsOnDisk (H.state host.new).events) }
-    ensures told { HasCalledWhole incoming beside.now (held_by administration.old diversions.now)
+    ensures told { HasCalledWhole incoming beside.now (held_by administration.old diversions.old)
         (H.state host.old) (H.state host.new) told.old.items told.new.items }
     ensures any_moment { AtEachMomentOf (IsAmidUnpack incoming beside.now
-        (held_by administration.old diversions.now)) (H.state host.old) (H.state host.new) }
+        (held_by administration.old diversions.old)) (H.state host.old) (H.state host.new) }
     ensures denied { IfOk result (λ e. IfSome e.unpacked.unwinding (λ one. CountsCause
         (H.state host.old) (H.state host.new) one.failure)) }
     ensures counts { Counts (H.state host.old) (H.state host.new) result }

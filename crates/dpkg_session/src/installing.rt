@@ -1,5 +1,5 @@
 // A session unpacks trees, and then configures the packages that were unpacked, and those deconfigured for them.
-ghost use Rattle.std.specs.Prelude.{◌≡◌, ◌⊎◌, ◌++◌, List, true, false, None, IfSome, IsNone, is_some};
+ghost use Rattle.std.specs.Prelude.{◌≡◌, ◌⊎◌, ◌++◌, List, true, false, None, IfSome, IsNone, IsTrue, is_some};
 ghost use Rattle.configure_run.specs.Run.{IsConfigureRun, HasRun as HasConfigured, IsAmidRun as IsAmidConfigure};
 ghost use Rattle.held_administration.specs.Open.{IsOpen};
 ghost use Rattle.host_core.specs.Host.{Falls, Needs, Since};
@@ -9,7 +9,7 @@ ghost use Rattle.held_administration.specs.Order.{IsInOrder};
 ghost use Rattle.unit_reports.specs.Held.{held_by};
 ghost use Rattle.unit_reports.specs.Units.{CountsLast, IsBrokenBy, IsClosedReport, TellsCalls};
 ghost use Rattle.unit_reports.specs.Watching.{IsTold};
-ghost use Rattle.unit_reports.specs.declared.report.Breakage.TheVariants.{Closed};
+ghost use Rattle.unit_reports.specs.declared.report.Breakage.TheVariants.{Abandoned, Closed};
 ghost use Rattle.dpkg_session.specs.Growth.{StaysWritable};
 ghost use Rattle.dpkg_session.specs.Installs.{HasInstalledThrough, IsEmptyReport, TellsBoth, last_of, names_done};
 ghost use Rattle.dpkg_session.specs.PowerLoss.{StandsOnceAnswered};
@@ -86,6 +86,8 @@ fn configure_done_read<H: Host, W: Watcher>(
     ensures answered { IsNone result.last → IsAnswered (H.state host.old) (H.state host.new) }
     ensures counts { CountsLast (H.state host.old) (H.state host.new) result.last }
     ensures not_closed { IfSome result.last (λ unit. IsBrokenBy Closed unit.reply → ⊥) }
+    ensures abandoned { IfSome result.last (λ unit. IsBrokenBy Abandoned unit.reply
+        → IsTrue (W.ends watcher.new)) }
     ensures order { IsNone result.last → Needs (H.state host.new)
         (IsInOrder administration.new.database administration.new.lists.lists) }
     ensures open { IsNone result.last → IsOpen diversions.now.ways administration.new }
@@ -135,6 +137,8 @@ fn configure_done<H: Host, W: Watcher>(
     ensures answered { IsNone result.last → IsAnswered (H.state host.old) (H.state host.new) }
     ensures counts { CountsLast (H.state host.old) (H.state host.new) result.last }
     ensures not_closed { IfSome result.last (λ unit. IsBrokenBy Closed unit.reply → ⊥) }
+    ensures abandoned { IfSome result.last (λ unit. IsBrokenBy Abandoned unit.reply
+        → IsTrue (W.ends watcher.new)) }
     ensures order { IsNone result.last → Needs (H.state host.new)
         (IsInOrder administration.new.database administration.new.lists.lists) }
     ensures open { IsNone result.last → IsOpen diversions.new.ways administration.new }
@@ -185,6 +189,8 @@ fn unpack_and_configure<H: Host, T: Trees, W: Watcher>(
         result.configured.last) }
     ensures not_closed { IfSome (last_of result.unpacked.last result.configured.last)
         (λ unit. IsBrokenBy Closed unit.reply → ⊥) }
+    ensures abandoned { IfSome (last_of result.unpacked.last result.configured.last)
+        (λ unit. IsBrokenBy Abandoned unit.reply → IsTrue (W.ends watcher.new)) }
     ensures order { IsNone (last_of result.unpacked.last result.configured.last)
         → Needs (H.state host.new)
         (IsInOrder administration.new.database administration.new.lists.lists) }
@@ -270,6 +276,9 @@ impl<H: Host> Session<H> {
         ensures not_closed { self.old.closed ≡ false
             → IfSome (last_of result.unpacked.last result.configured.last)
             (λ unit. IsBrokenBy Closed unit.reply → ⊥) }
+        ensures abandoned { self.old.closed ≡ false
+            → IfSome (last_of result.unpacked.last result.configured.last)
+            (λ unit. IsBrokenBy Abandoned unit.reply → IsTrue (W.ends watcher.new)) }
     {
         if self.closed {
             return Installed {

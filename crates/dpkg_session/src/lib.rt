@@ -28,7 +28,9 @@
 //! the packages of an install are configured, and before a configure, a removal and the processing of
 //! triggers (`BehindReading`): what is held then has the entries of the file. Where they are others
 //! than before, the aliases are read anew; a table that can't be read breaks the unit or the command
-//! off, and nothing of it is done (`IsBrokenOff`: `damaged`; `IsUnread`).
+//! off, and nothing of it is done (`IsBrokenOff`: `damaged`; `IsUnread`). An unpack reads it once
+//! more behind the scripts that are called before its files: these go by what stands there then,
+//! and so do the packages that it displaces (`HasUnpackedBeside`: `late`, `table`); the aliases stay.
 //!
 //! Where it keeps what the recorded packages state of others, that is what the records state at
 //! each command (`indexed`).
@@ -49,9 +51,10 @@
 //! touched packages and those that were deconfigured are as defined; after a unit that was broken
 //! off, which is that of the next tree and touches no package, what the earlier ones left stands,
 //! and the calls of the broken unit are the first of those that its tables allow, made once all was
-//! ready for them, or none where it would have been refused, or memory was wanting before it was
-//! decided (`part`); no further one runs and the session is closed (`closes`, `refused`, `same`),
-//! and no other session answers that it is closed (`not_closed`).
+//! ready for them, or none where it would have been refused, or memory was wanting or it was
+//! abandoned before it was decided (`part`); no further one runs and the session is closed
+//! (`closes`, `refused`, `same`), and no other session answers that it is closed (`not_closed`); a
+//! unit is abandoned only where the watcher wants no further one to be begun (`abandoned`).
 //!
 //! A unit is broken off for a device fault exactly where the device failed, once and as the last
 //! thing done; where it is broken off by a declined step, or fails for one of its files, a step was

@@ -7,8 +7,9 @@ ghost use Rattle.host_core.specs.Loss.{IsAnswered};
 ghost use Rattle.recorded_packages.specs.Packages.{ArePackagesOf};
 ghost use Rattle.stat_overrides.specs.Packages.{first_unknown};
 ghost use Rattle.unit_reports.specs.Held.{held_by};
-ghost use Rattle.unit_reports.specs.Units.{CountsReply, IsBroken, IsBrokenBy, TellsNoPackage};
-ghost use Rattle.unit_reports.specs.declared.report.Breakage.TheVariants.{Damaged, Closed};
+ghost use Rattle.unit_reports.specs.Units.{CountsReply, IsBroken, IsBrokenBy, IsFromBefore, TellsNoPackage};
+ghost use Rattle.unit_reports.specs.declared.report.Breakage.TheVariants.{Damaged};
+ghost use Rattle.dpkg_session.specs.Growth.{StaysWritable};
 ghost use Rattle.dpkg_session.specs.Overriding.{taken_from, taken_with};
 ghost use Rattle.dpkg_session.specs.Run.{IsAmidOverridden, IsAmidTaken};
 ghost use Rattle.dpkg_session.specs.Units.{HasCalledOverridden, HasCalledTaken, IsOverriddenUnit, IsTakenUnit};
@@ -37,32 +38,33 @@ fn first_unknown(overrides: &Overrides, incoming: &Package) -> Result<Option<Shi
 fn unit_with<H: Host>(
     host: &mut H,
     administration: &mut Administration,
-    diversions: &Diversions,
+    diversions: &mut Diversions,
     overrides: &Overrides,
     incoming: Package,
     allowed: UnpackOptions,
 ) -> Unit
     requires order { Needs (H.state host.old)
         (IsInOrder administration.old.database administration.old.lists.lists) }
-    requires open { IsOpen diversions.now.ways administration.old }
+    requires open { IsOpen diversions.old.ways administration.old }
     requires indexed { IfSome administration.old.packages
         (ArePackagesOf administration.old.database.records) }
     ensures unit { IsBroken result.reply ⊎ IsTakenUnit allowed incoming.name
         (taken_from overrides.now incoming)
-        (held_by administration.old diversions.now) (held_by administration.new diversions.now)
+        (held_by administration.old diversions.old) (held_by administration.new diversions.new)
         result (H.state host.old) (H.state host.new) }
-    ensures open { IsBroken result.reply ⊎ IsOpen diversions.now.ways administration.new }
+    ensures open { IsBroken result.reply ⊎ IsOpen diversions.new.ways administration.new }
     ensures indexed { IsBroken result.reply ⊎ IfSome administration.new.packages
         (ArePackagesOf administration.new.database.records) }
     ensures answered { IsBroken result.reply ⊎ IsAnswered (H.state host.old) (H.state host.new) }
     ensures untouched { IsBroken result.reply → TellsNoPackage result }
     ensures told { HasCalledTaken allowed (taken_from overrides.now incoming)
-        (held_by administration.old diversions.now) result (H.state host.old) (H.state host.new) }
+        (held_by administration.old diversions.old) result (H.state host.old) (H.state host.new) }
     ensures any_moment { AtEachMomentOf (IsAmidTaken allowed
         (taken_from overrides.now incoming)
-        (held_by administration.old diversions.now)) (H.state host.old) (H.state host.new) }
+        (held_by administration.old diversions.old)) (H.state host.old) (H.state host.new) }
+    ensures writable { StaysWritable diversions.old diversions.new }
     ensures counts { CountsReply (H.state host.old) (H.state host.new) result.reply }
-    ensures not_closed { IsBrokenBy Closed result.reply → ⊥ }
+    ensures not_closed { IsFromBefore result.reply → ⊥ }
     ensures not_damaged { IsBrokenBy Damaged result.reply → ⊥ }
 {
     let alloc = administration.alloc;
@@ -84,32 +86,33 @@ fn unit_with<H: Host>(
 fn unit_by<H: Host>(
     host: &mut H,
     administration: &mut Administration,
-    diversions: &Diversions,
+    diversions: &mut Diversions,
     read: Result<Overrides, u64>,
     incoming: Package,
     allowed: UnpackOptions,
 ) -> Unit
     requires order { Needs (H.state host.old)
         (IsInOrder administration.old.database administration.old.lists.lists) }
-    requires open { IsOpen diversions.now.ways administration.old }
+    requires open { IsOpen diversions.old.ways administration.old }
     requires indexed { IfSome administration.old.packages
         (ArePackagesOf administration.old.database.records) }
     ensures unit { IsBroken result.reply ⊎ IsTakenUnit allowed incoming.name
         (taken_with read incoming)
-        (held_by administration.old diversions.now) (held_by administration.new diversions.now)
+        (held_by administration.old diversions.old) (held_by administration.new diversions.new)
         result (H.state host.old) (H.state host.new) }
-    ensures open { IsBroken result.reply ⊎ IsOpen diversions.now.ways administration.new }
+    ensures open { IsBroken result.reply ⊎ IsOpen diversions.new.ways administration.new }
     ensures indexed { IsBroken result.reply ⊎ IfSome administration.new.packages
         (ArePackagesOf administration.new.database.records) }
     ensures answered { IsBroken result.reply ⊎ IsAnswered (H.state host.old) (H.state host.new) }
     ensures untouched { IsBroken result.reply → TellsNoPackage result }
     ensures told { HasCalledTaken allowed (taken_with read incoming)
-        (held_by administration.old diversions.now) result (H.state host.old) (H.state host.new) }
+        (held_by administration.old diversions.old) result (H.state host.old) (H.state host.new) }
     ensures any_moment { AtEachMomentOf (IsAmidTaken allowed
         (taken_with read incoming)
-        (held_by administration.old diversions.now)) (H.state host.old) (H.state host.new) }
+        (held_by administration.old diversions.old)) (H.state host.old) (H.state host.new) }
+    ensures writable { StaysWritable diversions.old diversions.new }
     ensures counts { CountsReply (H.state host.old) (H.state host.new) result.reply }
-    ensures not_closed { IsBrokenBy Closed result.reply → ⊥ }
+    ensures not_closed { IsFromBefore result.reply → ⊥ }
     ensures not_damaged { IsBrokenBy Damaged result.reply → ⊥ }
 {
     match read {
@@ -137,29 +140,30 @@ fn unit_by<H: Host>(
 pub(crate) fn unit_of_overridden<H: Host>(
     host: &mut H,
     administration: &mut Administration,
-    diversions: &Diversions,
+    diversions: &mut Diversions,
     incoming: Package,
     allowed: UnpackOptions,
 ) -> Unit
     requires order { Needs (H.state host.old)
         (IsInOrder administration.old.database administration.old.lists.lists) }
-    requires open { IsOpen diversions.now.ways administration.old }
+    requires open { IsOpen diversions.old.ways administration.old }
     requires indexed { IfSome administration.old.packages
         (ArePackagesOf administration.old.database.records) }
     ensures unit { IsBroken result.reply ⊎ IsOverriddenUnit allowed incoming
-        (held_by administration.old diversions.now) (held_by administration.new diversions.now)
+        (held_by administration.old diversions.old) (held_by administration.new diversions.new)
         result (H.state host.old) (H.state host.new) }
-    ensures open { IsBroken result.reply ⊎ IsOpen diversions.now.ways administration.new }
+    ensures open { IsBroken result.reply ⊎ IsOpen diversions.new.ways administration.new }
     ensures indexed { IsBroken result.reply ⊎ IfSome administration.new.packages
         (ArePackagesOf administration.new.database.records) }
     ensures answered { IsBroken result.reply ⊎ IsAnswered (H.state host.old) (H.state host.new) }
     ensures untouched { IsBroken result.reply → TellsNoPackage result }
     ensures told { HasCalledOverridden allowed incoming
-        (held_by administration.old diversions.now) result (H.state host.old) (H.state host.new) }
+        (held_by administration.old diversions.old) result (H.state host.old) (H.state host.new) }
     ensures any_moment { AtEachMomentOf (IsAmidOverridden allowed incoming
-        (held_by administration.old diversions.now)) (H.state host.old) (H.state host.new) }
+        (held_by administration.old diversions.old)) (H.state host.old) (H.state host.new) }
+    ensures writable { StaysWritable diversions.old diversions.new }
     ensures counts { CountsReply (H.state host.old) (H.state host.new) result.reply }
-    ensures not_closed { IsBrokenBy Closed result.reply → ⊥ }
+    ensures not_closed { IsFromBefore result.reply → ⊥ }
     ensures not_damaged { IsBrokenBy Damaged result.reply → ⊥ }
 {
     let alloc = administration.alloc;

@@ -1,5 +1,5 @@
 // A session removes or purges packages.
-ghost use Rattle.std.specs.Prelude.{◌≡◌, ◌⊎◌, true, false, IsNone, IfSome, is_some};
+ghost use Rattle.std.specs.Prelude.{◌≡◌, ◌⊎◌, true, false, IsNone, IfSome, IsTrue, is_some};
 ghost use Rattle.held_administration.specs.Open.{IsOpen};
 ghost use Rattle.host_core.specs.Host.{Falls, Needs, Since};
 ghost use Rattle.host_core.specs.Loss.{IsAnswered};
@@ -14,7 +14,7 @@ ghost use Rattle.held_administration.specs.Order.{IsInOrder};
 ghost use Rattle.unit_reports.specs.Held.{held_by};
 ghost use Rattle.unit_reports.specs.Units.{CountsLast, IsBrokenBy, IsClosedReport, TellsCalls};
 ghost use Rattle.unit_reports.specs.Watching.{IsTold};
-ghost use Rattle.unit_reports.specs.declared.report.Breakage.TheVariants.{Closed};
+ghost use Rattle.unit_reports.specs.declared.report.Breakage.TheVariants.{Abandoned, Closed};
 
 use crate::recorded::take_packages;
 use crate::session::{Session, closed_report};
@@ -51,6 +51,8 @@ pub(crate) fn remove_named<H: Host, W: Watcher>(
         (H.state host.new) }
     ensures counts { CountsLast (H.state host.old) (H.state host.new) result.last }
     ensures not_closed { IfSome result.last (λ unit. IsBrokenBy Closed unit.reply → ⊥) }
+    ensures abandoned { IfSome result.last (λ unit. IsBrokenBy Abandoned unit.reply
+        → IsTrue (W.ends watcher.new)) }
     ensures order { IsNone result.last → Needs (H.state host.new)
         (IsInOrder administration.new.database administration.new.lists.lists) }
     ensures open { IsNone result.last → IsOpen diversions.now.ways administration.new }
@@ -111,6 +113,8 @@ impl<H: Host> Session<H> {
         ensures counts { CountsLast (H.state self.old.host)
             (H.state self.new.host) result.last }
         ensures not_closed { IfSome result.last (λ unit. IsBrokenBy Closed unit.reply → ⊥) }
+        ensures abandoned { IfSome result.last (λ unit. IsBrokenBy Abandoned unit.reply
+            → IsTrue (W.ends watcher.new)) }
         ensures watched { IsTold W.tells (H.state self.old.host) watcher.old result.units.items
             watcher.new }
     {
@@ -167,6 +171,9 @@ impl<H: Host> Session<H> {
             (H.state self.new.host) result.last }
         ensures not_closed { self.old.closed ≡ false
             → IfSome result.last (λ unit. IsBrokenBy Closed unit.reply → ⊥) }
+        ensures abandoned { self.old.closed ≡ false
+            → IfSome result.last (λ unit. IsBrokenBy Abandoned unit.reply
+            → IsTrue (W.ends watcher.new)) }
         ensures watched { IsTold W.tells (H.state self.old.host) watcher.old result.units.items
             watcher.new }
     {
@@ -222,6 +229,9 @@ impl<H: Host> Session<H> {
             (H.state self.new.host) result.last }
         ensures not_closed { self.old.closed ≡ false
             → IfSome result.last (λ unit. IsBrokenBy Closed unit.reply → ⊥) }
+        ensures abandoned { self.old.closed ≡ false
+            → IfSome result.last (λ unit. IsBrokenBy Abandoned unit.reply
+            → IsTrue (W.ends watcher.new)) }
         ensures watched { IsTold W.tells (H.state self.old.host) watcher.old result.units.items
             watcher.new }
     {
@@ -274,6 +284,9 @@ impl<H: Host> Session<H> {
             (H.state self.new.host) result.last }
         ensures not_closed { self.old.closed ≡ false
             → IfSome result.last (λ unit. IsBrokenBy Closed unit.reply → ⊥) }
+        ensures abandoned { self.old.closed ≡ false
+            → IfSome result.last (λ unit. IsBrokenBy Abandoned unit.reply
+            → IsTrue (W.ends watcher.new)) }
         ensures watched { IsTold W.tells (H.state self.old.host) watcher.old result.units.items
             watcher.new }
     {

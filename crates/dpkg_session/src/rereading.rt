@@ -1,5 +1,5 @@
 // The table of diversions, read again: a script, or another program, may have changed it since.
-ghost use Rattle.std.specs.Prelude.{◌≡◌, ◌≢◌, [], IfErr, IfNone, IfOk, IfSome, IsSomeAnd, IsTrue, MatchBool, OnOk, false, is_some};
+ghost use Rattle.std.specs.Prelude.{◌≡◌, [], IfErr, IfNone, IfOk, IfSome, IsSomeAnd, IsTrue, OnOk, false, is_some};
 ghost use Rattle.administration.specs.Fault.{CountsAdministration};
 ghost use Rattle.aliases.specs.Reading.{AreAliasesIn};
 ghost use Rattle.diversions.specs.Lines.{HasDiversions, IsDiversionsDamage};
@@ -9,7 +9,7 @@ ghost use Rattle.host_core.specs.Host.{Counts, Leaves, Needs, Reads, Silent, Tel
 ghost use Rattle.opening.specs.Followed.{diverted_paths};
 ghost use Rattle.unit_reports.specs.Held.{held_by};
 ghost use Rattle.unit_reports.specs.Units.{CountsLast, IsBrokenBy, TellsNoPackage};
-ghost use Rattle.unit_reports.specs.declared.report.Breakage.TheVariants.{Closed};
+ghost use Rattle.unit_reports.specs.declared.report.Breakage.TheVariants.{Abandoned, Closed};
 ghost use Rattle.dpkg_session.specs.Growth.{StaysWritable};
 ghost use Rattle.dpkg_session.specs.Rereading.{AreReadAnew, HasRead, HasReread, IsReread, IsUnread, reading_breakage, with_ways};
 
@@ -35,24 +35,6 @@ pub(crate) fn breakage_of(fault: &AdministrationFault) -> Breakage
         AdministrationFault::NoMemory => Breakage::NoMemory,
         AdministrationFault::Declined => Breakage::Declined,
     }
-}
-
-// Whether two tables have the same entries, in the same order.
-fn have_same_entries(one: &Diversions, other: &Diversions) -> bool
-    ensures { MatchBool result (one.now.ways.entries ≡ other.now.ways.entries)
-        (one.now.ways.entries ≢ other.now.ways.entries) }
-{
-    let mut left = other.entries();
-    let mut entries = one.entries();
-    while let Some(entry) = entries.next() {
-        let Some(found) = left.next() else {
-            return false;
-        };
-        if !entry.is(found) {
-            return false;
-        }
-    }
-    left.next().is_none()
 }
 
 // The paths of the diversions, each with its target.
@@ -148,7 +130,7 @@ fn take_if_changed<H: Host>(
     ensures silent { Silent (H.state host.old) (H.state host.new) }
     ensures counts { Counts (H.state host.old) (H.state host.new) result }
 {
-    if have_same_entries(diversions, &read) {
+    if diversions.has_entries_of(&read) {
         return Ok(());
     }
     take_table(host, administration, diversions, read)
@@ -247,6 +229,8 @@ pub(crate) fn read_before<H: Host>(
         report.last) }
     ensures not_closed { IfSome result (λ report. IfSome report.last
         (λ unit. IsBrokenBy Closed unit.reply → ⊥)) }
+    ensures not_abandoned { IfSome result (λ report. IfSome report.last
+        (λ unit. IsBrokenBy Abandoned unit.reply → ⊥)) }
 {
     match reread(host, administration, diversions) {
         Ok(()) => None,
@@ -271,6 +255,8 @@ impl<H: Host> Session<H> {
             (H.state self.new.host) report.last) }
         ensures not_closed { IfSome result (λ report. IfSome report.last
             (λ unit. IsBrokenBy Closed unit.reply → ⊥)) }
+        ensures not_abandoned { IfSome result (λ report. IfSome report.last
+            (λ unit. IsBrokenBy Abandoned unit.reply → ⊥)) }
         ensures closes { self.new.closed ≡ is_some result }
         ensures diversions { StaysWritable self.old.diversions self.new.diversions }
     {

@@ -11,7 +11,7 @@ ghost use Rattle.opening.specs.Stopped.{AfterAStop, BeginsOnDisk, BeginsOnDiskIf
 ghost use Rattle.opening.specs.TakenUp.{IsOpeningOrAdopting, IsTakenUp, OpensAndAdopts};
 ghost use Rattle.recorded_packages.specs.Packages.{ArePackagesOf};
 ghost use Rattle.unit_reports.specs.Held.{held_by};
-ghost use Rattle.unit_reports.specs.declared.report.Breakage.TheVariants.{Closed};
+ghost use Rattle.unit_reports.specs.declared.report.Breakage.TheVariants.{Abandoned, Closed};
 ghost use Rattle.dpkg_session.specs.Growth.{StaysWritable};
 ghost use Rattle.dpkg_session.specs.PowerLoss.{LosesLikeAStop, StandsOnceAnswered};
 ghost use Rattle.dpkg_session.specs.Run.{HasRunThrough};
@@ -179,6 +179,9 @@ impl<H: Host> Session<H> {
             (H.state self.new.host) result.last }
         ensures not_closed { self.old.closed ≡ false
             → IfSome result.last (λ unit. IsBrokenBy Closed unit.reply → ⊥) }
+        ensures abandoned { self.old.closed ≡ false
+            → IfSome result.last (λ unit. IsBrokenBy Abandoned unit.reply
+            → IsTrue (W.ends watcher.new)) }
     {
         if self.closed {
             return closed_report(self.administration.alloc);

@@ -6,12 +6,12 @@ ghost use Rattle.held_administration.specs.Open.{IsOpen};
 ghost use Rattle.recorded_packages.specs.Packages.{ArePackagesOf};
 ghost use Rattle.held_administration.specs.Order.{IsInOrder};
 ghost use Rattle.unpack_relations.specs.Checks.{AreApart};
-ghost use Rattle.unit_reports.specs.declared.report.Breakage.TheVariants.{NoMemory, Damaged, Closed};
+ghost use Rattle.unit_reports.specs.declared.report.Breakage.TheVariants.{NoMemory, Damaged};
 ghost use Rattle.unit_reports.specs.Held.{held_by};
 ghost use Rattle.dpkg_session.specs.Growth.{StaysWritable};
 ghost use Rattle.dpkg_session.specs.Rereading.{IsTableDamaged};
 ghost use Rattle.dpkg_session.specs.Run.{IsAmidDecided, IsAmidPackage, IsAmidUnitOf, IsAmidUnpack};
-ghost use Rattle.unit_reports.specs.Units.{CountsReply, IsBroken, IsBrokenBy, TellsNoPackage, breakage_of};
+ghost use Rattle.unit_reports.specs.Units.{CountsReply, IsBroken, IsBrokenBy, IsFromBefore, TellsNoPackage, breakage_of};
 ghost use Rattle.dpkg_session.specs.Units.{AnswersBoth, HasCalledDecided, HasCalledOf, HasCalledPackage, HasCalledWhole, IsBehind, IsDecidedUnit, KnowsRecords, IsPackageUnit, IsUnit, IsUnpacked, reply_to};
 
 use crate::displacing::{Behind, UnpackEnd, behind_of, unpack_whole};
@@ -75,6 +75,7 @@ fn answered(
             unwinding,
             touched,
             alone: _,
+            anew: _,
         },
         displaced: Displaced { names, failed },
     } = end;
@@ -109,7 +110,7 @@ fn unpack_named<H: Host>(
     host: &mut H,
     administration: &mut Administration,
     packages: &mut Packages,
-    diversions: &Diversions,
+    diversions: &mut Diversions,
     behind: Behind,
     incoming: Package,
     beside: &Beside,
@@ -119,22 +120,23 @@ fn unpack_named<H: Host>(
     requires apart { AreApart incoming.name administration.old.database.records beside.now }
     requires order { Needs (H.state host.old)
         (IsInOrder administration.old.database administration.old.lists.lists) }
-    requires open { IsOpen diversions.now.ways administration.old }
+    requires open { IsOpen diversions.old.ways administration.old }
     requires indexed { ArePackagesOf administration.old.database.records packages.old }
     ensures unit { IsBroken result.reply ⊎ IsUnpacked incoming beside.now
-        (held_by administration.old diversions.now) (held_by administration.new diversions.now)
+        (held_by administration.old diversions.old) (held_by administration.new diversions.new)
         result (H.state host.old) (H.state host.new) }
-    ensures open { IsBroken result.reply ⊎ IsOpen diversions.now.ways administration.new }
+    ensures open { IsBroken result.reply ⊎ IsOpen diversions.new.ways administration.new }
     ensures indexed { IsBroken result.reply ⊎ ArePackagesOf administration.new.database.records
         packages.new }
     ensures on_disk { IsBroken result.reply ⊎ IsOnDisk (H.state host.new).events }
     ensures untouched { IsBroken result.reply → TellsNoPackage result }
-    ensures told { HasCalledWhole incoming beside.now (held_by administration.old diversions.now)
+    ensures told { HasCalledWhole incoming beside.now (held_by administration.old diversions.old)
         (H.state host.old) (H.state host.new) [] result.calls.items }
     ensures any_moment { AtEachMomentOf (IsAmidUnpack incoming beside.now
-        (held_by administration.old diversions.now)) (H.state host.old) (H.state host.new) }
+        (held_by administration.old diversions.old)) (H.state host.old) (H.state host.new) }
+    ensures writable { StaysWritable diversions.old diversions.new }
     ensures counts { CountsReply (H.state host.old) (H.state host.new) result.reply }
-    ensures not_closed { IsBrokenBy Closed result.reply → ⊥ }
+    ensures not_closed { IsFromBefore result.reply → ⊥ }
     ensures not_damaged { IsBrokenBy Damaged result.reply → ⊥ }
 {
     let alloc = administration.alloc;
@@ -159,29 +161,30 @@ fn unpack_unit<H: Host>(
     host: &mut H,
     administration: &mut Administration,
     packages: &mut Packages,
-    diversions: &Diversions,
+    diversions: &mut Diversions,
     incoming: Package,
     beside: &Beside,
 ) -> Unit
     requires apart { AreApart incoming.name administration.old.database.records beside.now }
     requires order { Needs (H.state host.old)
         (IsInOrder administration.old.database administration.old.lists.lists) }
-    requires open { IsOpen diversions.now.ways administration.old }
+    requires open { IsOpen diversions.old.ways administration.old }
     requires indexed { ArePackagesOf administration.old.database.records packages.old }
     ensures unit { IsBroken result.reply ⊎ IsUnpacked incoming beside.now
-        (held_by administration.old diversions.now) (held_by administration.new diversions.now)
+        (held_by administration.old diversions.old) (held_by administration.new diversions.new)
         result (H.state host.old) (H.state host.new) }
-    ensures open { IsBroken result.reply ⊎ IsOpen diversions.now.ways administration.new }
+    ensures open { IsBroken result.reply ⊎ IsOpen diversions.new.ways administration.new }
     ensures indexed { IsBroken result.reply ⊎ ArePackagesOf administration.new.database.records
         packages.new }
     ensures on_disk { IsBroken result.reply ⊎ IsOnDisk (H.state host.new).events }
     ensures untouched { IsBroken result.reply → TellsNoPackage result }
-    ensures told { HasCalledWhole incoming beside.now (held_by administration.old diversions.now)
+    ensures told { HasCalledWhole incoming beside.now (held_by administration.old diversions.old)
         (H.state host.old) (H.state host.new) [] result.calls.items }
     ensures any_moment { AtEachMomentOf (IsAmidUnpack incoming beside.now
-        (held_by administration.old diversions.now)) (H.state host.old) (H.state host.new) }
+        (held_by administration.old diversions.old)) (H.state host.old) (H.state host.new) }
+    ensures writable { StaysWritable diversions.old diversions.new }
     ensures counts { CountsReply (H.state host.old) (H.state host.new) result.reply }
-    ensures not_closed { IsBrokenBy Closed result.reply → ⊥ }
+    ensures not_closed { IsFromBefore result.reply → ⊥ }
     ensures not_damaged { IsBrokenBy Damaged result.reply → ⊥ }
 {
     let alloc = administration.alloc;
@@ -214,28 +217,29 @@ fn decide_and_unpack<H: Host>(
     host: &mut H,
     administration: &mut Administration,
     packages: &mut Packages,
-    diversions: &Diversions,
+    diversions: &mut Diversions,
     incoming: Package,
     allowed: UnpackOptions,
 ) -> Unit
     requires order { Needs (H.state host.old)
         (IsInOrder administration.old.database administration.old.lists.lists) }
-    requires open { IsOpen diversions.now.ways administration.old }
+    requires open { IsOpen diversions.old.ways administration.old }
     requires indexed { ArePackagesOf administration.old.database.records packages.old }
     ensures unit { IsBroken result.reply ⊎ IsDecidedUnit allowed incoming
-        (held_by administration.old diversions.now) (held_by administration.new diversions.now)
+        (held_by administration.old diversions.old) (held_by administration.new diversions.new)
         result (H.state host.old) (H.state host.new) }
-    ensures open { IsBroken result.reply ⊎ IsOpen diversions.now.ways administration.new }
+    ensures open { IsBroken result.reply ⊎ IsOpen diversions.new.ways administration.new }
     ensures indexed { IsBroken result.reply ⊎ ArePackagesOf administration.new.database.records
         packages.new }
     ensures answered { IsBroken result.reply ⊎ IsAnswered (H.state host.old) (H.state host.new) }
     ensures untouched { IsBroken result.reply → TellsNoPackage result }
     ensures told { HasCalledDecided allowed incoming
-        (held_by administration.old diversions.now) result (H.state host.old) (H.state host.new) }
+        (held_by administration.old diversions.old) result (H.state host.old) (H.state host.new) }
     ensures any_moment { AtEachMomentOf (IsAmidDecided allowed incoming
-        (held_by administration.old diversions.now)) (H.state host.old) (H.state host.new) }
+        (held_by administration.old diversions.old)) (H.state host.old) (H.state host.new) }
+    ensures writable { StaysWritable diversions.old diversions.new }
     ensures counts { CountsReply (H.state host.old) (H.state host.new) result.reply }
-    ensures not_closed { IsBrokenBy Closed result.reply → ⊥ }
+    ensures not_closed { IsFromBefore result.reply → ⊥ }
     ensures not_damaged { IsBrokenBy Damaged result.reply → ⊥ }
 {
     let alloc = administration.alloc;
@@ -263,29 +267,30 @@ fn decide_and_unpack<H: Host>(
 pub(crate) fn unit_of_followed<H: Host>(
     host: &mut H,
     administration: &mut Administration,
-    diversions: &Diversions,
+    diversions: &mut Diversions,
     incoming: Package,
     allowed: UnpackOptions,
 ) -> Unit
     requires order { Needs (H.state host.old)
         (IsInOrder administration.old.database administration.old.lists.lists) }
-    requires open { IsOpen diversions.now.ways administration.old }
+    requires open { IsOpen diversions.old.ways administration.old }
     requires indexed { IfSome administration.old.packages
         (ArePackagesOf administration.old.database.records) }
     ensures unit { IsBroken result.reply ⊎ IsDecidedUnit allowed incoming
-        (held_by administration.old diversions.now) (held_by administration.new diversions.now)
+        (held_by administration.old diversions.old) (held_by administration.new diversions.new)
         result (H.state host.old) (H.state host.new) }
-    ensures open { IsBroken result.reply ⊎ IsOpen diversions.now.ways administration.new }
+    ensures open { IsBroken result.reply ⊎ IsOpen diversions.new.ways administration.new }
     ensures indexed { IsBroken result.reply ⊎ IfSome administration.new.packages
         (ArePackagesOf administration.new.database.records) }
     ensures answered { IsBroken result.reply ⊎ IsAnswered (H.state host.old) (H.state host.new) }
     ensures untouched { IsBroken result.reply → TellsNoPackage result }
     ensures told { HasCalledDecided allowed incoming
-        (held_by administration.old diversions.now) result (H.state host.old) (H.state host.new) }
+        (held_by administration.old diversions.old) result (H.state host.old) (H.state host.new) }
     ensures any_moment { AtEachMomentOf (IsAmidDecided allowed incoming
-        (held_by administration.old diversions.now)) (H.state host.old) (H.state host.new) }
+        (held_by administration.old diversions.old)) (H.state host.old) (H.state host.new) }
+    ensures writable { StaysWritable diversions.old diversions.new }
     ensures counts { CountsReply (H.state host.old) (H.state host.new) result.reply }
-    ensures not_closed { IsBrokenBy Closed result.reply → ⊥ }
+    ensures not_closed { IsFromBefore result.reply → ⊥ }
     ensures not_damaged { IsBrokenBy Damaged result.reply → ⊥ }
 {
     let alloc = administration.alloc;
@@ -337,7 +342,7 @@ fn unit_of_package<H: Host>(
         (held_by administration.old diversions.old)) (H.state host.old) (H.state host.new) }
     ensures writable { StaysWritable diversions.old diversions.new }
     ensures counts { CountsReply (H.state host.old) (H.state host.new) result.reply }
-    ensures not_closed { IsBrokenBy Closed result.reply → ⊥ }
+    ensures not_closed { IsFromBefore result.reply → ⊥ }
     ensures damaged { IsBrokenBy Damaged result.reply → IsTrue (H.state host.new).honest
         → IsTableDamaged (H.state host.old).world }
 {
@@ -379,7 +384,7 @@ pub(crate) fn unit_of<H: Host>(
         (held_by administration.old diversions.old)) (H.state host.old) (H.state host.new) }
     ensures writable { StaysWritable diversions.old diversions.new }
     ensures counts { CountsReply (H.state host.old) (H.state host.new) result.reply }
-    ensures not_closed { IsBrokenBy Closed result.reply → ⊥ }
+    ensures not_closed { IsFromBefore result.reply → ⊥ }
     ensures damaged { IsBrokenBy Damaged result.reply → IsTrue (H.state host.new).honest
         → IsTableDamaged (H.state host.old).world }
 {

@@ -1,5 +1,5 @@
 // The unpack of a package beside others, brought to the disk.
-ghost use Rattle.std.specs.Prelude.{◌≡◌, ◌↔◌, IfOk, IfSome, OnOk, length, take, true};
+ghost use Rattle.std.specs.Prelude.{◌≡◌, ◌↔◌, IfOk, IfSome, OnOk, false, length, take, true};
 ghost use Rattle.host_core.specs.Host.{AtEachMomentOf, Counts, Needs, Reads, Silent};
 ghost use Rattle.host_core.specs.Loss.{IsOnDisk};
 ghost use Rattle.file_lists.specs.Beside.{AreSameBeside};
@@ -7,7 +7,7 @@ ghost use Rattle.held_administration.specs.Open.{CanWrite};
 ghost use Rattle.undo_rows.specs.Ended.{ended_as};
 ghost use Rattle.held_administration.specs.Order.{IsInOrder};
 ghost use Rattle.unpack_engine.specs.Others.{AreOthers};
-ghost use Rattle.unpack_engine.specs.Units.{HasCalled, HasFailedFor, HasUnpacked, IsAmidUnit, IsTouched};
+ghost use Rattle.unpack_engine.specs.Units.{GoesByTable, HasCalled, HasFailedFor, HasUnpacked, IsAmidEither, IsTouched, with_entries_of};
 ghost use Rattle.unpack_relations.specs.Checks.{AreApart};
 ghost use Rattle.unit_reports.specs.Held.{held, held_by};
 ghost use Rattle.unit_reports.specs.Units.{CountsCause};
@@ -59,7 +59,7 @@ fn others_beside<H: Host>(
 fn unpack_to_disk<H: Host>(
     host: &mut H,
     administration: &mut Administration,
-    diversions: &Diversions,
+    diversions: &mut Diversions,
     incoming: Package,
     others: Others,
     told: &mut Vec<Called>,
@@ -70,13 +70,21 @@ fn unpack_to_disk<H: Host>(
         (IsInOrder administration.old.database administration.old.lists.lists) }
     requires open { CanWrite administration.old }
     ensures unit { IfOk result
-        (λ u. HasUnpacked (given_by incoming (held_by administration.old diversions.now)
-        others.packages.items others.yields) administration.old.places (ended_as u.unwinding)
+        (λ u. HasUnpacked (given_by incoming (held_by administration.old diversions.old)
+        diversions.new.ways others.packages.items others.yields) administration.old.places
+        (ended_as u.unwinding)
         administration.new.database administration.new.lists.lists (H.state host.old)
         (H.state host.new) told.old.items told.new.items) }
     ensures cause { IfOk result
-        (λ u. HasFailedFor (given_by incoming (held_by administration.old diversions.now)
-        others.packages.items others.yields) (H.state host.old) (H.state host.new) u.unwinding) }
+        (λ u. HasFailedFor (given_by incoming (held_by administration.old diversions.old)
+        diversions.new.ways others.packages.items others.yields) (H.state host.old)
+        (H.state host.new) u.unwinding) }
+    ensures table { IfOk result
+        (λ u. GoesByTable (given_by incoming (held_by administration.old diversions.old)
+        diversions.new.ways others.packages.items others.yields) u.unwinding (H.state host.old)
+        (H.state host.new)) }
+    ensures diversions { diversions.new ≡ with_entries_of diversions.new diversions.old }
+    ensures anew { IfOk result (λ u. u.anew ≡ false → diversions.new ≡ diversions.old) }
     ensures touched { IfOk result (λ u. IsTouched incoming.name administration.old.database.records
         administration.new.database.records u.touched) }
     ensures alone { IfOk result (λ u. (u.alone ≡ true) ↔ AreSameBeside incoming.name
@@ -87,12 +95,15 @@ fn unpack_to_disk<H: Host>(
         (IsInOrder administration.new.database administration.new.lists.lists)) }
     ensures open { OnOk result (CanWrite administration.new) }
     ensures on_disk { OnOk result (IsOnDisk (H.state host.new).events) }
-    ensures told { HasCalled (given_by incoming (held_by administration.old diversions.now)
-        others.packages.items others.yields) (H.state host.old) (H.state host.new) told.old.items
-        told.new.items }
-    ensures any_moment { AtEachMomentOf (IsAmidUnit
-        (given_by incoming (held_by administration.old diversions.now) others.packages.items
-        others.yields) administration.old.places) (H.state host.old) (H.state host.new) }
+    ensures told { HasCalled (given_by incoming (held_by administration.old diversions.old)
+        diversions.old.ways others.packages.items others.yields) (H.state host.old)
+        (H.state host.new) told.old.items told.new.items }
+    ensures any_moment { AtEachMomentOf (IsAmidEither
+        (given_by incoming (held_by administration.old diversions.old) diversions.old.ways
+        others.packages.items others.yields)
+        (given_by incoming (held_by administration.old diversions.old) diversions.new.ways
+        others.packages.items others.yields) administration.old.places) (H.state host.old)
+        (H.state host.new) }
     ensures denied { IfOk result (λ u. IfSome u.unwinding (λ one. CountsCause (H.state host.old)
         (H.state host.new) one.failure)) }
     ensures counts { Counts (H.state host.old) (H.state host.new) result }
@@ -110,7 +121,7 @@ fn unpack_to_disk<H: Host>(
 fn unpack_indexed<H: Host>(
     host: &mut H,
     administration: &mut Administration,
-    diversions: &Diversions,
+    diversions: &mut Diversions,
     incoming: Package,
     beside: &Beside,
     told: &mut Vec<Called>,
@@ -120,9 +131,12 @@ fn unpack_indexed<H: Host>(
         (IsInOrder administration.old.database administration.old.lists.lists) }
     requires open { CanWrite administration.old }
     ensures unit { IfOk result (λ u. HasUnpackedBeside incoming beside.now
-        (held_by administration.old diversions.now) administration.old.places u.unwinding
+        (held_by administration.old diversions.old) diversions.new.ways administration.old.places
+        u.unwinding
         administration.new.database administration.new.lists.lists (H.state host.old)
         (H.state host.new) told.old.items told.new.items) }
+    ensures diversions { diversions.new ≡ with_entries_of diversions.new diversions.old }
+    ensures anew { IfOk result (λ u. u.anew ≡ false → diversions.new ≡ diversions.old) }
     ensures touched { IfOk result (λ u. IsTouched incoming.name administration.old.database.records
         administration.new.database.records u.touched) }
     ensures alone { IfOk result (λ u. (u.alone ≡ true) ↔ AreSameBeside incoming.name
@@ -133,10 +147,10 @@ fn unpack_indexed<H: Host>(
         (IsInOrder administration.new.database administration.new.lists.lists)) }
     ensures open { OnOk result (CanWrite administration.new) }
     ensures on_disk { OnOk result (IsOnDisk (H.state host.new).events) }
-    ensures told { HasCalledBeside incoming beside.now (held_by administration.old diversions.now)
+    ensures told { HasCalledBeside incoming beside.now (held_by administration.old diversions.old)
         (H.state host.old) (H.state host.new) told.old.items told.new.items }
     ensures any_moment { AtEachMomentOf (IsAmidBeside incoming beside.now
-        (held_by administration.old diversions.now) administration.old.places) (H.state host.old)
+        (held_by administration.old diversions.old) administration.old.places) (H.state host.old)
         (H.state host.new) }
     ensures denied { IfOk result (λ u. IfSome u.unwinding (λ one. CountsCause (H.state host.old)
         (H.state host.new) one.failure)) }
@@ -160,7 +174,7 @@ fn unpack_indexed<H: Host>(
 pub(crate) fn unpack_beside<H: Host>(
     host: &mut H,
     administration: &mut Administration,
-    diversions: &Diversions,
+    diversions: &mut Diversions,
     incoming: Package,
     beside: &Beside,
     told: &mut Vec<Called>,
@@ -170,9 +184,12 @@ pub(crate) fn unpack_beside<H: Host>(
         (IsInOrder administration.old.database administration.old.lists.lists) }
     requires open { CanWrite administration.old }
     ensures unit { IfOk result (λ u. HasUnpackedBeside incoming beside.now
-        (held_by administration.old diversions.now) administration.old.places u.unwinding
+        (held_by administration.old diversions.old) diversions.new.ways administration.old.places
+        u.unwinding
         administration.new.database administration.new.lists.lists (H.state host.old)
         (H.state host.new) told.old.items told.new.items) }
+    ensures diversions { diversions.new ≡ with_entries_of diversions.new diversions.old }
+    ensures anew { IfOk result (λ u. u.anew ≡ false → diversions.new ≡ diversions.old) }
     ensures touched { IfOk result (λ u. IsTouched incoming.name administration.old.database.records
         administration.new.database.records u.touched) }
     ensures alone { IfOk result (λ u. (u.alone ≡ true) ↔ AreSameBeside incoming.name
@@ -183,10 +200,10 @@ pub(crate) fn unpack_beside<H: Host>(
         (IsInOrder administration.new.database administration.new.lists.lists)) }
     ensures open { OnOk result (CanWrite administration.new) }
     ensures on_disk { OnOk result (IsOnDisk (H.state host.new).events) }
-    ensures told { HasCalledBeside incoming beside.now (held_by administration.old diversions.now)
+    ensures told { HasCalledBeside incoming beside.now (held_by administration.old diversions.old)
         (H.state host.old) (H.state host.new) told.old.items told.new.items }
     ensures any_moment { AtEachMomentOf (IsAmidBeside incoming beside.now
-        (held_by administration.old diversions.now) administration.old.places) (H.state host.old)
+        (held_by administration.old diversions.old) administration.old.places) (H.state host.old)
         (H.state host.new) }
     ensures denied { IfOk result (λ u. IfSome u.unwinding (λ one. CountsCause (H.state host.old)
         (H.state host.new) one.failure)) }

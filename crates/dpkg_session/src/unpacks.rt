@@ -1,5 +1,5 @@
 // Unpacks as turns of a run: each tree is read once the unit of the one before it is told.
-ghost use Rattle.std.specs.Prelude.{◌≡◌, ◌∷◌, ◌++◌, Bool, List, [], IfErr, IfOk, IfSome, IsNone, OnOk, length, map, true};
+ghost use Rattle.std.specs.Prelude.{◌≡◌, ◌∷◌, ◌++◌, List, [], None, Some, IfErr, IfOk, IfSome, IsNone, IsTrue, OnOk, length, map};
 ghost use Rattle.host_core.specs.Host.{AtEachMomentOf, Needs, NoFault};
 ghost use Rattle.host_core.specs.Loss.{IsAnswered};
 ghost use Rattle.held_administration.specs.Open.{IsOpen};
@@ -8,8 +8,9 @@ ghost use Rattle.recorded_packages.specs.Packages.{ArePackagesOf};
 ghost use Rattle.unit_reports.specs.Held.{held_by};
 ghost use Rattle.unit_reports.specs.Units.{CountsLast, CountsReply, IsBrokenBy, TellsCalls};
 ghost use Rattle.unit_reports.specs.Watching.{IsTold};
-ghost use Rattle.unit_reports.specs.declared.report.Breakage.TheVariants.{Closed};
+ghost use Rattle.unit_reports.specs.declared.report.Breakage.TheVariants.{Abandoned, Closed};
 ghost use Rattle.undo_rows.specs.Transcript.{TellsAll};
+ghost use Rattle.unit_runs.specs.declared.barring.Bar.TheVariants as bar;
 ghost use Rattle.dpkg_session.specs.Growth.{StaysWritable};
 ghost use Rattle.dpkg_session.specs.Installs.{label_of};
 ghost use Rattle.dpkg_session.specs.Run.{HasRunThrough, IsAmidUnitOf, RunsUnit};
@@ -28,8 +29,8 @@ use held_administration::Administration;
 use host_core::Host;
 use std::alloc::AllocError;
 use texts::Texts;
-use unit_reports::{Breakage, Report, Unit, Watcher, broken, is_broken};
-use unit_runs::{Turns, run_units};
+use unit_reports::{Report, Unit, Watcher, is_broken};
+use unit_runs::{Bar, Turns, barred_unit, run_units};
 use unpack_relations::UnpackOptions;
 
 /// The trees that are unpacked in turn, the labels of those whose units are done, and the diversions, which are read again before each.
@@ -73,7 +74,7 @@ impl<'a, 'l, 'd, H: Host, T: Trees> Turns<H> for Unpacks<'a, 'l, 'd, T> {
         &mut self,
         host: &mut H,
         administration: &mut Administration,
-        room: bool,
+        barred: Option<Bar>,
     ) -> Result<Option<Unit>, Unit> {
         match self.trees.next() {
             Some(candidate) => match take_unit(
@@ -83,7 +84,7 @@ impl<'a, 'l, 'd, H: Host, T: Trees> Turns<H> for Unpacks<'a, 'l, 'd, T> {
                 candidate,
                 self.allowed,
                 self.labels,
-                room,
+                barred,
             ) {
                 Ok(unit) => Ok(Some(unit)),
                 Err(unit) => Err(unit),
@@ -93,19 +94,29 @@ impl<'a, 'l, 'd, H: Host, T: Trees> Turns<H> for Unpacks<'a, 'l, 'd, T> {
     }
 }
 
-// The label of a candidate, behind those of others, where there is room for its unit.
-fn prepare(labels: &mut Texts, candidate: &Candidate, room: bool) -> Result<(), AllocError>
-    ensures room { OnOk result (room ≡ true) }
-    ensures labels { OnOk result (labels.new ≡ labels.old ++ label_of candidate.now ∷ []) }
+fn add_label(labels: &mut Texts, candidate: &Candidate) -> Result<(), AllocError>
+    ensures { OnOk result (labels.new ≡ labels.old ++ label_of candidate.now ∷ []) }
 {
-    if !room {
-        return Err(AllocError);
-    }
     labels.push(label_of(candidate).copy()?)?;
     Ok(())
 }
 
-// The unit of one candidate more, where there is room for it, or the unit that was broken off.
+// The label of a candidate, behind those of others, where its unit is to be begun.
+fn prepare(labels: &mut Texts, candidate: &Candidate, barred: Option<Bar>) -> Result<(), Bar>
+    ensures barred { OnOk result (barred ≡ None) }
+    ensures abandoned { IfErr result (λ why. why ≡ bar.Abandoned → barred ≡ Some bar.Abandoned) }
+    ensures labels { OnOk result (labels.new ≡ labels.old ++ label_of candidate.now ∷ []) }
+{
+    match barred {
+        Some(bar) => Err(bar),
+        None => match add_label(labels, candidate) {
+            Ok(()) => Ok(()),
+            Err(_) => Err(Bar::NoRoom),
+        },
+    }
+}
+
+// The unit of one candidate more, or the unit that was broken off, as it is where it is not to be begun.
 fn take_unit<H: Host>(
     host: &mut H,
     administration: &mut Administration,
@@ -113,7 +124,7 @@ fn take_unit<H: Host>(
     candidate: Candidate,
     allowed: UnpackOptions,
     labels: &mut Texts,
-    room: bool,
+    barred: Option<Bar>,
 ) -> Result<Unit, Unit>
     requires order { Needs (H.state host.old)
         (IsInOrder administration.old.database administration.old.lists.lists) }
@@ -123,7 +134,7 @@ fn take_unit<H: Host>(
     ensures ok { IfOk result (λ unit. RunsUnit allowed candidate
         (held_by administration.old diversions.old) (held_by administration.new diversions.new)
         unit (H.state host.old) (H.state host.new)) }
-    ensures room { OnOk result (room ≡ true) }
+    ensures barred { OnOk result (barred ≡ None) }
     ensures order { OnOk result (Needs (H.state host.new)
         (IsInOrder administration.new.database administration.new.lists.lists)) }
     ensures open { OnOk result (IsOpen diversions.new.ways administration.new) }
@@ -139,12 +150,13 @@ fn take_unit<H: Host>(
     ensures counts { IfErr result (λ unit. CountsReply (H.state host.old) (H.state host.new)
         unit.reply) }
     ensures not_closed { IfErr result (λ unit. IsBrokenBy Closed unit.reply → ⊥) }
+    ensures abandoned { IfErr result (λ unit. IsBrokenBy Abandoned unit.reply
+        → barred ≡ Some bar.Abandoned) }
     ensures writable { StaysWritable diversions.old diversions.new }
     ensures labels { OnOk result (labels.new ≡ labels.old ++ label_of candidate ∷ []) }
 {
-    if prepare(labels, &candidate, room).is_err() {
-        let alloc = administration.alloc;
-        return Err(broken(alloc, Vec::new(alloc), Breakage::NoMemory));
+    if let Err(bar) = prepare(labels, &candidate, barred) {
+        return Err(barred_unit(administration.alloc, bar));
     }
     let unit = unit_of(host, administration, diversions, candidate, allowed);
     if is_broken(&unit) {
@@ -181,6 +193,8 @@ fn take_trees<H: Host, T: Trees, W: Watcher>(
     ensures told { TellsCalls (H.state host.old) (H.state host.new) result }
     ensures counts { CountsLast (H.state host.old) (H.state host.new) result.last }
     ensures not_closed { IfSome result.last (λ unit. IsBrokenBy Closed unit.reply → ⊥) }
+    ensures abandoned { IfSome result.last (λ unit. IsBrokenBy Abandoned unit.reply
+        → IsTrue (W.ends watcher.new)) }
     ensures order { IsNone result.last → Needs (H.state host.new)
         (IsInOrder administration.new.database administration.new.lists.lists) }
     ensures open { IsNone result.last → IsOpen unpacks.new.diversions.now.ways administration.new }
@@ -224,6 +238,8 @@ pub(crate) fn unpack_trees<H: Host, T: Trees, W: Watcher>(
     ensures told { TellsCalls (H.state host.old) (H.state host.new) result }
     ensures counts { CountsLast (H.state host.old) (H.state host.new) result.last }
     ensures not_closed { IfSome result.last (λ unit. IsBrokenBy Closed unit.reply → ⊥) }
+    ensures abandoned { IfSome result.last (λ unit. IsBrokenBy Abandoned unit.reply
+        → IsTrue (W.ends watcher.new)) }
     ensures order { IsNone result.last → Needs (H.state host.new)
         (IsInOrder administration.new.database administration.new.lists.lists) }
     ensures open { IsNone result.last → IsOpen diversions.new.ways administration.new }

@@ -26,9 +26,13 @@ told_words o = map (λ number. codes "--status-fd=" ++ number) o.status_fds ++ l
 abbrev pub changing_words : Text → Options → List Text
 changing_words name o = (own_words name o ++ cond o.no_act (codes "--dry-run" ∷ []) []) ++ told_words o
 
+-- how many units may fail
+abbrev pub limit_words : Options → List Text
+limit_words o = (codes "--abort-after=" ++ o.limit) ∷ []
+
 -- one that calls scripts: the triggers that are pending then are processed, or let be
 abbrev pub calling_words : Text → Options → List Text
-calling_words name o = changing_words name o ++ cond (not o.triggers) (codes "--no-triggers" ∷ []) []
+calling_words name o = (changing_words name o ++ cond (not o.triggers) (codes "--no-triggers" ∷ []) []) ++ limit_words o
 
 -- an edited conffile stays: by confdef, whatever else is forced, or by confold without confnew
 abbrev pub keeps : Forced → Bool
@@ -83,7 +87,7 @@ removing_words name o names = behind_dashes (depends_words o.forced (calling_wor
 
 -- `configure --triggers-only`, of all triggers that are pending
 abbrev pub triggering_words : Options → List Text
-triggering_words o = changing_words (codes "configure") o ++ codes "--triggers-only" ∷ []
+triggering_words o = (changing_words (codes "configure") o ++ codes "--triggers-only" ∷ []) ++ limit_words o
 
 -- the packages as dpkg's table
 abbrev pub listing_words : Options → List Text → List Text

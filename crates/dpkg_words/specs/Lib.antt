@@ -8,6 +8,6 @@ pub mod Reading
 pub mod Refusals
 pub mod Screens
 pub mod Selections
-pub mod StatusFd
+pub mod Numbers
 pub mod Translated
 pub mod Warnings

@@ -5,7 +5,7 @@ use Rattle.dpkg_words.specs.Cutting.{behind, cut_at}
 use Rattle.dpkg_words.specs.Forces.{nothing, thing_of, things_in, with_forced, with_idle}
 use Rattle.dpkg_words.specs.Options.{Text, letter_sense, long_sense}
 use Rattle.dpkg_words.specs.Picking.{all_taken}
-use Rattle.dpkg_words.specs.StatusFd.{is_descriptor}
+use Rattle.dpkg_words.specs.Numbers.{is_number}
 use Rattle.dpkg_words.specs.declared.forces.Thing.{Thing}
 use Rattle.dpkg_words.specs.declared.forces.Thing.TheVariants.{Downgrade, Idle}
 use Rattle.dpkg_words.specs.declared.options.Action.{Action}
@@ -22,7 +22,7 @@ use Rattle.dpkg_words.specs.declared.reading.Reading.{Reading}
 use Rattle.dpkg_words.specs.declared.refusals.Why.{Why}
 use Rattle.dpkg_words.specs.declared.refusals.Why.TheVariants as why
 
--- before the first word
+-- before the first word; as many as these may fail where no number is given
 abbrev pub start : Reading
 start = record {
   options = record {
@@ -37,6 +37,7 @@ start = record {
     triggers = true;
     status_fds = [];
     log = None;
+    limit = codes "50";
     picking = all_taken;
     forced = nothing;
     idle = [];
@@ -104,17 +105,23 @@ given valued.Instdir value o = with_instdir value o
 given valued.Admindir value o = with_admindir value o
 given valued.StatusFd value o = record o { status_fds = o.status_fds ++ value ∷ [] }
 given valued.Log value o = record o { log = Some value }
+given valued.AbortAfter value o = record o { limit = value }
 given valued.Idle value o = o
 
--- a descriptor is a number
+-- a descriptor is a number, and so is what tells how many may fail
 abbrev pub is_taken : Valued → Text → Bool
-is_taken valued.StatusFd value = is_descriptor value
+is_taken valued.StatusFd value = is_number value
+is_taken valued.AbortAfter value = is_number value
 is_taken _ value = true
+
+abbrev pub number_fault : Valued → Why
+number_fault valued.AbortAfter = why.Limit
+number_fault _ = why.Number
 
 abbrev pub with_value : Valued → Text → Reading → Reading
 with_value valued value r =
     if is_taken valued value then record r { options = given valued value r.options; wants = None }
-    else faulty why.Number value r
+    else faulty (number_fault valued) value r
 
 -- that an older version takes the place of a newer one is forced, unless it is refused
 abbrev pub with_downgrade : Bool → Options → Options

@@ -21,6 +21,7 @@ why_text why.ThreeWords = codes "VERSION OPERATOR VERSION are wanted behind "
 why_text why.Words = codes "no word is taken behind "
 why_text why.Pattern = codes "only a path or a pattern of * and ? can be searched for, and not "
 why_text why.Number = codes "invalid integer for --status-fd: "
+why_text why.Limit = codes "invalid integer for --abort-after: "
 
 abbrev pub fault_line : Why → Text → Text
 fault_line why word = codes "error: " ++ (why_text why ++ (shown word ++ codes "\n"))

@@ -1,6 +1,6 @@
 // The program's own words for what dpkg's ask for.
 ghost use Rattle.std.specs.Prelude.{◌≡◌, ◌++◌, ◌∷◌, [], IfOk, OnOk, codes, map, string_bytes};
-ghost use Rattle.dpkg_words.specs.Arguments.{asking_words, behind_dashes, calling_words, changing_words, conffile_words, configuring_words, depends_words, forced_words, is_plain, keeps, listing_words, log_words, own_words, plain_name, plain_names, removing_words, root_of, takes, told_words, tree_front, triggering_words};
+ghost use Rattle.dpkg_words.specs.Arguments.{asking_words, behind_dashes, calling_words, changing_words, conffile_words, configuring_words, depends_words, forced_words, is_plain, keeps, limit_words, listing_words, log_words, own_words, plain_name, plain_names, removing_words, root_of, takes, told_words, tree_front, triggering_words};
 
 use crate::forces::Forced;
 use crate::own_words::OwnWords;
@@ -90,12 +90,26 @@ pub(crate) fn changing_words(
     Ok(words)
 }
 
+fn limit_word(alloc: Global, limit: &str) -> Result<String, AllocError>
+    ensures { IfOk result (λ word. string_bytes word ≡ codes "--abort-after=" ++ limit.now) }
+{
+    format!(in alloc; "--abort-after={limit}")
+}
+
+// How many may fail.
+fn push_limit(alloc: Global, words: &mut OwnWords, options: &Options) -> Result<(), AllocError>
+    ensures { OnOk result (words.new ≡ words.old ++ limit_words options.now) }
+{
+    words.push(limit_word(alloc, options.limit.as_str())?.as_str())
+}
+
 // One that calls scripts. The triggers that are pending then are processed, or let be.
 fn calling_words(alloc: Global, name: &str, options: &Options) -> Result<OwnWords, AllocError>
     ensures { IfOk result (λ words. words ≡ calling_words name.now options.now) }
 {
     let mut words = changing_words(alloc, name, options)?;
     words.push_if(!options.triggers, "--no-triggers")?;
+    push_limit(alloc, &mut words, options)?;
     Ok(words)
 }
 
@@ -192,6 +206,7 @@ pub(crate) fn triggering_words(alloc: Global, options: &Options) -> Result<OwnWo
 {
     let mut words = changing_words(alloc, "configure", options)?;
     words.push("--triggers-only")?;
+    push_limit(alloc, &mut words, options)?;
     Ok(words)
 }
 

@@ -13,6 +13,7 @@
 mod arguments;
 mod forces;
 mod names;
+mod numbers;
 mod options;
 mod own_words;
 mod picking;
@@ -20,7 +21,6 @@ mod reading;
 mod refusals;
 mod screens;
 mod selections;
-mod status_fds;
 mod translation;
 mod warnings;
 mod words;

@@ -53,6 +53,7 @@ pub(crate) enum Valued {
     Admindir,
     StatusFd,
     Log,
+    AbortAfter,
     /// It changes nothing.
     Idle,
 }
@@ -149,7 +150,7 @@ fn valued_of(name: &str) -> Option<Valued>
         "status-fd" => Some(Valued::StatusFd),
         "status-logger" => Some(Valued::Idle),
         "log" => Some(Valued::Log),
-        "abort-after" => Some(Valued::Idle),
+        "abort-after" => Some(Valued::AbortAfter),
         "debug" => Some(Valued::Idle),
         _ => None,
     }

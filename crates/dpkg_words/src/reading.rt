@@ -2,13 +2,13 @@
 ghost use Rattle.std.specs.Prelude.{◌≡◌, IfOk, fold, map, option_map, string_bytes};
 ghost use Rattle.dpkg_words.specs.Options.{long_sense};
 ghost use Rattle.dpkg_words.specs.declared.options.Valued.TheVariants as valued;
-ghost use Rattle.dpkg_words.specs.Reading.{administration_of, attached, by_idle, by_sense, by_thing, faulty, front_of, given, in_place, is_taken, read_all, read_word, start, with_action, with_admindir, with_cut, with_debug, with_downgrade, with_flag, with_instdir, with_letter, with_long, with_option, with_other, with_root, with_short, with_thing, with_things, with_value, with_word};
+ghost use Rattle.dpkg_words.specs.Reading.{administration_of, attached, by_idle, by_sense, by_thing, faulty, front_of, given, in_place, is_taken, number_fault, read_all, read_word, start, with_action, with_admindir, with_cut, with_debug, with_downgrade, with_flag, with_instdir, with_letter, with_long, with_option, with_other, with_root, with_short, with_thing, with_things, with_value, with_word};
 
 use crate::forces::{Forced, Thing, push_idle, thing_of, things_in};
+use crate::numbers::is_number;
 use crate::options::{Action, Flag, Sense, Valued, letter_sense, long_sense};
 use crate::picking::Picking;
 use crate::refusals::Why;
-use crate::status_fds::is_descriptor;
 use crate::words::{behind, cut_at_equals};
 use std::alloc::{AllocError, Global};
 use texts::{Text, Texts};
@@ -31,6 +31,8 @@ pub(crate) struct Options {
     /// The descriptors on which a caller reads what is done.
     pub(crate) status_fds: Texts,
     pub(crate) log: Option<Text>,
+    /// How many units may fail, in decimal digits.
+    pub(crate) limit: Text,
     pub(crate) picking: Picking,
     pub(crate) forced: Forced,
     /// The names of the things that were forced and change nothing.
@@ -72,6 +74,7 @@ fn start(alloc: Global) -> Result<Reading, AllocError>
         triggers: true,
         status_fds: Texts::new(alloc),
         log: None,
+        limit: Text::from_str(alloc, "50")?,
         picking: Picking::none(),
         forced: Forced::none(),
         idle: Texts::new(alloc),
@@ -267,6 +270,13 @@ fn with_log(alloc: Global, file: &str, options: Options) -> Result<Options, Allo
     Ok(Options { log, ..options })
 }
 
+fn with_limit(alloc: Global, limit: &str, options: Options) -> Result<Options, AllocError>
+    ensures { IfOk result (λ o. o ≡ given valued.AbortAfter limit.now options) }
+{
+    let limit = Text::from_str(alloc, limit)?;
+    Ok(Options { limit, ..options })
+}
+
 fn given(
     alloc: Global,
     valued: Valued,
@@ -281,6 +291,7 @@ fn given(
         Valued::Admindir => with_admindir(alloc, value, options),
         Valued::StatusFd => with_status_fd(alloc, value, options),
         Valued::Log => with_log(alloc, value, options),
+        Valued::AbortAfter => with_limit(alloc, value, options),
         Valued::Idle => Ok(options),
     }
 }
@@ -289,8 +300,18 @@ fn is_taken(valued: Valued, value: &str) -> bool
     ensures { result ≡ is_taken valued value.now }
 {
     match valued {
-        Valued::StatusFd => is_descriptor(value),
+        Valued::StatusFd | Valued::AbortAfter => is_number(value),
         _ => true,
+    }
+}
+
+// What is wrong with a value that is no number.
+fn number_fault(valued: Valued) -> Why
+    ensures { result ≡ number_fault valued }
+{
+    match valued {
+        Valued::AbortAfter => Why::Limit,
+        _ => Why::Number,
     }
 }
 
@@ -304,7 +325,7 @@ fn with_value(
     ensures { IfOk result (λ r. r ≡ with_value valued value.now reading) }
 {
     if !is_taken(valued, value) {
-        return faulty(alloc, Why::Number, value, reading);
+        return faulty(alloc, number_fault(valued), value, reading);
     }
     let options = given(alloc, valued, value, reading.options)?;
     Ok(Reading {

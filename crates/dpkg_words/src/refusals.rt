@@ -25,6 +25,7 @@ pub(crate) enum Why {
     Words,
     Pattern,
     Number,
+    Limit,
 }
 
 fn why_text(why: Why) -> &'static str
@@ -45,6 +46,7 @@ fn why_text(why: Why) -> &'static str
         Why::Words => "no word is taken behind ",
         Why::Pattern => "only a path or a pattern of * and ? can be searched for, and not ",
         Why::Number => "invalid integer for --status-fd: ",
+        Why::Limit => "invalid integer for --abort-after: ",
     }
 }
 

@@ -23,13 +23,14 @@ const HELP: &str = "dpkg's words, carried out by coizkerra. Usage: [OPTION ..] A
   --no-triggers           triggers stay pending and aren't processed then; not so with --triggers
   --status-fd=N           what is done with each package is told on this descriptor, and its states
   --log=FILE              the same is added to FILE, with the time
+  --abort-after=N         behind N that failed no further one is begun; behind 50 if it isn't given
   -E, --skip-same-version, -G, --refuse-downgrade, -O, --selected-only
                           what of FILE.. is passed over
   --force-confold, --force-confdef, --force-confnew, --force-confmiss
   --force-depends         Depends and Pre-Depends are ignored where they can't be kept
 
 Taken, and without effect: other --force-X, which are told on standard error, other --refuse-X,
---no-pager, --no-debsig, --status-logger, --abort-after, -D.
+--no-pager, --no-debsig, --status-logger, -D.
 What is printed are coizkerra's own lines: coizkerra help.
 ";
 

@@ -85,10 +85,10 @@ losing_named lists (n ∷ names) l (suc k, lt, at) = Contains-append_right (n �
 
 module _ (p : Package) (beside : Beside) (before : Held) (q : Path) where
   -- by the rows of other packages that the unit has
-  at_place : (others : List OtherPackage) → IsHeldPlace (given_by p before [] (all_yielding p beside before)) q → IsHeldPlace (given_by p before others (all_yielding p beside before)) q
+  at_place : (others : List OtherPackage) → IsHeldPlace (given_by p before before.ways [] (all_yielding p beside before)) q → IsHeldPlace (given_by p before before.ways others (all_yielding p beside before)) q
   at_place others place = record { held = place.held; stays = place.stays }
 
-  in_engine : (others : List OtherPackage) (w : World) → IsHeldFile p beside before w q → IsHeldIn (given_by p before others (all_yielding p beside before)) (places_of before) w q
+  in_engine : (others : List OtherPackage) (w : World) → IsHeldFile p beside before w q → IsHeldIn (given_by p before before.ways others (all_yielding p beside before)) (places_of before) w q
   in_engine others w held = record {
     place = at_place others held.place;
     packaged = held.packaged;
@@ -96,7 +96,7 @@ module _ (p : Package) (beside : Beside) (before : Held) (q : Path) where
     kept = owner_kept before.ways p.name q before.lists (other_owner before.ways before.lists p.name q held.place.held);
   }
 
-  module _ (packaged : IsPackagePlace q) (place : IsHeldPlace (given_by p before [] (all_yielding p beside before)) q) where
+  module _ (packaged : IsPackagePlace q) (place : IsHeldPlace (given_by p before before.ways [] (all_yielding p beside before)) q) where
     abbrev x : Listed
     x = place.held.owner
 
@@ -117,24 +117,28 @@ module _ (p : Package) (beside : Beside) (before : Held) (q : Path) where
         displaced_passes q packaged before.ways x p.name p.version (losing_beside before.lists beside) beside.conflicting displaced (not_losing before.lists) not_conflicting failed (holding_of mid) (holding_of after) m t told now owns
         (subst (λ (v : Ways). HaveBeenDisplaced p.name p.version v (losing_beside before.lists beside) beside.conflicting displaced failed (holding_of mid) (holding_of after) m t told now) ways has)
 
-  module _ (after : Held) (u : AUnit) (s t : State) (unit : IsUnpacked p beside before after u s t) where
+  module _ (after : Held) (u : AUnit) (s t : State) (unit : IsUnpacked p beside before after u s t) (same : after.ways ≡ before.ways) where
     abbrev whole : HasUnpackedWhole p beside before unit.unwinding unit.displaced unit.failed after s t [] u.calls.items
     whole = unit.unpacked
 
-    mid_owns : (packaged : IsPackagePlace q) (place : IsHeldPlace (given_by p before [] (all_yielding p beside before)) q) → Owns before.ways q place.held.owner whole.lists
-    mid_owns packaged place =
-        unit_owns (given_by p before whole.unpacked.others (all_yielding p beside before)) (places_of before) q place.held.owner place.held.lies place.held.other place.stays (ended_as unit.unwinding) whole.records whole.lists s whole.m [] whole.between whole.unpacked.unpacked
+    -- its files went by the diversions of before
+    abbrev by_before : HasUnpackedBeside p beside before before.ways (places_of before) unit.unwinding whole.records whole.lists s whole.m [] whole.between
+    by_before = subst (λ (v : Ways). HasUnpackedBeside p beside before v (places_of before) unit.unwinding whole.records whole.lists s whole.m [] whole.between) same whole.unpacked
 
-    passes : (packaged : IsPackagePlace q) (place : IsHeldPlace (given_by p before [] (all_yielding p beside before)) q) → Passes q before.ways place.held.owner (holding_of after) whole.m t
+    mid_owns : (packaged : IsPackagePlace q) (place : IsHeldPlace (given_by p before before.ways [] (all_yielding p beside before)) q) → Owns before.ways q place.held.owner whole.lists
+    mid_owns packaged place =
+        unit_owns (given_by p before before.ways by_before.others (all_yielding p beside before)) (places_of before) q place.held.owner place.held.lies place.held.other place.stays (ended_as unit.unwinding) whole.records whole.lists s whole.m [] whole.between by_before.unpacked
+
+    passes : (packaged : IsPackagePlace q) (place : IsHeldPlace (given_by p before before.ways [] (all_yielding p beside before)) q) → Passes q before.ways place.held.owner (holding_of after) whole.m t
     passes packaged place =
-        behind packaged place unit.unwinding unit.displaced unit.failed (held_with before whole.records whole.lists) after whole.m t whole.between u.calls.items refl (mid_owns packaged place) whole.behind
+        behind packaged place unit.unwinding unit.displaced unit.failed (held_with after.ways whole.records whole.lists) after whole.m t whole.between u.calls.items same (mid_owns packaged place) whole.behind
 
     pub unit_keeps : IsTrue t.honest → IsHeldFile p beside before s.world q → t.world q ≡ s.world q
     unit_keeps honest held =
         let passed = passes held.packaged held.place in
         passed.leaves honest
-        ∙ unit_leaves (given_by p before whole.unpacked.others (all_yielding p beside before)) (places_of before) (ended_as unit.unwinding) whole.records whole.lists s whole.m [] whole.between q whole.unpacked.unpacked (passed.honest honest)
-        (in_engine whole.unpacked.others s.world held)
+        ∙ unit_leaves (given_by p before before.ways by_before.others (all_yielding p beside before)) (places_of before) (ended_as unit.unwinding) whole.records whole.lists s whole.m [] whole.between q by_before.unpacked (passed.honest honest)
+        (in_engine by_before.others s.world held)
 
     pub unit_has : (held : IsHeldFile p beside before s.world q) → Has after q held.place.held.owner
-    unit_has held = subst (λ (v : Ways). Owns v q held.place.held.owner after.lists) (sym unit.ways) ((passes held.packaged held.place).owns)
+    unit_has held = subst (λ (v : Ways). Owns v q held.place.held.owner after.lists) (sym same) ((passes held.packaged held.place).owns)

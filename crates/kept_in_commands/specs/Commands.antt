@@ -18,7 +18,7 @@ Has h q owner = Contains (owners_of h.ways h.lists q) owner
 -- A file or link stands at the place of a package other than the one that is unpacked, which doesn't yield to it: it isn't one of
 -- which only conffiles are left, neither replaced by it nor removed in its favour, and none of which it takes obsolete conffiles alone.
 pub record IsHeldFile (p : Package) (beside : Beside) (h : Held) (w : World) (q : Path) : Type 0 where
-  pub place : IsHeldPlace (given_by p h [] (all_yielding p beside h)) q
+  pub place : IsHeldPlace (given_by p h h.ways [] (all_yielding p beside h)) q
   pub packaged : IsPackagePlace q
   pub stands : IsLoose (w q)
 

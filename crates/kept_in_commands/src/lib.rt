@@ -5,8 +5,9 @@
 //! # What is proved
 //!
 //! A file or link at a place of a package stands as before behind the whole unit that unpacks
-//! another one, whatever that displaces, unless the first one yields; and what stands at a place of
-//! a package that a removal or a purge doesn't name stands as before behind the whole command.
+//! another one, whatever that displaces, unless the first one yields, where the unit's scripts left
+//! the table of diversions alone; and what stands at a place of a package that a removal or a purge
+//! doesn't name stands as before behind the whole command.
 #![tactic(auto)]
 
 mod removals;

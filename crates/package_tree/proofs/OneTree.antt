@@ -38,7 +38,7 @@ use Rattle.package_tree.specs.declared.fault.FieldName.{FieldName}
 use Rattle.package_tree.specs.declared.fault.FieldName.TheVariants as field
 use Rattle.relation_fields.specs.declared.relation_field.RelationField.{RelationField}
 use Rattle.package_tree.specs.declared.fault.TreeFault.{TreeFault}
-use Rattle.package_tree.specs.declared.fault.TreeFault.TheVariants.{Twice, NoControl, Control, FieldMissing, FieldBad, PathBad, Reserved, ConffileNotShipped, ConffileShipped, ConffileFlag, TooLarge, Device, NoMemory, Declined}
+use Rattle.package_tree.specs.declared.fault.TreeFault.TheVariants.{Twice, NoRoom, NoControl, Control, FieldMissing, FieldBad, PathBad, Reserved, ConffileNotShipped, ConffileShipped, ConffileFlag, TooLarge, Device, NoMemory, Declined}
 use Rattle.package_tree.proofs.Ordered.{none_in, first_or_later, same_list}
 use Rattle.package_tree.proofs.FieldsOnce.{lacked, one_value, not_bad, not_lacked}
 use Rattle.package_tree.proofs.OneStated.{stated_once}
@@ -74,6 +74,7 @@ first_of_none P entries number entry all first = none_of P first.front first.res
 
 pub no_fault : (w : World) (p : Package) (fault : TreeFault) → IsTreeOf w p → IsTreeFault w fault → ⊥
 no_fault w p Twice t wrong = wrong
+no_fault w p (NoRoom path) t wrong = wrong
 no_fault w p NoControl t wrong = wrong t.text t.there
 no_fault w p (Control fault) t wrong = wrong.2.1 (no_fault_of_one (lines_of t.text) p.control fault t.control.reads (subst (λ (b : List ℕ). IsFaultOfOne (lines_of b) fault) (one_text w wrong.0 t.text wrong.1 t.there) wrong.2.0))
 no_fault w p (FieldMissing field.Package) t wrong =

@@ -8,7 +8,7 @@ use Rattle.host_core.proofs.Counted.{declined_then, no_fault_then}
 use Rattle.package_tree.specs.Fault.{CountsTree}
 use Rattle.package_tree.specs.ControlFile.{IsFieldFault, IsTextFault}
 use Rattle.package_tree.specs.declared.fault.TreeFault.{TreeFault}
-use Rattle.package_tree.specs.declared.fault.TreeFault.TheVariants.{Twice, NoControl, Control, FieldMissing, FieldBad, PathBad, Reserved, ConffileNotShipped, ConffileShipped, ConffileFlag, TooLarge, Device, NoMemory, Declined}
+use Rattle.package_tree.specs.declared.fault.TreeFault.TheVariants.{Twice, NoRoom, NoControl, Control, FieldMissing, FieldBad, PathBad, Reserved, ConffileNotShipped, ConffileShipped, ConffileFlag, TooLarge, Device, NoMemory, Declined}
 
 -- it is that of the call
 pub passed_fault : {T : Type 0} (P : TreeFault → Type 0) (r : Result T TreeFault) (fault : TreeFault) → IsErrAnd r (λ e. e ≡ fault) → P fault → IfErr r P
@@ -18,6 +18,7 @@ passed_fault P (Err e) fault passed told = subst P (sym passed) told
 -- a fault of the fields is one of the text that has them
 pub told_fields : (text : List ℕ) (paragraph : List Field) (fault : TreeFault) → ReadsOne (lines_of text) paragraph → IsFieldFault paragraph fault → IsTextFault text fault
 told_fields text paragraph Twice reads is = absurd is
+told_fields text paragraph (NoRoom path) reads is = absurd is
 told_fields text paragraph NoControl reads is = absurd is
 told_fields text paragraph (Control fault) reads is = absurd is
 told_fields text paragraph (FieldMissing name) reads is = (paragraph, reads, is)
@@ -35,6 +36,7 @@ told_fields text paragraph Declined reads is = absurd is
 -- The counts of a fault are those since an earlier state from which none was counted.
 counts_since : (T U : Type 0) (a b c : State) (fault : TreeFault) → NoFault a b → CountsTree {T = T} b c (Err fault) → CountsTree {T = U} a c (Err fault)
 counts_since T U a b c Twice same told = no_fault_then a b c same told
+counts_since T U a b c (NoRoom path) same told = no_fault_then a b c same told
 counts_since T U a b c NoControl same told = no_fault_then a b c same told
 counts_since T U a b c (Control fault) same told = no_fault_then a b c same told
 counts_since T U a b c (FieldMissing name) same told = no_fault_then a b c same told

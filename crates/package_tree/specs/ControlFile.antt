@@ -99,6 +99,7 @@ IsFirstBad (Relation relation) paragraph = ((name : List ℕ) × HasValue Packag
 -- what is wrong with a paragraph's fields
 abbrev pub IsFieldFault : List Field → TreeFault → Type 0
 IsFieldFault paragraph tree.Twice = ⊥
+IsFieldFault paragraph (tree.NoRoom path) = ⊥
 IsFieldFault paragraph tree.NoControl = ⊥
 IsFieldFault paragraph (tree.Control fault) = ⊥
 IsFieldFault paragraph (tree.FieldMissing name) = IsMissing name paragraph
@@ -121,6 +122,7 @@ pub record IsControlText (text : List ℕ) (paragraph : List Field) (name versio
 -- what is wrong with the text of a control file
 abbrev pub IsTextFault : List ℕ → TreeFault → Type 0
 IsTextFault text tree.Twice = ⊥
+IsTextFault text (tree.NoRoom path) = ⊥
 IsTextFault text tree.NoControl = ⊥
 IsTextFault text (tree.Control fault) = IsFaultOfOne (lines_of text) fault × (fault ≢ control.NoMemory)
 IsTextFault text (tree.FieldMissing name) = (paragraph : List Field) × ReadsOne (lines_of text) paragraph × IsMissing name paragraph

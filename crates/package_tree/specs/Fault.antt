@@ -4,7 +4,7 @@ use Rattle.host_core.specs.Host.{State, faults, HasFailed, NoFault, HasDeclined}
 use Rattle.host_core.specs.declared.fault.HostFault.{HostFault}
 use Rattle.host_core.specs.declared.fault.HostFault.TheVariants as host
 use Rattle.package_tree.specs.declared.fault.TreeFault.{TreeFault}
-use Rattle.package_tree.specs.declared.fault.TreeFault.TheVariants.{Twice, NoControl, Control, FieldMissing, FieldBad, PathBad, Reserved, ConffileNotShipped, ConffileShipped, ConffileFlag, TooLarge, Device, NoMemory, Declined}
+use Rattle.package_tree.specs.declared.fault.TreeFault.TheVariants.{Twice, NoRoom, NoControl, Control, FieldMissing, FieldBad, PathBad, Reserved, ConffileNotShipped, ConffileShipped, ConffileFlag, TooLarge, Device, NoMemory, Declined}
 
 abbrev pub fault_of : HostFault → TreeFault
 fault_of host.Device = Device
@@ -15,6 +15,7 @@ fault_of host.Declined = Declined
 abbrev pub CountsTree : {T : Type 0} → State → State → Result T TreeFault → Type 0
 CountsTree old new (Ok x) = NoFault old new
 CountsTree old new (Err Twice) = NoFault old new
+CountsTree old new (Err (NoRoom path)) = NoFault old new
 CountsTree old new (Err NoControl) = NoFault old new
 CountsTree old new (Err (Control fault)) = NoFault old new
 CountsTree old new (Err (FieldMissing name)) = NoFault old new
@@ -32,6 +33,7 @@ CountsTree old new (Err Declined) = HasDeclined old new
 -- no fault of the tree: the device failed, or memory was refused
 abbrev pub IsHostFault : TreeFault → Type 0
 IsHostFault Twice = ⊥
+IsHostFault (NoRoom path) = ⊥
 IsHostFault NoControl = ⊥
 IsHostFault (Control fault) = ⊥
 IsHostFault (FieldMissing name) = ⊥

@@ -18,7 +18,7 @@ use Rattle.package_tree.specs.Shipped.{HasNoPath, IsFirstPath, IsReserved}
 use Rattle.package_tree.specs.declared.conffile_lines.Entry.TheVariants.{Plain, Flagged}
 use Rattle.package_tree.specs.declared.package.Package.{Package}
 use Rattle.package_tree.specs.declared.fault.TreeFault.{TreeFault}
-use Rattle.package_tree.specs.declared.fault.TreeFault.TheVariants.{Twice, NoControl, Control, FieldMissing, FieldBad, PathBad, Reserved, ConffileNotShipped, ConffileShipped, ConffileFlag, TooLarge, Device, NoMemory, Declined}
+use Rattle.package_tree.specs.declared.fault.TreeFault.TheVariants.{Twice, NoRoom, NoControl, Control, FieldMissing, FieldBad, PathBad, Reserved, ConffileNotShipped, ConffileShipped, ConffileFlag, TooLarge, Device, NoMemory, Declined}
 
 -- the tree's control file has this text
 abbrev pub HasControl : World → List ℕ → Type 0
@@ -57,6 +57,7 @@ HasControlFault w fault = (text : List ℕ) × HasControl w text × IsTextFault 
 -- the tree has this fault, and none that is looked for before it; the host's faults are none of the tree
 abbrev pub IsTreeFault : World → TreeFault → Type 0
 IsTreeFault w Twice = ⊥
+IsTreeFault w (NoRoom path) = ⊥
 IsTreeFault w NoControl = (text : List ℕ) → HasControl w text → ⊥
 IsTreeFault w (Control fault) = HasControlFault w (Control fault)
 IsTreeFault w (FieldMissing name) = HasControlFault w (FieldMissing name)

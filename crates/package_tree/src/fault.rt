@@ -48,6 +48,10 @@ pub enum TreeFault {
     /// reading of a tree never does.
     #[error("Twice")]
     Twice,
+    /// An archive can't be unpacked at this path for want of room. Who opens the trees of a command
+    /// tells it; the reading of a tree never does.
+    #[error("Declined {0}")]
+    NoRoom(RootPath),
     /// No file stands at `DEBIAN/control`.
     #[error("NoControl")]
     NoControl,
@@ -95,6 +99,7 @@ impl TreeFault {
     {
         match self {
             TreeFault::Twice => Ok(TreeFault::Twice),
+            TreeFault::NoRoom(path) => Ok(TreeFault::NoRoom(path.copy()?)),
             TreeFault::NoControl => Ok(TreeFault::NoControl),
             TreeFault::Control(fault) => Ok(TreeFault::Control(*fault)),
             TreeFault::FieldMissing(name) => Ok(TreeFault::FieldMissing(*name)),

@@ -1,5 +1,5 @@
 -- What a note of a change leaves, and its moments.
-use Rattle.std.proofs.Common.{◌≡◌, ◌⊎◌, inl, inr, ℕ, List, [], Some, sym, subst, ◌∙◌}
+use Rattle.std.proofs.Common.{◌≡◌, ◌⊎◌, inl, inr, ℕ, List, [], Some, sym, subst}
 use Rattle.host_core.specs.Events.{scripts_of}
 use Rattle.host_core.specs.Host.{State, AtEachMoment, AtEachMomentOf, NoFault, Silent}
 use Rattle.host_core.proofs.Moments.{since_weaker}
@@ -8,9 +8,10 @@ use Rattle.status_db.specs.Noting.{IsNoting}
 use Rattle.status_records.specs.Records.{put_record}
 use Rattle.status_records.specs.declared.record.Record.{Record}
 use Rattle.unit_reports.specs.Held.{Held}
-use Rattle.unit_reports.proofs.Counting.{counts_no_memory, no_memory_not_closed}
-use Rattle.unit_reports.specs.Units.{CountsReply, IsBroken, IsBrokenBy}
-use Rattle.unit_reports.specs.declared.report.Breakage.TheVariants.{Closed, NoMemory}
+use Rattle.unit_reports.proofs.Counting.{counts_no_memory, no_memory_within}
+use Rattle.unit_reports.specs.Units.{CountsReply, IsBroken, IsBrokenBy, IsFromBefore, IsRefusedUnit}
+use Rattle.unit_reports.specs.declared.refusal.Rule.{Rule}
+use Rattle.unit_reports.specs.declared.report.Breakage.TheVariants.{NoMemory}
 use Rattle.unit_reports.specs.declared.report.Reply.{Reply}
 use Rattle.unit_reports.specs.declared.report.Unit.{Unit as AUnit}
 use Rattle.record_changes.specs.Activated.{changed}
@@ -41,14 +42,21 @@ pub noted_counts : (asked : RecordChange) (records : List Record) (u : AUnit) (a
 noted_counts asked records u a b same (inl broken) = counts_no_memory u.reply a b same broken
 noted_counts asked records u a b same (inr is) = subst (CountsReply a b) (sym is.replied) (reply_counts asked.name asked.change a b same)
 
-reply_not_closed : (name : List ℕ) (asked : Change) → IsBrokenBy Closed (reply_by name asked) → ⊥
-reply_not_closed name (change.Want want) closed = cc
-reply_not_closed name (change.Activate names) closed = cc
-reply_not_closed name (change.Abandon trigger) closed = cc
+reply_within : (name : List ℕ) (asked : Change) → IsFromBefore (reply_by name asked) → ⊥
+reply_within name (change.Want want) before = before
+reply_within name (change.Activate names) before = before
+reply_within name (change.Abandon trigger) before = before
 
-pub noted_not_closed : (asked : RecordChange) (records : List Record) (u : AUnit) → IsBrokenBy NoMemory u.reply ⊎ IsAnsweredBy (reply_to asked) asked.name records u → IsBrokenBy Closed u.reply → ⊥
-noted_not_closed asked records u (inl broken) closed = no_memory_not_closed u.reply broken closed
-noted_not_closed asked records u (inr is) closed = reply_not_closed asked.name asked.change (sym is.replied ∙ closed)
+pub answered_within : (reply : Reply) (name : List ℕ) (records : List Record) (u : AUnit) → (IsFromBefore reply → ⊥) → IsBrokenBy NoMemory u.reply ⊎ IsAnsweredBy reply name records u → IsFromBefore u.reply → ⊥
+answered_within reply name records u within (inl broken) before = no_memory_within u.reply broken before
+answered_within reply name records u within (inr is) before = within (subst IsFromBefore is.replied before)
+
+pub noted_within : (asked : RecordChange) (records : List Record) (u : AUnit) → IsBrokenBy NoMemory u.reply ⊎ IsAnsweredBy (reply_to asked) asked.name records u → IsFromBefore u.reply → ⊥
+noted_within asked records u either = answered_within (reply_to asked) asked.name records u (reply_within asked.name asked.change) either
+
+pub refused_within : (rule : Rule) (name : List ℕ) (u : AUnit) → IsBrokenBy NoMemory u.reply ⊎ IsRefusedUnit rule name u → IsFromBefore u.reply → ⊥
+refused_within rule name u (inl broken) before = no_memory_within u.reply broken before
+refused_within rule name u (inr is) before = subst IsFromBefore is.reply before
 
 -- broken off, or what is done
 pub broken_or : {P Q : Type 0} (reply : Reply) → (P → Q) → IsBrokenBy NoMemory reply ⊎ P → IsBroken reply ⊎ Q

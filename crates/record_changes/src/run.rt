@@ -1,5 +1,5 @@
 // All changes of a command.
-ghost use Rattle.std.specs.Prelude.{IfSome, IsNone};
+ghost use Rattle.std.specs.Prelude.{IfSome, IsNone, IsTrue};
 ghost use Rattle.held_administration.specs.Open.{IsOpen};
 ghost use Rattle.held_administration.specs.Order.{IsInOrder};
 ghost use Rattle.host_core.specs.Host.{Needs, Silent, Since};
@@ -9,7 +9,7 @@ ghost use Rattle.record_changes.specs.Run.{HasRun, IsAmidRun, IsChangeRun};
 ghost use Rattle.unit_reports.specs.Held.{held_by};
 ghost use Rattle.unit_reports.specs.Units.{CountsLast, IsBrokenBy, TellsCalls};
 ghost use Rattle.unit_reports.specs.Watching.{IsTold};
-ghost use Rattle.unit_reports.specs.declared.report.Breakage.TheVariants.{Closed};
+ghost use Rattle.unit_reports.specs.declared.report.Breakage.TheVariants.{Abandoned, Closed};
 
 use crate::change::RecordChange;
 use crate::turns::Changing;
@@ -45,6 +45,8 @@ pub fn change_records<H: Host, W: Watcher>(
     ensures silent { Silent (H.state host.old) (H.state host.new) }
     ensures counts { CountsLast (H.state host.old) (H.state host.new) result.last }
     ensures not_closed { IfSome result.last (λ unit. IsBrokenBy Closed unit.reply → ⊥) }
+    ensures abandoned { IfSome result.last (λ unit. IsBrokenBy Abandoned unit.reply
+        → IsTrue (W.ends watcher.new)) }
     ensures order { IsNone result.last → Needs (H.state host.new)
         (IsInOrder administration.new.database administration.new.lists.lists) }
     ensures open { IsNone result.last → IsOpen diversions.now.ways administration.new }

@@ -5,7 +5,7 @@ use diversions::Diversions;
 use held_administration::Administration;
 use host_core::Host;
 use unit_reports::Unit;
-use unit_runs::Turns;
+use unit_runs::{Bar, Turns};
 
 /// The changes of a command, and how many of them were taken. The diversions are those of the root.
 #[derive(Drop)]
@@ -50,10 +50,10 @@ impl<'d, H: Host> Turns<H> for Changing<'d> {
         &mut self,
         host: &mut H,
         administration: &mut Administration,
-        room: bool,
+        barred: Option<Bar>,
     ) -> Result<Option<Unit>, Unit> {
         match self.changes.as_slice().get(self.next) {
-            Some(asked) => match change_one(host, administration, asked, room) {
+            Some(asked) => match change_one(host, administration, asked, barred) {
                 Ok(unit) => {
                     self.next += 1;
                     Ok(Some(unit))

@@ -1,5 +1,5 @@
 // One change.
-ghost use Rattle.std.specs.Prelude.{◌≡◌, ◌⊎◌, [], ◌∷◌, true, IfErr, IfOk, OnOk};
+ghost use Rattle.std.specs.Prelude.{◌≡◌, ◌⊎◌, [], ◌∷◌, IfErr, IfOk, None, OnOk, Some};
 ghost use Rattle.diversions.specs.Diverted.{Diverted};
 ghost use Rattle.held_administration.specs.Open.{CanWrite};
 ghost use Rattle.held_administration.specs.Order.{IsInOrder};
@@ -8,10 +8,11 @@ ghost use Rattle.record_changes.specs.Taking.{HasDecided, MakesChange, packages_
 ghost use Rattle.record_changes.specs.Units.{IsAmidChange, IsAnsweredBy, reply_to};
 ghost use Rattle.record_changes.specs.declared.units.Decided.TheVariants.{Changed};
 ghost use Rattle.unit_reports.specs.Held.{held_by};
-ghost use Rattle.unit_reports.specs.Units.{CountsReply, IsBroken, IsBrokenBy, IsRefusedUnit, TellsNoPackage, touched_at};
+ghost use Rattle.unit_reports.specs.Units.{CountsReply, IsBroken, IsBrokenBy, IsFromBefore, IsRefusedUnit, TellsNoPackage, touched_at};
 ghost use Rattle.unit_reports.specs.declared.refusal.Rule.TheVariants.{Unknown};
-ghost use Rattle.unit_reports.specs.declared.report.Breakage.TheVariants.{Closed, NoMemory};
+ghost use Rattle.unit_reports.specs.declared.report.Breakage.TheVariants.{Abandoned, Closed, NoMemory};
 ghost use Rattle.unit_reports.specs.declared.report.Reply.TheVariants.{Done};
+ghost use Rattle.unit_runs.specs.declared.barring.Bar.TheVariants as bar;
 
 use crate::change::{Change, RecordChange};
 use crate::changed::{changed, is_made};
@@ -26,6 +27,7 @@ use unit_reports::{
     Breakage, Cycle, Reply, Rule, Touched, Unit, breakage_of, broken, is_broken, refused,
     touched_at,
 };
+use unit_runs::{Bar, barred_unit};
 
 /// What is to be done of a change.
 #[derive(Drop)]
@@ -173,7 +175,7 @@ fn note<H: Host>(
     ensures any_moment { (diverted : Diverted) → AtEachMomentOf (IsAmidChange asked.now
         (held_by administration.old diverted)) (H.state host.old) (H.state host.new) }
     ensures counts { CountsReply (H.state host.old) (H.state host.new) result.reply }
-    ensures not_closed { IsBrokenBy Closed result.reply → ⊥ }
+    ensures not_closed { IsFromBefore result.reply → ⊥ }
 {
     administration.database.law();
     let alloc = administration.alloc;
@@ -203,7 +205,7 @@ fn change_named<H: Host>(
     ensures any_moment { (diverted : Diverted) → AtEachMomentOf (IsAmidChange asked.now
         (held_by administration.old diverted)) (H.state host.old) (H.state host.new) }
     ensures counts { CountsReply (H.state host.old) (H.state host.new) result.reply }
-    ensures not_closed { IsBrokenBy Closed result.reply → ⊥ }
+    ensures not_closed { IsFromBefore result.reply → ⊥ }
 {
     let alloc = administration.alloc;
     match decide(alloc, &administration.database, asked) {
@@ -214,19 +216,19 @@ fn change_named<H: Host>(
     }
 }
 
-/// The unit of a change, or the unit that was broken off, as it is where there is no room for it.
+/// The unit of a change, or the unit that was broken off, as it is where it isn't to be begun.
 pub(crate) fn change_one<H: Host>(
     host: &mut H,
     administration: &mut Administration,
     asked: &RecordChange,
-    room: bool,
+    barred: Option<Bar>,
 ) -> Result<Unit, Unit>
     requires writes { CanWrite administration.old }
     requires order { Needs (H.state host.old)
         (IsInOrder administration.old.database administration.old.lists.lists) }
     ensures ok { IfOk result (λ unit. MakesChange asked.now administration.old administration.new
         unit (H.state host.old) (H.state host.new)) }
-    ensures room { OnOk result (room ≡ true) }
+    ensures barred { OnOk result (barred ≡ None) }
     ensures err { IfErr result (λ unit. IsBroken unit.reply × TellsNoPackage unit) }
     ensures told { IfOk result (λ unit. unit.calls.items ≡ []) }
     ensures told_broken { IfErr result (λ unit. unit.calls.items ≡ []) }
@@ -237,9 +239,11 @@ pub(crate) fn change_one<H: Host>(
     ensures counts { IfErr result (λ unit. CountsReply (H.state host.old) (H.state host.new)
         unit.reply) }
     ensures not_closed { IfErr result (λ unit. IsBrokenBy Closed unit.reply → ⊥) }
+    ensures abandoned { IfErr result (λ unit. IsBrokenBy Abandoned unit.reply
+        → barred ≡ Some bar.Abandoned) }
 {
-    if !room {
-        return Err(no_memory(administration.alloc));
+    if let Some(bar) = barred {
+        return Err(barred_unit(administration.alloc, bar));
     }
     let unit = change_named(host, administration, asked);
     if is_broken(&unit) {

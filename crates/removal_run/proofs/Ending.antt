@@ -13,7 +13,7 @@ use Rattle.relation_index.specs.declared.package.Package.{Package}
 use Rattle.unit_reports.proofs.Telling.{calls_both}
 use Rattle.unit_reports.specs.Held.{Held}
 use Rattle.unit_reports.specs.Units.{CountsLast, IsBrokenBy, calls_of, last_calls}
-use Rattle.unit_reports.specs.declared.report.Breakage.TheVariants.{Closed}
+use Rattle.unit_reports.specs.declared.report.Breakage.TheVariants.{Abandoned, Closed}
 use Rattle.unit_reports.specs.declared.report.Unit.{Unit as AUnit}
 use Rattle.undo_rows.specs.Transcript.{TellsAll}
 use Rattle.removal_run.specs.LeftOver.{AreAllTold, AreLeftOver}
@@ -25,7 +25,7 @@ use Rattle.removal_run.proofs.Overleft.{depended_calls}
 use Rattle.removal_run.proofs.Removals.{silent_here}
 use Rattle.removal_run.proofs.Replies.{broken_by}
 use Rattle.removal_run.proofs.Turning.{since_next_start}
-use Rattle.unit_reports.proofs.Counting.{counts_no_memory, no_memory_not_closed}
+use Rattle.unit_reports.proofs.Counting.{counts_no_memory, no_memory_not_abandoned, no_memory_not_closed}
 
 left_over : (ignore : Bool) (packages : List Package) (now : List Record) (waiting : List (List ℕ)) (q : Waiting) (us : List AUnit) → IsNothing ignore packages now waiting q → AreAllTold q us → AreLeftOver ignore packages now waiting us
 left_over ignore packages now waiting q us nothing told = record { queue = q; is = nothing.queue; nobody = nothing.nobody; told = told }
@@ -91,6 +91,10 @@ ending_counts q mid us (Some u) s t same ends = counts_no_memory u.reply s t sam
 pub ending_not_closed : (q : Waiting) (mid us : List AUnit) (last : Option AUnit) → EndsWith q mid us last → IfSome last (λ u. IsBrokenBy Closed u.reply → ⊥)
 ending_not_closed q mid us None ends = tt
 ending_not_closed q mid us (Some u) ends = no_memory_not_closed u.reply ends.1.broken
+
+pub ending_not_abandoned : (P : Type 0) (q : Waiting) (mid us : List AUnit) (last : Option AUnit) → EndsWith q mid us last → IfSome last (λ u. IsBrokenBy Abandoned u.reply → P)
+ending_not_abandoned P q mid us None ends = tt
+ending_not_abandoned P q mid us (Some u) ends = λ abandoned. absurd (no_memory_not_abandoned u.reply ends.1.broken abandoned)
 
 -- where one was broken off
 pub stopped_up_to : (options : RemovalOptions) (packages : List Package) (names : List (List ℕ)) (begun us : List AUnit) (before : Held) (s t : State) (u : AUnit) → ArePackagesOf before.records.records packages → HasStopped options packages names before s t begun us u

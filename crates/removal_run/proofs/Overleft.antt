@@ -1,7 +1,7 @@
 -- On those that are left over another package depends.
 use Rattle.std.proofs.Common.{◌≡◌, ◌≢◌, ◌<◌, ◌⊎◌, inl, inr, ℕ, zero, suc, Bool, true, false, List, [], ◌∷◌, ◌++◌, Option, Some, None, length, get_or, nat_eq, refl, sym, ap, subst, ◌∙◌, arith}
 use Rattle.std.specs.Prelude.{IsTrue, MatchOption}
-use Rattle.std.specs.List.{Contains}
+use Rattle.std.specs.List.{AllByRecursion, Contains}
 use Rattle.std.proofs.lemmas.Bool.{true≢false, eqb-true, eq-eqb}
 use Rattle.std.proofs.lemmas.List.{get_or_default}
 use Rattle.dependency_check.specs.Left.{DependsOnLeft}
@@ -12,7 +12,7 @@ use Rattle.dependency_sets.specs.Sets.{has, stays}
 use Rattle.relation_fields.specs.declared.alternative.Alternative.{Alternative}
 use Rattle.relation_index.specs.Packages.{meets, Meets, States}
 use Rattle.relation_index.specs.declared.package.Package.{Package}
-use Rattle.unit_reports.specs.Units.{IsRefusedUnit, calls_of}
+use Rattle.unit_reports.specs.Units.{IsRefusal, IsRefusedUnit, calls_of}
 use Rattle.unit_reports.specs.declared.refusal.Rule.TheVariants.{DependedOn}
 use Rattle.unit_reports.specs.declared.report.Unit.{Unit as AUnit}
 use Rattle.removal_run.specs.LeftOver.{AreAllTold, AreDependedOn, IsDependedOn}
@@ -73,6 +73,13 @@ depended_calls packages installed left [] [] are = refl
 depended_calls packages installed left [] (u ∷ us) are = absurd are
 depended_calls packages installed left (x ∷ xs) [] are = absurd are
 depended_calls packages installed left (x ∷ xs) (u ∷ us) are = ap (λ l. l ++ calls_of us) are.0.refused.calls ∙ depended_calls packages installed left xs us are.1
+
+-- each of them is refused
+pub depended_refused : (packages : List Package) (installed left : ℕ → Bool) (xs : List ℕ) (us : List AUnit) → AreDependedOn packages installed left xs us → AllByRecursion (λ (u : AUnit). IsRefusal u.reply) us
+depended_refused packages installed left [] [] are = tt
+depended_refused packages installed left [] (u ∷ us) are = absurd are
+depended_refused packages installed left (x ∷ xs) [] are = absurd are
+depended_refused packages installed left (x ∷ xs) (u ∷ us) are = (subst IsRefusal (sym are.0.refused.reply) tt, depended_refused packages installed left xs us are.1)
 
 none_of : {X : Type 0} (o : Option X) (P : Type 0) (Q : X → Type 0) → o ≡ None → MatchOption o P Q → P
 none_of None P Q e h = h

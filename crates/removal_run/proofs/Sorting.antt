@@ -1,8 +1,9 @@
 -- Names sorted by whether a rule refuses them.
 use Rattle.std.proofs.Common.{◌≡◌, ℕ, Bool, true, false, cond, List, [], ◌∷◌, ◌++◌, Option, Some, None, is_none, refl, sym, ap, subst, ◌∙◌}
 use Rattle.std.proofs.lemmas.List.{append-nil}
+use Rattle.std.specs.List.{AllByRecursion}
 use Rattle.status_records.specs.declared.record.Record.{Record}
-use Rattle.unit_reports.specs.Units.{IsRefusedUnit, calls_of}
+use Rattle.unit_reports.specs.Units.{IsRefusal, IsRefusedUnit, calls_of}
 use Rattle.unit_reports.specs.declared.refusal.Refusal.{Refusal}
 use Rattle.unit_reports.specs.declared.refusal.Rule.{Rule}
 use Rattle.unit_reports.specs.declared.report.Unit.{Unit as AUnit}
@@ -22,6 +23,13 @@ refused_calls [] [] are = refl
 refused_calls [] (u ∷ us) are = absurd are
 refused_calls (r ∷ rs) [] are = absurd are
 refused_calls (r ∷ rs) (u ∷ us) are = ap (λ l. l ++ calls_of us) are.0.calls ∙ refused_calls rs us are.1
+
+-- each of them is refused
+pub refused_all : (rs : List Refusal) (us : List AUnit) → AreRefused rs us → AllByRecursion (λ (u : AUnit). IsRefusal u.reply) us
+refused_all [] [] are = tt
+refused_all [] (u ∷ us) are = absurd are
+refused_all (r ∷ rs) [] are = absurd are
+refused_all (r ∷ rs) (u ∷ us) are = (subst IsRefusal (sym are.0.reply) tt, refused_all rs us are.1)
 
 first_behind : (name : List ℕ) (rule : Option Rule) (rs ss : List Refusal) → refused_first name rule (rs ++ ss) ≡ refused_first name rule rs ++ ss
 first_behind name None rs ss = refl

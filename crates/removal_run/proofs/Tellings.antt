@@ -1,13 +1,14 @@
 -- The units of a whole removal are told.
-use Rattle.std.proofs.Common.{◌≡◌, ℕ, ◌+◌, ◌<◌, List, [], ◌∷◌, ◌++◌, get_or, length, take, drop, refl, sym, ap, subst, ◌∙◌}
+use Rattle.std.proofs.Common.{◌≡◌, ℕ, zero, suc, ◌+◌, ◌<◌, List, [], ◌∷◌, ◌++◌, get_or, length, take, drop, refl, sym, ap, subst, ◌∙◌, arith}
 use Rattle.std.proofs.lemmas.List.{take_more, take-append-drop}
+use Rattle.std.specs.List.{AllByRecursion}
 use Rattle.host_core.specs.Host.{State}
 use Rattle.host_core.specs.Loss.{IsAnswered}
 use Rattle.undo_rows.proofs.Makes.{tells_none}
 use Rattle.undo_rows.specs.Transcript.{TellsAll}
 use Rattle.undo_rows.specs.declared.rows.Called.{Called}
 use Rattle.unit_reports.proofs.Telling.{begun_told, calls_both, calls_more, told_added, told_all, told_more, told_one, told_still}
-use Rattle.unit_reports.specs.Units.{calls_of}
+use Rattle.unit_reports.specs.Units.{IsRefusal, calls_of}
 use Rattle.unit_reports.specs.Watching.{AddsTold, IsTold}
 use Rattle.unit_reports.specs.declared.report.Unit.{Unit as AUnit}
 use Rattle.host_core.proofs.Barriers.{answered_here}
@@ -29,6 +30,12 @@ quiet_next : (us : List AUnit) (i : ℕ) (u : AUnit) → i < length us → calls
 quiet_next us i u lt none =
     empty_last (calls_of (take i us)) (get_or us i u).calls.items
     (sym (calls_more (take i us) (get_or us i u)) ∙ ap calls_of (sym (take_more us i u lt)) ∙ quiet_front us (i + 1) none)
+
+-- one of units that are refused
+pub refused_next : (us : List AUnit) (i : ℕ) (u : AUnit) → i < length us → AllByRecursion (λ (v : AUnit). IsRefusal v.reply) us → IsRefusal (get_or us i u).reply
+refused_next [] i u lt all = absurd (omega (arith, lt))
+refused_next (v ∷ us) zero u lt all = all.0
+refused_next (v ∷ us) (suc i) u lt all = refused_next us i u (omega (arith, lt)) all.1
 
 module _ {W : Type 0} (tells : W → AUnit → State → W → Type 0) where
   -- one more of units without calls

@@ -1,5 +1,6 @@
 // A removal or a purge of packages, as a whole.
-ghost use Rattle.std.specs.Prelude.{◌≡◌, ◌++◌, [], ℕ, IfOk, OnOk, OnErr, IfSome, IsNone, map};
+ghost use Rattle.std.specs.Prelude.{◌≡◌, ◌++◌, [], ℕ, IfOk, OnOk, OnErr, IfSome, IsNone, IsTrue, map};
+ghost use Rattle.std.specs.List.{AllByRecursion};
 ghost use Rattle.dependency_check.specs.Waiting.{IsRemovableNow};
 ghost use Rattle.host_core.specs.Host.{Needs, Since};
 ghost use Rattle.host_core.specs.Loss.{IsAnswered};
@@ -12,9 +13,9 @@ ghost use Rattle.removal_run.specs.Waiting.{is_named};
 ghost use Rattle.removal_run.specs.Turns.{AreAccepted, IsAmidTurns};
 ghost use Rattle.held_administration.specs.Order.{IsInOrder};
 ghost use Rattle.unit_reports.specs.Held.{held_by};
-ghost use Rattle.unit_reports.specs.Units.{CountsLast, IsBrokenBy, TellsCalls, calls_of};
+ghost use Rattle.unit_reports.specs.Units.{CountsLast, IsBrokenBy, IsRefusal, TellsCalls, calls_of};
 ghost use Rattle.unit_reports.specs.Watching.{AddsTold, IsTold};
-ghost use Rattle.unit_reports.specs.declared.report.Breakage.TheVariants.{Closed};
+ghost use Rattle.unit_reports.specs.declared.report.Breakage.TheVariants.{Abandoned, Closed};
 
 use crate::extents::Extents;
 use crate::left::left_over;
@@ -59,6 +60,7 @@ fn append<H: Host, W: Watcher>(
     watcher: &mut W,
 ) -> Result<(), AllocError>
     requires quiet { calls_of more.items ≡ [] }
+    requires refused { AllByRecursion (λ unit. IsRefusal unit.reply) more.items }
     ensures ok { OnOk result (units.new.items ≡ units.old.items ++ more.items) }
     ensures err { OnErr result (units.new.items ≡ units.old.items) }
     ensures watched { AddsTold W.tells (H.state host.now) units.old.items units.new.items
@@ -158,6 +160,7 @@ fn run_sorted<H: Host, W: Watcher>(
     requires open { IsOpen diversions.now.ways administration.old }
     requires accepted { AreAccepted options.extents administration.old.database.records sorted.waiting.items }
     requires told { calls_of sorted.refused.items ≡ [] }
+    requires refused { AllByRecursion (λ unit. IsRefusal unit.reply) sorted.refused.items }
     requires asked { sorted.asked.items ≡ sorted.waiting.items }
     requires indexed { ArePackagesOf administration.old.database.records packages.old }
     ensures whole { IsNone result.last → RunsThrough options sorted.waiting.items sorted.refused.items
@@ -172,6 +175,8 @@ fn run_sorted<H: Host, W: Watcher>(
         (H.state host.new) }
     ensures counts { CountsLast (H.state host.old) (H.state host.new) result.last }
     ensures not_closed { IfSome result.last (λ unit. IsBrokenBy Closed unit.reply → ⊥) }
+    ensures abandoned { IfSome result.last (λ unit. IsBrokenBy Abandoned unit.reply
+        → IsTrue (W.ends watcher.new)) }
     ensures order { IsNone result.last → Needs (H.state host.new)
         (IsInOrder administration.new.database administration.new.lists.lists) }
     ensures open { IsNone result.last → IsOpen diversions.now.ways administration.new }
@@ -246,6 +251,8 @@ pub fn remove_packages<H: Host, W: Watcher>(
         (H.state host.new) }
     ensures counts { CountsLast (H.state host.old) (H.state host.new) result.last }
     ensures not_closed { IfSome result.last (λ unit. IsBrokenBy Closed unit.reply → ⊥) }
+    ensures abandoned { IfSome result.last (λ unit. IsBrokenBy Abandoned unit.reply
+        → IsTrue (W.ends watcher.new)) }
     ensures order { IsNone result.last → Needs (H.state host.new)
         (IsInOrder administration.new.database administration.new.lists.lists) }
     ensures open { IsNone result.last → IsOpen diversions.now.ways administration.new }

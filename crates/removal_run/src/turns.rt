@@ -1,5 +1,5 @@
 // The removals of a command, one after another.
-ghost use Rattle.std.specs.Prelude.{◌≡◌, ◌<◌, ◌++◌, [], ℕ, false, None, IfErr, IfOk, IfSome, OnOk, length};
+ghost use Rattle.std.specs.Prelude.{◌≡◌, ◌<◌, ◌++◌, [], ℕ, true, IfErr, IfOk, IfSome, IsTrue, None, OnOk, Some, is_some, length};
 ghost use Rattle.dependency_check.specs.Waiting.{IsRemovableNow};
 ghost use Rattle.host_core.specs.Host.{AtEachMomentOf, Needs, Since, NoFault};
 ghost use Rattle.host_core.specs.Loss.{IsAnswered};
@@ -12,11 +12,12 @@ ghost use Rattle.removal_run.specs.Waiting.{IsQueueNow};
 ghost use Rattle.held_administration.specs.Order.{IsInOrder};
 ghost use Rattle.unit_reports.specs.Held.{held_by};
 ghost use Rattle.unit_reports.specs.Units.{CountsReply, IsBrokenBy, TellsNoPackage, calls_of};
-ghost use Rattle.unit_reports.specs.declared.report.Breakage.TheVariants.{Closed, NoMemory};
+ghost use Rattle.unit_reports.specs.declared.report.Breakage.TheVariants.{Abandoned, Closed, NoMemory};
 ghost use Rattle.unit_reports.specs.Watching.{AddsTold};
 ghost use Rattle.undo_rows.specs.Transcript.{TellsAll};
 ghost use Rattle.unit_runs.specs.Taking.{CountsTaken, IsTaken, calls_in};
 ghost use Rattle.unit_runs.specs.Turns as runs;
+ghost use Rattle.unit_runs.specs.declared.barring.Bar.TheVariants as bar;
 
 use crate::extents::purges;
 use crate::names::strike;
@@ -32,7 +33,7 @@ use std::alloc::Global;
 use std::mem;
 use texts::Text;
 use unit_reports::{Breakage, Unit, Watcher, broken};
-use unit_runs::{Turns, run_units};
+use unit_runs::{Bar, Turns, run_units};
 
 // Memory was wanting before anything was done.
 fn no_memory(alloc: Global) -> Unit
@@ -50,7 +51,7 @@ fn take_next<H: Host>(
     diversions: &Diversions,
     options: RemovalOptions,
     queue: &RemoveQueue,
-    room: bool,
+    barred: Option<Bar>,
     waiting: &mut Vec<Text>,
     removed: &mut Option<usize>,
 ) -> Result<Option<Unit>, Unit>
@@ -72,7 +73,7 @@ fn take_next<H: Host>(
         waiting.new.items) }
     ensures fewer { IfOk result (λ found. IfSome found (λ unit. length waiting.new.items
         < length waiting.old.items)) }
-    ensures room { room ≡ false → IfOk result (λ found. found ≡ None) }
+    ensures barred { is_some barred ≡ true → IfOk result (λ found. found ≡ None) }
     ensures order { OnOk result (Needs (H.state host.new)
         (IsInOrder administration.new.database administration.new.lists.lists)) }
     ensures open { OnOk result (IsOpen diversions.now.ways administration.new) }
@@ -83,6 +84,8 @@ fn take_next<H: Host>(
         (held_by administration.old diversions.now)) (H.state host.old) (H.state host.new) }
     ensures counts { CountsTaken (H.state host.old) (H.state host.new) result }
     ensures not_closed { IfErr result (λ unit. IsBrokenBy Closed unit.reply → ⊥) }
+    ensures abandoned { IfErr result (λ unit. IsBrokenBy Abandoned unit.reply
+        → barred ≡ Some bar.Abandoned) }
 {
     let alloc = administration.alloc;
     *removed = None;
@@ -91,7 +94,7 @@ fn take_next<H: Host>(
             let Next { number, name } = next;
             let purge = purges(options.extents, &administration.database, &name);
             strike(waiting, &name);
-            match remove_one(host, administration, diversions, name, purge, room) {
+            match remove_one(host, administration, diversions, name, purge, barred) {
                 Ok(unit) => {
                     *removed = Some(number);
                     Ok(Some(unit))
@@ -149,7 +152,7 @@ impl<'d, H: Host> Turns<H> for Removing<'d> {
         &mut self,
         host: &mut H,
         administration: &mut Administration,
-        room: bool,
+        barred: Option<Bar>,
     ) -> Result<Option<Unit>, Unit> {
         let alloc = administration.alloc;
         match mem::replace(&mut self.queue, None) {
@@ -167,7 +170,7 @@ impl<'d, H: Host> Turns<H> for Removing<'d> {
                         self.diversions,
                         self.options,
                         &queue,
-                        room,
+                        barred,
                         &mut self.waiting,
                         &mut self.removed,
                     );
@@ -218,6 +221,8 @@ pub(crate) fn run_turns<H: Host, W: Watcher>(
     ensures counts { IfErr result (λ unit. CountsReply (H.state host.old) (H.state host.new)
         unit.reply) }
     ensures not_closed { IfErr result (λ unit. IsBrokenBy Closed unit.reply → ⊥) }
+    ensures abandoned { IfErr result (λ unit. IsBrokenBy Abandoned unit.reply
+        → IsTrue (W.ends watcher.new)) }
     ensures order { OnOk result (Needs (H.state host.new)
         (IsInOrder administration.new.database administration.new.lists.lists)) }
     ensures open { OnOk result (IsOpen diversions.now.ways administration.new) }

@@ -1,15 +1,16 @@
 // The removal of one package, brought to the disk.
-ghost use Rattle.std.specs.Prelude.{◌≡◌, ◌⊎◌, ◌∷◌, [], true, IfOk, OnOk, IfErr, None};
+ghost use Rattle.std.specs.Prelude.{◌≡◌, ◌⊎◌, ◌∷◌, [], IfOk, OnOk, IfErr, None, Some};
 ghost use Rattle.host_core.specs.Host.{AtEachMomentOf, Counts, Needs, NoFault};
 ghost use Rattle.host_core.specs.Loss.{IsAnswered, IsOnDisk};
 ghost use Rattle.held_administration.specs.Open.{IsOpen};
 ghost use Rattle.held_administration.specs.Order.{IsInOrder};
 ghost use Rattle.unit_reports.specs.Held.{held_by};
-ghost use Rattle.unit_reports.specs.Units.{CountsReply, IsBroken, IsBrokenBy, TellsNoPackage, touched_at};
-ghost use Rattle.unit_reports.specs.declared.report.Breakage.TheVariants.{NoMemory, Closed};
+ghost use Rattle.unit_reports.specs.Units.{CountsReply, IsBroken, IsBrokenBy, IsFromBefore, TellsNoPackage, touched_at};
+ghost use Rattle.unit_reports.specs.declared.report.Breakage.TheVariants.{Abandoned, Closed, NoMemory};
 ghost use Rattle.removal_run.specs.Refusals.{rule_for};
 ghost use Rattle.removal_run.specs.Units.{Answers, AreOthersKept, HasCalledRemoving, IsAmidRemoval, IsBroughtToDisk, IsBrokenOff, IsRemoval, RunsRemoval, extent_of, reply_to};
 ghost use Rattle.undo_rows.specs.Transcript.{TellsAll};
+ghost use Rattle.unit_runs.specs.declared.barring.Bar.TheVariants as bar;
 
 use diversions::Diversions;
 use held_administration::Administration;
@@ -22,6 +23,7 @@ use undo_rows::{Called, Failure as Cause};
 use unit_reports::{
     Breakage, Failure, Reply, Touched, Unit, breakage_of, broken, is_broken, touched_at,
 };
+use unit_runs::{Bar, barred_unit};
 
 // The reply to a unit of a package, by the call for which it failed.
 fn reply_to(package: Text, failed: Option<Call>) -> Reply
@@ -143,7 +145,7 @@ fn remove_named<H: Host>(
     ensures any_moment { AtEachMomentOf (IsAmidRemoval purge «package»
         (held_by administration.old diversions.now)) (H.state host.old) (H.state host.new) }
     ensures counts { CountsReply (H.state host.old) (H.state host.new) result.reply }
-    ensures not_closed { IsBrokenBy Closed result.reply → ⊥ }
+    ensures not_closed { IsFromBefore result.reply → ⊥ }
 {
     let alloc = administration.alloc;
     let mut calls = Vec::new(alloc);
@@ -160,14 +162,14 @@ fn remove_named<H: Host>(
     }
 }
 
-/// The unit of a package, or the unit that was broken off, as it is where there is no room for it.
+/// The unit of a package, or the unit that was broken off, as it is where it isn't to be begun.
 pub(crate) fn remove_one<H: Host>(
     host: &mut H,
     administration: &mut Administration,
     diversions: &Diversions,
     package: Text,
     purge: bool,
-    room: bool,
+    barred: Option<Bar>,
 ) -> Result<Unit, Unit>
     requires order { Needs (H.state host.old)
         (IsInOrder administration.old.database administration.old.lists.lists) }
@@ -176,7 +178,7 @@ pub(crate) fn remove_one<H: Host>(
     ensures ok { IfOk result (λ unit. RunsRemoval purge «package»
         (held_by administration.old diversions.now) (held_by administration.new diversions.now)
         unit (H.state host.old) (H.state host.new)) }
-    ensures room { OnOk result (room ≡ true) }
+    ensures barred { OnOk result (barred ≡ None) }
     ensures open { OnOk result (IsOpen diversions.now.ways administration.new) }
     ensures others { OnOk result (AreOthersKept «package» administration.old.database.records
         administration.new.database.records) }
@@ -190,10 +192,11 @@ pub(crate) fn remove_one<H: Host>(
     ensures counts { IfErr result (λ unit. CountsReply (H.state host.old) (H.state host.new)
         unit.reply) }
     ensures not_closed { IfErr result (λ unit. IsBrokenBy Closed unit.reply → ⊥) }
+    ensures abandoned { IfErr result (λ unit. IsBrokenBy Abandoned unit.reply
+        → barred ≡ Some bar.Abandoned) }
 {
-    if !room {
-        let alloc = administration.alloc;
-        return Err(broken(alloc, Vec::new(alloc), Breakage::NoMemory));
+    if let Some(bar) = barred {
+        return Err(barred_unit(administration.alloc, bar));
     }
     let unit = remove_named(host, administration, diversions, package, purge);
     if is_broken(&unit) {

@@ -38,6 +38,8 @@ use Rattle.dpkg_session.specs.Rereading.{BehindReading, IsUnread, with_ways}
 use Rattle.dpkg_session.proofs.Reread.{read_entries}
 use Rattle.dpkg_session.proofs.Overridden.{amid_alike, unit_alike}
 use Rattle.dpkg_session.specs.Run.{HasRun, IsAmidBehind, IsAmidBeside, IsAmidBy, IsAmidNext, IsAmidPackage, IsAmidUnitOf, IsAmidUnpack, IsRun, RunsUnit}
+use Rattle.dpkg_session.proofs.TableRead.{table_of}
+use Rattle.reopening.proofs.Entries.{IsSafe}
 use Rattle.dpkg_session.specs.Units.{HasDisplaced, HasUnpackedBeside, IsUnitBy, IsUnitOf, IsUnpacked, all_yielding, displacing_by, given_by, held_with}
 use Rattle.dpkg_session.specs.declared.report.Candidate.{Candidate}
 use Rattle.unpack_relations.specs.declared.options.UnpackOptions.{UnpackOptions}
@@ -65,10 +67,10 @@ alike_text p q same texts = λ path has. texts path (subst (λ (paths : List Pat
 
 -- what is left of the unit of a package, before anything is displaced
 
-module _ (p : Package) (texts : ShipsText p) (beside : Beside) (before : Held) (unwinding : Option Unwinding) (records : Recorded) (lists : List PackageList) (s m : State) (told now : List Called)
-    (is : HasUnpackedBeside p beside before (places_of before) unwinding records lists s m told now) (h : IsTrue m.honest) (sound : IsSound before s.world) where
+module _ (p : Package) (texts : ShipsText p) (beside : Beside) (before : Held) (late : Ways) (unwinding : Option Unwinding) (records : Recorded) (lists : List PackageList) (s m : State) (told now : List Called)
+    (is : HasUnpackedBeside p beside before late (places_of before) unwinding records lists s m told now) (h : IsTrue m.honest) (sound : IsSound before s.world) where
   abbrev g : Given
-  g = given_by p before is.others (all_yielding p beside before)
+  g = given_by p before late is.others (all_yielding p beside before)
 
   abbrev plan : Planned
   plan = is.unpacked.plan
@@ -100,14 +102,25 @@ module _ (p : Package) (texts : ShipsText p) (beside : Beside) (before : Held) (
   standing_end : AreStanding end_records
   standing_end = amid_standing job ground plan is.unpacked.plan_for.planned refl sound.standing is.have_rows.apart.recorded end_records table
 
+  -- the table that its files went by is the one that stands there
+  safe_then : IsSafe (record_names before.records.records) late s.world
+  safe_then = record {
+    info = sound.safe.info;
+    text = sound.safe.text;
+    sound = sound.safe.sound;
+    short = sound.safe.short;
+    diversions = table_of s.world before.ways late (is.file h) sound.safe.diversions;
+    spare = sound.safe.spare;
+  }
+
   held_from : (went : Bool)
       → From job ground plan is.unpacked.plan_for.planned refl refl sound.standing is.have_rows.apart.recorded is.have_rows.apart.unnamed texts s.world before.records refl sound.order (sound_lists before s.world sound) went end_records m.world
-      → IsHeld (names_left went) before.ways records.records m.world
+      → IsHeld (names_left went) late records.records m.world
   held_from true from = record {
     all = subst (AreOf _) (sym is.unpacked.carried_out.records)
         (of_from _ _ standing_end (amid_names job ground plan is.unpacked.plan_for.planned refl sound.standing is.have_rows.apart.recorded end_records table));
     base = from.cleared;
-    safe = from.clears.1 (record_names before.records.records) before.ways (found_among job ground plan is.unpacked.plan_for.planned refl sound.standing is.have_rows.apart.recorded) sound.safe;
+    safe = from.clears.1 (record_names before.records.records) late (found_among job ground plan is.unpacked.plan_for.planned refl sound.standing is.have_rows.apart.recorded) safe_then;
     quiet = from.quiet;
     empty = (is.unpacked.carried_out.leaves h).removed.inside;
     has = subst (HasRecords m.world) (sym is.unpacked.carried_out.records) has_end;
@@ -115,45 +128,44 @@ module _ (p : Package) (texts : ShipsText p) (beside : Beside) (before : Held) (
   held_from false quiet = record {
     all = subst (AreOf _) (sym is.unpacked.carried_out.records) (of_from _ _ standing_end quiet.1);
     base = s.world;
-    safe = sound.safe;
+    safe = safe_then;
     quiet = quiet.0;
     empty = (is.unpacked.carried_out.leaves h).removed.inside;
     has = subst (HasRecords m.world) (sym is.unpacked.carried_out.records) has_end;
   }
 
-  pub unpacked_held : IsHeld (names_left (went_on plan (ended_as unwinding))) before.ways records.records m.world
+  pub unpacked_held : IsHeld (names_left (went_on plan (ended_as unwinding))) late records.records m.world
   unpacked_held = held_from (went_on plan (ended_as unwinding))
       (carried_from job ground plan is.unpacked.plan_for.planned refl refl sound.standing is.have_rows.apart.recorded is.have_rows.apart.unnamed texts s.world before.records refl sound.order (sound_lists before s.world sound)
       (ended_as unwinding) is.unpacked.carried_out.mid is.unpacked.carried_out.ran.begun is.unpacked.carried_out.last m.world (is.unpacked.carried_out.ran.begins_so at_last) is.unpacked.carried_out.ran.rows_end at_last (is.unpacked.carried_out.leaves h))
 
 -- and behind it
 
-abbrev held_names : (p : Package) (beside : Beside) (before : Held) (unwinding : Option Unwinding) (records : Recorded) (lists : List PackageList) (s m : State) (told now : List Called)
-    → HasUnpackedBeside p beside before (places_of before) unwinding records lists s m told now → List (List ℕ)
-held_names p beside before unwinding records lists s m told now is =
+abbrev held_names : (p : Package) (beside : Beside) (before : Held) (late : Ways) (unwinding : Option Unwinding) (records : Recorded) (lists : List PackageList) (s m : State) (told now : List Called)
+    → HasUnpackedBeside p beside before late (places_of before) unwinding records lists s m told now → List (List ℕ)
+held_names p beside before late unwinding records lists s m told now is =
     cond (went_on is.unpacked.plan (ended_as unwinding))
-    (package_name (ground_of (given_by p before is.others (all_yielding p beside before)) (places_of before)) is.unpacked.plan ∷ record_names before.records.records) (record_names before.records.records)
+    (package_name (ground_of (given_by p before late is.others (all_yielding p beside before)) (places_of before)) is.unpacked.plan ∷ record_names before.records.records) (record_names before.records.records)
 
-displaced_held : (names : List (List ℕ)) (unwinding : Option Unwinding) (p : Package) (beside : Beside) (before : Held) (displaced : List (List ℕ)) (failed : Option Call) (mid after : Held) (m t : State) (told now : List Called) → mid.ways ≡ before.ways
-    → (IsTrue m.honest → IsHeld names before.ways mid.records.records m.world) → HasDisplaced unwinding (displacing_by p beside before.lists) displaced failed mid after m t told now
-    → IsTrue t.honest → IsHeld names before.ways after.records.records t.world
-displaced_held names (Some u) p beside before displaced failed mid after m t told now same held is h =
+displaced_held : (names : List (List ℕ)) (ways : Ways) (unwinding : Option Unwinding) (p : Package) (beside : Beside) (before : Held) (displaced : List (List ℕ)) (failed : Option Call) (mid after : Held) (m t : State) (told now : List Called)
+    → (IsTrue m.honest → IsHeld names ways mid.records.records m.world) → HasDisplaced unwinding (displacing_by p beside before.lists) displaced failed mid after m t told now
+    → IsTrue t.honest → IsHeld names ways after.records.records t.world
+displaced_held names ways (Some u) p beside before displaced failed mid after m t told now held is h =
     let here : m.honest ≡ t.honest = ap (λ (x : State). x.honest) (sym is.here) in
-    subst (λ (x : Held). IsHeld names before.ways x.records.records t.world) (sym is.held) (held_same names before.ways mid.records.records m.world t.world (ap (λ (x : State). x.world) is.here) (held (subst IsTrue (sym here) h)))
-displaced_held names None p beside before displaced failed mid after m t told now same held is h =
-    (displaced_lead names before.ways mid.ways p.name p.version (losing_beside before.lists beside) beside.conflicting displaced failed (holding_of mid) (holding_of after) m t told now held is).held h
+    subst (λ (x : Held). IsHeld names ways x.records.records t.world) (sym is.held) (held_same names ways mid.records.records m.world t.world (ap (λ (x : State). x.world) is.here) (held (subst IsTrue (sym here) h)))
+displaced_held names ways None p beside before displaced failed mid after m t told now held is h =
+    (displaced_lead names ways mid.ways p.name p.version (losing_beside before.lists beside) beside.conflicting displaced failed (holding_of mid) (holding_of after) m t told now held is).held h
 
 unpacked_goes : (p : Package) (beside : Beside) (before after : Held) (u : AUnit) (s t : State) → ShipsText p → (IsTrue t.honest → IsTrue s.honest) → IsUnpacked p beside before after u s t → Goes before after s t
 unpacked_goes p beside before after u s t texts falls is =
     let whole = is.unpacked in
-    let names = held_names p beside before is.unwinding whole.records whole.lists s whole.m [] whole.between whole.unpacked in
+    let names = held_names p beside before after.ways is.unwinding whole.records whole.lists s whole.m [] whole.between whole.unpacked in
     record {
       falls = falls;
       sound = λ h sound.
           held_sound names after t.world
-          (subst (λ (l : Ways). IsHeld names l after.records.records t.world) (sym is.ways)
-          (displaced_held names is.unwinding p beside before is.displaced is.failed (held_with before whole.records whole.lists) after whole.m t whole.between u.calls.items refl
-          (λ at_m. unpacked_held p texts beside before is.unwinding whole.records whole.lists s whole.m [] whole.between whole.unpacked at_m sound) whole.behind h))
+          (displaced_held names after.ways is.unwinding p beside before is.displaced is.failed (held_with after.ways whole.records whole.lists) after whole.m t whole.between u.calls.items
+          (λ at_m. unpacked_held p texts beside before after.ways is.unwinding whole.records whole.lists s whole.m [] whole.between whole.unpacked at_m sound) whole.behind h)
           (is.order h);
     }
 
@@ -173,16 +185,16 @@ unit_goes auto label (Ok p) before after u s t texts falls (ways, read, is) =
 module _ (p : Package) (texts : ShipsText p) (beside : Beside) (before : Held) (old : World) (sound : IsSound before old) where
   beside_opens : (so_far : List Event) (now : World) → IsAmidBeside p beside before (places_of before) old so_far now → CanBeOpened now
   beside_opens so_far now (inl still) = still_opens before old now sound still.0
-  beside_opens so_far now (inr (others, rows, inl looks)) = still_opens before old now sound looks.0
-  beside_opens so_far now (inr (others, rows, inr amid)) =
-      let g = given_by p before others (all_yielding p beside before) in
+  beside_opens so_far now (inr (others, late, rows, inl looks)) = still_opens before old now sound looks.0
+  beside_opens so_far now (inr (others, late, rows, inr amid)) =
+      let g = given_by p before late others (all_yielding p beside before) in
       under_way_opens (job_of g amid.plan_for.stored) (ground_of g (places_of before)) amid.plan amid.plan_for.planned refl refl sound.standing rows.apart.recorded rows.apart.unnamed texts old before.records refl sound.order (sound_lists before old sound)
       before.ways so_far now sound.safe amid.under_way
 
   behind_opens : (so_far : List Event) (now : World) → IsAmidBehind p beside before old so_far now → CanBeOpened now
   behind_opens so_far now amid =
-      displacing_open _ before.ways before.ways p.name p.version (losing_beside before.lists beside) beside.conflicting (holding_of (held_with before amid.records amid.lists)) amid.m amid.rest now
-      (λ h. unpacked_held p texts beside before None amid.records amid.lists amid.s amid.m [] amid.between amid.unpacked h (subst (IsSound before) (sym amid.from) sound)) amid.displacing
+      displacing_open _ amid.late amid.late p.name p.version (losing_beside before.lists beside) beside.conflicting (holding_of (held_with amid.late amid.records amid.lists)) amid.m amid.rest now
+      (λ h. unpacked_held p texts beside before amid.late None amid.records amid.lists amid.s amid.m [] amid.between amid.unpacked h (subst (IsSound before) (sym amid.from) sound)) amid.displacing
 
   unpack_opens : (so_far : List Event) (now : World) → IsAmidUnpack p beside before old so_far now → CanBeOpened now
   unpack_opens so_far now (inl amid) = beside_opens so_far now amid

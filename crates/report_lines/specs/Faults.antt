@@ -9,7 +9,7 @@ use Rattle.package_tree.specs.declared.fault.FieldName.TheVariants as field
 use Rattle.package_tree.specs.declared.fault.LineName.{LineName}
 use Rattle.package_tree.specs.declared.fault.LineName.TheVariants as named
 use Rattle.package_tree.specs.declared.fault.TreeFault.{TreeFault}
-use Rattle.package_tree.specs.declared.fault.TreeFault.TheVariants.{Twice, NoControl, Control, FieldMissing, FieldBad, PathBad, Reserved, ConffileNotShipped, ConffileShipped, ConffileFlag, TooLarge, Device, NoMemory, Declined}
+use Rattle.package_tree.specs.declared.fault.TreeFault.TheVariants.{Twice, NoRoom, NoControl, Control, FieldMissing, FieldBad, PathBad, Reserved, ConffileNotShipped, ConffileShipped, ConffileFlag, TooLarge, Device, NoMemory, Declined}
 use Rattle.relation_fields.specs.Printing.{print_clause}
 use Rattle.relation_fields.specs.RelationFields.{relation_name}
 use Rattle.diversions.specs.declared.refusal.Refusal.{Refusal as ItsRefusal}
@@ -45,9 +45,10 @@ abbrev pub line_text : LineName → List ℕ
 line_text (named.Text text) = text
 line_text (named.Number number) = decimal number
 
--- a tree's fault
+-- a tree's fault; of an archive without room the path at which it was to be unpacked, as of a step that was declined
 abbrev pub tree_text : TreeFault → List ℕ
 tree_text Twice = codes "Twice"
+tree_text (NoRoom path) = codes "Declined " ++ path_text path
 tree_text NoControl = codes "NoControl"
 tree_text (Control fault) = codes "Control " ++ control_text fault
 tree_text (FieldMissing name) = codes "FieldMissing " ++ field_word name

@@ -1,7 +1,7 @@
 -- The last line of a unit: its reply.
 use Rattle.std.specs.Prelude.{ℕ, Bool, true, false, List, ◌++◌, codes}
 use Rattle.unit_reports.specs.declared.report.Breakage.{Breakage}
-use Rattle.unit_reports.specs.declared.report.Breakage.TheVariants.{Device, NoMemory, Declined, Damaged, Closed}
+use Rattle.unit_reports.specs.declared.report.Breakage.TheVariants.{Device, NoMemory, Declined, Damaged, Closed, Abandoned}
 use Rattle.unit_reports.specs.declared.report.Cycle.{Cycle}
 use Rattle.unit_reports.specs.declared.report.Reply.{Reply}
 use Rattle.unit_reports.specs.declared.report.Reply.TheVariants.{Done, Refused, Failed, Looped, Broken}
@@ -18,6 +18,7 @@ breakage_word NoMemory = codes "memory"
 breakage_word Declined = codes "declined"
 breakage_word Damaged = codes "damaged"
 breakage_word Closed = codes "closed"
+breakage_word Abandoned = codes "abandoned"
 
 -- for what a package's unit failed: a call of a package, its own or another one, or a step fault
 abbrev pub cause_text : List ℕ → Cause → List ℕ
@@ -45,10 +46,19 @@ tells_states (Failed f) = true
 tells_states (Looped c) = true
 tells_states (Broken breakage) = false
 
+-- of a unit that was abandoned dpkg's status where it gave up, 2 of one that was broken off
+abbrev pub breakage_status : Breakage → ℕ
+breakage_status Device = 2
+breakage_status NoMemory = 2
+breakage_status Declined = 2
+breakage_status Damaged = 2
+breakage_status Closed = 2
+breakage_status Abandoned = 1
+
 -- 0 for what is done, 1 for what is refused, failed or was abandoned, 2 for what was broken off
 abbrev pub reply_status : Reply → ℕ
 reply_status Done = 0
 reply_status (Refused r) = 1
 reply_status (Failed f) = 1
 reply_status (Looped c) = 1
-reply_status (Broken breakage) = 2
+reply_status (Broken breakage) = breakage_status breakage

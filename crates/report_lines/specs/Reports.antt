@@ -24,6 +24,6 @@ abbrev pub units_status : List AUnit → ℕ
 units_status [] = 0
 units_status (u ∷ us) = max (reply_status u.reply) (units_status us)
 
--- 0 where all is done, 1 where something was refused or failed, 2 where a unit was broken off
+-- 0 where all is done, 1 where something was refused or failed or units were abandoned, 2 where a unit was broken off
 abbrev pub report_status : Report → ℕ
 report_status r = max (units_status r.units.items) (units_status (option_to_list r.last))

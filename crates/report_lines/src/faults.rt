@@ -90,6 +90,7 @@ fn tree_text(alloc: Global, fault: &TreeFault) -> Result<String, AllocError>
 {
     match fault {
         TreeFault::Twice => String::from_str(alloc, "Twice"),
+        TreeFault::NoRoom(path) => at_path(alloc, "Declined", path),
         TreeFault::NoControl => String::from_str(alloc, "NoControl"),
         TreeFault::Control(fault) => {
             let fault = control_text(alloc, *fault)?;

@@ -2,7 +2,7 @@
 ghost use Rattle.std.specs.Prelude.{◌≡◌, ◌≤◌, ◌++◌, IfOk, OnOk, string_bytes};
 ghost use Rattle.std.specs.List.{flat_map};
 ghost use Rattle.report_lines.specs.Calls.{arg_text, arg_word, call_line, call_text, outcome_text, side_word};
-ghost use Rattle.report_lines.specs.Replies.{breakage_word, cause_text, cycle_text, reply_line, reply_status, tells_states};
+ghost use Rattle.report_lines.specs.Replies.{breakage_status, breakage_word, cause_text, cycle_text, reply_line, reply_status, tells_states};
 ghost use Rattle.report_lines.specs.Reports.{report_lines, report_status, states_lines, unit_lines, units_status};
 ghost use Rattle.report_lines.specs.States.{state_line, state_text};
 
@@ -108,6 +108,7 @@ fn breakage_word(breakage: Breakage) -> &'static str
         Breakage::Declined => "declined",
         Breakage::Damaged => "damaged",
         Breakage::Closed => "closed",
+        Breakage::Abandoned => "abandoned",
     }
 }
 
@@ -194,6 +195,20 @@ fn tells_states(reply: &Reply) -> bool
     }
 }
 
+// dpkg's status where it gave up; 2 where a unit was broken off.
+fn breakage_status(breakage: Breakage) -> u8
+    ensures { result ≡ breakage_status breakage }
+{
+    match breakage {
+        Breakage::Device => 2,
+        Breakage::NoMemory => 2,
+        Breakage::Declined => 2,
+        Breakage::Damaged => 2,
+        Breakage::Closed => 2,
+        Breakage::Abandoned => 1,
+    }
+}
+
 fn reply_status(reply: &Reply) -> u8
     ensures { result ≡ reply_status reply.now }
 {
@@ -202,7 +217,7 @@ fn reply_status(reply: &Reply) -> u8
         Reply::Refused(_) => 1,
         Reply::Failed(_) => 1,
         Reply::Looped(_) => 1,
-        Reply::Broken(_) => 2,
+        Reply::Broken(breakage) => breakage_status(*breakage),
     }
 }
 

@@ -55,24 +55,35 @@ filter_last : (keep : Field → Bool) (ys : List (Bor Field)) (x : Bor Field) (b
 filter_last keep ys x b e =
     ap (filter keep) (map-append (λ (b : Bor Field). b.now) ys (x ∷ [])) ∙ filter-append keep (map (λ b. b.now) ys) (x.now ∷ []) ∙ ap (λ y. filter keep (map (λ b. b.now) ys) ++ cond y (x.now ∷ []) []) e
 
-pub kept_more : (names : List (List ℕ)) (kept next : List Field) (ys : List (Bor Field)) (x : Bor Field) (f : Field) → is_one_of names x.now ≡ false → kept ≡ fields_but names (map (λ b. b.now) ys) → next ≡ kept ++ f ∷ [] → f ≡ x.now → next ≡ fields_but names (map (λ b. b.now) (ys ++ x ∷ []))
-kept_more names kept next ys x f out e n same =
-    n ∙ ap (λ (l : List Field). l ++ f ∷ []) e ∙ ap (λ (g : Field). fields_but names (map (λ b. b.now) ys) ++ g ∷ []) same ∙ sym (filter_last (λ g. not (is_one_of names g)) ys x true (ap not out))
+pub kept_more_by : (keep : Field → Bool) (kept next : List Field) (ys : List (Bor Field)) (x : Bor Field) (f : Field) → keep x.now ≡ true → kept ≡ filter keep (map (λ b. b.now) ys) → next ≡ kept ++ f ∷ [] → f ≡ x.now → next ≡ filter keep (map (λ b. b.now) (ys ++ x ∷ []))
+kept_more_by keep kept next ys x f stays e n same =
+    n ∙ ap (λ (l : List Field). l ++ f ∷ []) e ∙ ap (λ (g : Field). filter keep (map (λ b. b.now) ys) ++ g ∷ []) same ∙ sym (filter_last keep ys x true stays)
 
-pub kept_same : (names : List (List ℕ)) (kept : List Field) (ys : List (Bor Field)) (x : Bor Field) → is_one_of names x.now ≡ true → kept ≡ fields_but names (map (λ b. b.now) ys) → kept ≡ fields_but names (map (λ b. b.now) (ys ++ x ∷ []))
-kept_same names kept ys x out e =
-    e ∙ sym (append-nil (fields_but names (map (λ b. b.now) ys))) ∙ sym (filter_last (λ g. not (is_one_of names g)) ys x false (ap not out))
+pub kept_same_by : (keep : Field → Bool) (kept : List Field) (ys : List (Bor Field)) (x : Bor Field) → keep x.now ≡ false → kept ≡ filter keep (map (λ b. b.now) ys) → kept ≡ filter keep (map (λ b. b.now) (ys ++ x ∷ []))
+kept_same_by keep kept ys x out e =
+    e ∙ sym (append-nil (filter keep (map (λ b. b.now) ys))) ∙ sym (filter_last keep ys x false out)
 
-pub kept_new : (names : List (List ℕ)) (kept all left next : List Field) (ys : List (Bor Field)) (x : Bor Field) (f : Field) → ∥ AreFields [] all ∥₁ → kept ≡ fields_but names (map (λ b. b.now) ys) → all ≡ map (λ b. b.now) ys ++ left → left ≡ x.now ∷ next → f ≡ x.now → stands f.name kept ≡ false
-kept_new names kept all left next ys x f are e walked l same = ∥∥₁_elim are (hlevel props)
+pub kept_new_by : (keep : Field → Bool) (kept all left next : List Field) (ys : List (Bor Field)) (x : Bor Field) (f : Field) → ∥ AreFields [] all ∥₁ → kept ≡ filter keep (map (λ b. b.now) ys) → all ≡ map (λ b. b.now) ys ++ left → left ≡ x.now ∷ next → f ≡ x.now → stands f.name kept ≡ false
+kept_new_by keep kept all left next ys x f are e walked l same = ∥∥₁_elim are (hlevel props)
     (λ known.
     let here = new_among [] (map (λ b. b.now) ys) x.now next (subst (AreFields []) (walked ∙ ap (λ (r : List Field). map (λ b. b.now) ys ++ r) l) known) in
-    ap (stands f.name) e ∙ ap (λ (g : Field). stands g.name (fields_but names (map (λ b. b.now) ys))) same
-    ∙ called_filter (lower x.now.name) (λ g. not (is_one_of names g)) (map (λ b. b.now) ys) here)
+    ap (stands f.name) e ∙ ap (λ (g : Field). stands g.name (filter keep (map (λ b. b.now) ys))) same
+    ∙ called_filter (lower x.now.name) keep (map (λ b. b.now) ys) here)
+
+-- without the fields of some names
+
+pub kept_more : (names : List (List ℕ)) (kept next : List Field) (ys : List (Bor Field)) (x : Bor Field) (f : Field) → is_one_of names x.now ≡ false → kept ≡ fields_but names (map (λ b. b.now) ys) → next ≡ kept ++ f ∷ [] → f ≡ x.now → next ≡ fields_but names (map (λ b. b.now) (ys ++ x ∷ []))
+kept_more names kept next ys x f out e n same = kept_more_by (λ g. not (is_one_of names g)) kept next ys x f (ap not out) e n same
+
+pub kept_same : (names : List (List ℕ)) (kept : List Field) (ys : List (Bor Field)) (x : Bor Field) → is_one_of names x.now ≡ true → kept ≡ fields_but names (map (λ b. b.now) ys) → kept ≡ fields_but names (map (λ b. b.now) (ys ++ x ∷ []))
+kept_same names kept ys x out e = kept_same_by (λ g. not (is_one_of names g)) kept ys x (ap not out) e
+
+pub kept_new : (names : List (List ℕ)) (kept all left next : List Field) (ys : List (Bor Field)) (x : Bor Field) (f : Field) → ∥ AreFields [] all ∥₁ → kept ≡ fields_but names (map (λ b. b.now) ys) → all ≡ map (λ b. b.now) ys ++ left → left ≡ x.now ∷ next → f ≡ x.now → stands f.name kept ≡ false
+kept_new names kept all left next ys x f are e walked l same = kept_new_by (λ g. not (is_one_of names g)) kept all left next ys x f are e walked l same
 
 -- what is left can be written behind fields of the names that were left out
 
-left_over : (keep : Field → Bool) (firsts : List Field) → ((f : Field) → keep f ≡ true → stands f.name firsts ≡ false) → (before fs : List Field) → AreFields before fs → AreFields (firsts ++ filter keep before) (filter keep fs)
+pub left_over : (keep : Field → Bool) (firsts : List Field) → ((f : Field) → keep f ≡ true → stands f.name firsts ≡ false) → (before fs : List Field) → AreFields before fs → AreFields (firsts ++ filter keep before) (filter keep fs)
 left_over keep firsts apart before [] are = tt
 left_over keep firsts apart before (f ∷ fs) are = by (keep f) refl (left_over keep firsts apart (before ++ f ∷ []) fs are.2)
   where
@@ -115,7 +126,7 @@ kept_readable : (keep : Field → Bool) (fs : List Field) → AllByRecursion IsR
 kept_readable keep [] all = tt
 kept_readable keep (f ∷ fs) all = kept_by (keep f) f (filter keep fs) (λ e. all.0) (kept_readable keep fs all.1)
 
-other_kind : (l : List ℕ) → list_any (bytes_eq l) own_names ≡ false → kind_of l ≡ control_kind l
+pub other_kind : (l : List ℕ) → list_any (bytes_eq l) own_names ≡ false → kind_of l ≡ control_kind l
 other_kind l out =
     let a = or_parts (bytes_eq l (codes "package")) _ out in
     let b = or_parts (bytes_eq l (codes "status")) _ a.1 in

@@ -23,3 +23,5 @@ pub mod Missing
 pub mod Entering
 pub mod WholeText
 pub mod ControlValues
+pub mod PlainLines
+pub mod RecordedFields

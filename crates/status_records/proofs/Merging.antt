@@ -89,7 +89,7 @@ front_fields before (f ∷ xs) ys are = (are.0, are.1, front_fields (before ++ f
 called_last : (text : List ℕ) (xs : List Field) (f : Field) → is_called text (xs ++ f ∷ []) ≡ (is_called text xs || is_called text (f ∷ []))
 called_last text xs f = list_any-append (λ (g : Field). bytes_eq (lower g.name) text) xs (f ∷ [])
 
-same_before : (before other fs : List Field) → ((text : List ℕ) → is_called text before ≡ is_called text other) → AreFields before fs → AreFields other fs
+pub same_before : (before other fs : List Field) → ((text : List ℕ) → is_called text before ≡ is_called text other) → AreFields before fs → AreFields other fs
 same_before before other [] same are = tt
 same_before before other (f ∷ fs) same are = (
   are.0,
@@ -258,12 +258,3 @@ item_new before fields paragraph i f g are lt at is same =
     let here : take i fields ++ f ∷ drop (i + 1) fields ≡ fields = ap (λ (h : Field). take i fields ++ h ∷ drop (i + 1) fields) at ∙ ap (λ (l : List Field). take i fields ++ l) (sym (drop_more fields i f lt)) ∙ take-append-drop i fields in
     next_new paragraph f g (drop (i + 1) fields) (before ++ fields) are
     (ap (λ (l : List Field). l ++ f ∷ drop (i + 1) fields) is ∙ append_assoc before (take i fields) (f ∷ drop (i + 1) fields) ∙ ap (λ (l : List Field). before ++ l) here) same
-
--- what a record has of a control file can be written, and read again
-pub writable_of : (name other : List ℕ) (fields control : List Field) → name ≡ other → is_package_name other ≡ true → fields ≡ in_dpkgs_order (recorded_fields control) → ∥ AreFields [] control ∥₁ → ∥ AllByRecursion IsReadableControl control ∥₁ → ∥ IsWritable name fields ∥₁
-writable_of name other fields control is named left are readable = ∥∥₁_elim are (hlevel props) (λ known. ∥∥₁_map readable (λ all. record {
-  named = ap is_package_name is ∙ named;
-  written = subst (AreFields []) (sym left) (fields_in_order (recorded_fields control) (recorded_written control known));
-  others = subst (AllByRecursion (λ f. is_one_of own_names f ≡ false)) (sym left) (all_in_order (λ f. is_one_of own_names f ≡ false) (recorded_fields control) (recorded_other control));
-  readable = subst (AllByRecursion IsReadable) (sym left) (all_in_order IsReadable (recorded_fields control) (recorded_readable control all));
-}))

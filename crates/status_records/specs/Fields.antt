@@ -1,4 +1,4 @@
--- Which fields of a control file or a status paragraph a record keeps.
+-- Which fields of a status paragraph a record keeps.
 use Rattle.std.specs.Prelude.{ℕ, Bool, not, List, [], ◌∷◌, codes, filter}
 use Rattle.std.specs.List.{list_any}
 use Rattle.std.specs.Str.{bytes_eq}
@@ -17,6 +17,6 @@ is_one_of names field = list_any (bytes_eq (lower field.name)) names
 abbrev pub fields_but : List (List ℕ) → List Field → List Field
 fields_but names fields = filter (λ f. not (is_one_of names f)) fields
 
--- what a record keeps of a control file or a status paragraph, beside what it has of its own
+-- what a record keeps of a status paragraph, beside what it has of its own
 abbrev pub recorded_fields : List Field → List Field
 recorded_fields fields = fields_but own_names fields

@@ -3,6 +3,7 @@ pub mod TriggerNames
 pub mod Triggers
 pub mod Fields
 pub mod Order
+pub mod Recorded
 pub mod ConffilePaths
 pub mod Digests
 pub mod ConffileFields

@@ -3,8 +3,7 @@ use Rattle.std.specs.Prelude.{◌≡◌, ◌&&◌, ℕ, Bool, true, false, not, 
 use Rattle.std.proofs.Common.{refl}
 use Rattle.control_fields.specs.declared.field.Field.{Field}
 use Rattle.status_records.specs.Configured.{last_configured}
-use Rattle.status_records.specs.Fields.{recorded_fields}
-use Rattle.status_records.specs.Order.{in_dpkgs_order}
+use Rattle.status_records.specs.Recorded.{AreFieldsOf}
 use Rattle.status_records.specs.Words.{is_installed}
 use Rattle.status_records.specs.declared.entries.ConffileEntry.{ConffileEntry}
 use Rattle.status_records.specs.declared.entries.PendingDigest.{PendingDigest}
@@ -64,7 +63,7 @@ removed_of None = false
 removed_of (Some old) = old.removed_since
 
 -- The record of an unpacked package, wanted installed: what an earlier record told of the last configuration stays. It has no
--- triggers: no package that has some is unpacked. Its other fields stand in dpkg's order.
+-- triggers: those that were there go. Its other fields are those of the control file, as dpkg records them.
 pub record IsUnpackedOf (name version : List ℕ) (control : List Field) (old : Option Record) (entries : List ConffileEntry) (pending : List PendingDigest) (r : Record) : Type 0 where
   pub name_is : r.name ≡ name
   pub want_is : r.want ≡ want.Install
@@ -76,4 +75,4 @@ pub record IsUnpackedOf (name version : List ℕ) (control : List Field) (old : 
   pub conffiles_are : r.conffiles ≡ entries
   pub pending_are : r.pending ≡ pending
   pub triggers_are : r.triggers ≡ no_triggers
-  pub fields_are : r.fields ≡ in_dpkgs_order (recorded_fields control)
+  pub fields_are : AreFieldsOf control r.fields

@@ -33,6 +33,7 @@ mod names;
 mod order;
 mod reading;
 mod record;
+mod recorded;
 mod standings;
 mod trigger_names;
 mod triggers;

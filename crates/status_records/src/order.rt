@@ -5,6 +5,7 @@ ghost use Rattle.std.specs.Str.{bytes_eq};
 ghost use Rattle.control_fields.specs.Names.{lower};
 ghost use Rattle.control_fields.specs.Spelling.{AreFields};
 ghost use Rattle.status_records.specs.Order.{rank, merged, in_dpkgs_order};
+ghost use Rattle.status_records.specs.Recorded.{is_dpkgs};
 
 use control_fields::{Field, Paragraph};
 use std::alloc::{AllocError, Global};
@@ -65,6 +66,13 @@ fn rank(field: &Field) -> usize
     place_of(field.name.as_slice(), &NAMES)
 }
 
+/// Whether dpkg names the field.
+pub(crate) fn is_dpkgs(field: &Field) -> bool
+    ensures { result ≡ is_dpkgs field.now }
+{
+    rank(field) < NAMES.len()
+}
+
 // How many of the fields, from the first on, come before a place in dpkg's order.
 fn count_before(fields: &[Field], place: usize) -> usize
     ensures within { result ≤ length fields.now }
@@ -110,7 +118,7 @@ pub(crate) fn merged(
     Ok(paragraph)
 }
 
-/// The fields of a tree's control file as its record has them.
+/// Fields in dpkg's order.
 pub(crate) fn in_dpkgs_order(alloc: Global, fields: &Paragraph) -> Result<Paragraph, AllocError>
     requires { ∥ AreFields [] fields.now ∥₁ }
     ensures { IfOk result (λ p. p ≡ in_dpkgs_order fields.now) }

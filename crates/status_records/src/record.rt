@@ -1,4 +1,4 @@
-// The record of a package, and which fields of a control file it keeps.
+// The record of a package, and which fields of a status paragraph it keeps.
 ghost use Rattle.std.specs.Prelude.{◌≡◌, ◌&&◌, IfOk, true, false, None, is_some, []};
 ghost use Rattle.std.specs.List.{list_any, AllByRecursion};
 ghost use Rattle.std.specs.Str.{bytes_eq};
@@ -6,13 +6,13 @@ ghost use Rattle.control_fields.specs.Names.{lower};
 ghost use Rattle.control_fields.specs.Spelling.{AreFields};
 ghost use Rattle.texts.specs.PackageNames.{is_package_name};
 ghost use Rattle.status_records.specs.Fields.{own_names, recorded_fields};
-ghost use Rattle.status_records.specs.Order.{in_dpkgs_order};
+ghost use Rattle.status_records.specs.Recorded.{AreFieldsOf};
 ghost use Rattle.status_records.specs.Triggers.{is_configured, may_stand, no_triggers};
 ghost use Rattle.status_records.specs.Values.{IsReadableControl};
 ghost use Rattle.status_records.specs.Writable.{IsWritable};
 
 use crate::conffile_lists::{ConffileEntries, PendingDigests};
-use crate::order::in_dpkgs_order;
+use crate::recorded::fields_of;
 use crate::triggers::Triggers;
 use crate::words::{Flag, State, Want};
 use control_fields::Paragraph;
@@ -22,7 +22,7 @@ use texts::Text;
 use version_order::Version;
 
 /// What the status file says of a package. `fields` are all fields but those of the record's own, in
-/// the order in which they stood there, or in dpkg's where they come from a control file; written,
+/// the order in which they stood there, or as dpkg records them where they come from a control file; written,
 /// their values can be read again.
 #[derive(Drop)]
 pub struct Record {
@@ -53,7 +53,8 @@ impl Named for Record {
     }
 }
 
-fn is_own(name: &[u8]) -> bool
+/// Whether a field of this name is one of the record's own.
+pub(crate) fn is_own(name: &[u8]) -> bool
     ensures { result ≡ list_any (bytes_eq (lower name.now)) own_names }
 {
     name.eq_ignore_ascii_case(b"package")
@@ -67,7 +68,7 @@ fn is_own(name: &[u8]) -> bool
         || name.eq_ignore_ascii_case(b"triggers-awaited")
 }
 
-/// The fields of a control file or a status paragraph that a record keeps as they are.
+/// The fields of a status paragraph that a record keeps as they are.
 pub(crate) fn recorded_fields(alloc: Global, control: &Paragraph) -> Result<Paragraph, AllocError>
     requires { ∥ AreFields [] control.now ∥₁ }
     ensures { IfOk result (λ p. p ≡ recorded_fields control.now) }
@@ -79,15 +80,6 @@ pub(crate) fn recorded_fields(alloc: Global, control: &Paragraph) -> Result<Para
         }
     }
     Ok(kept)
-}
-
-/// Those of a control file in dpkg's order.
-pub(crate) fn ordered_fields(alloc: Global, control: &Paragraph) -> Result<Paragraph, AllocError>
-    requires { ∥ AreFields [] control.now ∥₁ }
-    ensures { IfOk result (λ p. p ≡ in_dpkgs_order (recorded_fields control.now)) }
-{
-    let kept = recorded_fields(alloc, control)?;
-    in_dpkgs_order(alloc, &kept)
 }
 
 /// An equal version, where there is one.
@@ -124,7 +116,7 @@ impl Record {
         ensures conffiles { IfOk result (λ r. r.conffiles ≡ []) }
         ensures pending { IfOk result (λ r. r.pending ≡ []) }
         ensures triggers { IfOk result (λ r. r.triggers ≡ no_triggers) }
-        ensures fields { IfOk result (λ r. r.fields ≡ in_dpkgs_order (recorded_fields control.now)) }
+        ensures fields { IfOk result (λ r. AreFieldsOf control.now r.fields) }
     {
         Ok(Record {
             name: name.copy()?,
@@ -137,7 +129,7 @@ impl Record {
             conffiles: ConffileEntries::new(alloc),
             pending: PendingDigests::new(alloc),
             triggers: Triggers::none(),
-            fields: ordered_fields(alloc, control)?,
+            fields: fields_of(alloc, control)?,
         })
     }
 

@@ -11,7 +11,8 @@ ghost use Rattle.status_records.specs.Values.{IsReadableControl};
 ghost use Rattle.status_records.specs.Words.{is_installed};
 
 use crate::conffile_lists::{ConffileEntries, PendingDigests};
-use crate::record::{Record, copied_version, ordered_fields};
+use crate::record::{Record, copied_version};
+use crate::recorded::fields_of;
 use crate::triggers::Triggers;
 use crate::words::{Flag, State, StateWord, Want};
 use control_fields::Paragraph;
@@ -217,7 +218,7 @@ impl Record {
             conffiles,
             pending,
             triggers: Triggers::none(),
-            fields: ordered_fields(alloc, control)?,
+            fields: fields_of(alloc, control)?,
         })
     }
 }

@@ -2,7 +2,7 @@
 ghost use Rattle.std.specs.Prelude.{◌≡◌, ⊤, IsTrue, Some, option_map};
 ghost use Rattle.host_memory.specs.Memory.{memory_state};
 
-use command_line::{Hosts, RootFault, ScriptStreams, TreeOwners, run_words};
+use command_line::{Hosts, RootFault, ScriptStreams, TreeOpening, TreeOwners, run_words};
 use host_core::{Access, Content, Host, HostFault, Node, RootPath};
 use host_memory::{Ending, Entry, MemoryHost, Planned};
 use std::alloc::{AllocError, Global};
@@ -280,6 +280,9 @@ impl Hosts for Machine {
     // no other program has the root
     ghost locked = { λ _ _ _. ⊥ };
 
+    // no word is one of an archive
+    ghost full = { λ _ _ _. ⊥ };
+
     ghost below = { λ _. 0 };
 
     fn open_root(
@@ -301,7 +304,7 @@ impl Hosts for Machine {
         }
     }
 
-    fn open_tree(&mut self, tree: &str, _owners: TreeOwners) -> Result<MemoryHost, HostFault> {
+    fn open_tree(&mut self, tree: &str, _owners: TreeOwners) -> Result<MemoryHost, TreeOpening> {
         Ok(tree_of(self.alloc, self.trees, tree)?)
     }
 

@@ -1,17 +1,17 @@
 -- How units answer, and the faults of their hosts.
 use Rattle.std.specs.Prelude.{MatchBool}
-use Rattle.std.proofs.Common.{◌≡◌, ◌⊎◌, inl, inr, ℕ, Bool, true, false, List, Option, Some, None, sym, subst, ◌∙◌}
+use Rattle.std.proofs.Common.{◌≡◌, ◌⊎◌, inl, inr, ℕ, Bool, true, false, List, Option, Some, None, sym, subst}
 use Rattle.std.proofs.lemmas.Bool.{true≢false}
 use Rattle.host_core.specs.Host.{State, NoFault}
 use Rattle.host_core.specs.declared.call.Call.{Call}
 use Rattle.status_records.specs.declared.record.Record.{Record}
 use Rattle.unit_reports.specs.declared.report.Breakage.{Breakage}
-use Rattle.unit_reports.specs.declared.report.Breakage.TheVariants.{NoMemory, Closed}
+use Rattle.unit_reports.specs.declared.report.Breakage.TheVariants.{NoMemory}
 use Rattle.unit_reports.specs.declared.report.Reply.{Reply}
 use Rattle.unit_reports.specs.declared.report.Unit.{Unit as AUnit}
-use Rattle.unit_reports.proofs.Counting.{no_memory_not_closed}
-use Rattle.unit_reports.specs.Units.{CountsReply, IsBroken, IsBrokenBy}
-use Rattle.trigger_run.specs.Units.{Answers, reply_to}
+use Rattle.unit_reports.proofs.Counting.{no_memory_within}
+use Rattle.unit_reports.specs.Units.{CountsReply, IsBroken, IsBrokenBy, IsFromBefore}
+use Rattle.trigger_run.specs.Units.{Answers, IsQuietUnit, reply_to}
 
 -- a unit that wasn't broken off is as is said of it
 pub not_broken : {Q : Type 0} (reply : Reply) (b : Bool) → b ≡ false → MatchBool b (IsBroken reply) (IsBroken reply → ⊥) → IsBroken reply ⊎ Q → Q
@@ -34,13 +34,18 @@ pub broken_or : {Q R : Type 0} (breakage : Breakage) (reply : Reply) → (Q → 
 broken_or breakage reply so (inl broken) = inl (broken_by breakage reply broken)
 broken_or breakage reply so (inr holds) = inr (so holds)
 
-reply_not_closed : (name : List ℕ) (failed : Option Call) → IsBrokenBy Closed (reply_to name failed) → ⊥
-reply_not_closed name None closed = cc
-reply_not_closed name (Some call) closed = cc
+reply_within : (name : List ℕ) (failed : Option Call) → IsFromBefore (reply_to name failed) → ⊥
+reply_within name None before = before
+reply_within name (Some call) before = before
 
-pub answer_not_closed : (name : List ℕ) (records : List Record) (failed : Option Call) (u : AUnit) → IsBrokenBy NoMemory u.reply ⊎ Answers name records failed u → IsBrokenBy Closed u.reply → ⊥
-answer_not_closed name records failed u (inl broken) closed = no_memory_not_closed u.reply broken closed
-answer_not_closed name records failed u (inr answers) closed = reply_not_closed name failed (sym answers.replied ∙ closed)
+pub answer_within : (name : List ℕ) (records : List Record) (failed : Option Call) (u : AUnit) → IsBrokenBy NoMemory u.reply ⊎ Answers name records failed u → IsFromBefore u.reply → ⊥
+answer_within name records failed u (inl broken) before = no_memory_within u.reply broken before
+answer_within name records failed u (inr answers) before = reply_within name failed (subst IsFromBefore answers.replied before)
+
+pub quiet_within : (found : Option Record) (name : List ℕ) (records : List Record) (u : AUnit) → IsBrokenBy NoMemory u.reply ⊎ IsQuietUnit found name records u → IsFromBefore u.reply → ⊥
+quiet_within found name records u (inl broken) before = no_memory_within u.reply broken before
+quiet_within None name records u (inr is) before = subst IsFromBefore is.reply before
+quiet_within (Some r) name records u (inr is) before = reply_within name None (subst IsFromBefore is.0.replied before)
 
 -- the faults of a unit
 

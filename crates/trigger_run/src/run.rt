@@ -1,5 +1,5 @@
 // The triggers of packages processed, as a whole.
-ghost use Rattle.std.specs.Prelude.{◌≡◌, [], IfSome, IsNone};
+ghost use Rattle.std.specs.Prelude.{◌≡◌, [], IfSome, IsNone, IsTrue};
 ghost use Rattle.host_core.specs.Host.{Needs, Since};
 ghost use Rattle.host_core.specs.Loss.{IsAnswered};
 ghost use Rattle.held_administration.specs.Open.{IsOpen};
@@ -10,7 +10,7 @@ ghost use Rattle.trigger_run.specs.Turns.{IsAmidTurns, ProcessesTo};
 ghost use Rattle.unit_reports.specs.Held.{held_by};
 ghost use Rattle.unit_reports.specs.Units.{CountsLast, IsBrokenBy, TellsCalls};
 ghost use Rattle.unit_reports.specs.Watching.{IsTold};
-ghost use Rattle.unit_reports.specs.declared.report.Breakage.TheVariants.{Closed};
+ghost use Rattle.unit_reports.specs.declared.report.Breakage.TheVariants.{Abandoned, Closed};
 
 use crate::names::once;
 use crate::turns::run_turns;
@@ -46,6 +46,8 @@ fn process_each<H: Host, W: Watcher>(
         (H.state host.new) }
     ensures counts { CountsLast (H.state host.old) (H.state host.new) result.last }
     ensures not_closed { IfSome result.last (λ unit. IsBrokenBy Closed unit.reply → ⊥) }
+    ensures abandoned { IfSome result.last (λ unit. IsBrokenBy Abandoned unit.reply
+        → IsTrue (W.ends watcher.new)) }
     ensures order { IsNone result.last → Needs (H.state host.new)
         (IsInOrder administration.new.database administration.new.lists.lists) }
     ensures open { IsNone result.last → IsOpen diversions.now.ways administration.new }
@@ -104,6 +106,8 @@ pub fn process_packages<H: Host, W: Watcher>(
         (H.state host.old)) (H.state host.old) (H.state host.new) }
     ensures counts { CountsLast (H.state host.old) (H.state host.new) result.last }
     ensures not_closed { IfSome result.last (λ unit. IsBrokenBy Closed unit.reply → ⊥) }
+    ensures abandoned { IfSome result.last (λ unit. IsBrokenBy Abandoned unit.reply
+        → IsTrue (W.ends watcher.new)) }
     ensures order { IsNone result.last → Needs (H.state host.new)
         (IsInOrder administration.new.database administration.new.lists.lists) }
     ensures open { IsNone result.last → IsOpen diversions.now.ways administration.new }

@@ -1,5 +1,5 @@
 // The units of some names, one after another.
-ghost use Rattle.std.specs.Prelude.{◌≡◌, ◌<◌, ◌++◌, [], false, None, IfErr, IfOk, IfSome, OnOk, length};
+ghost use Rattle.std.specs.Prelude.{◌≡◌, ◌<◌, ◌++◌, [], true, IfErr, IfOk, IfSome, IsTrue, None, OnOk, Some, is_some, length};
 ghost use Rattle.host_core.specs.Host.{AtEachMomentOf, Needs, NoFault, Since};
 ghost use Rattle.host_core.specs.Loss.{IsAnswered};
 ghost use Rattle.held_administration.specs.Open.{IsOpen};
@@ -8,10 +8,11 @@ ghost use Rattle.recorded_packages.specs.Packages.{ArePackagesOf};
 ghost use Rattle.undo_rows.specs.Transcript.{TellsAll};
 ghost use Rattle.unit_reports.specs.Held.{held_by};
 ghost use Rattle.unit_reports.specs.Units.{CountsReply, IsBrokenBy, calls_of};
-ghost use Rattle.unit_reports.specs.declared.report.Breakage.TheVariants.{Closed};
+ghost use Rattle.unit_reports.specs.declared.report.Breakage.TheVariants.{Abandoned, Closed};
 ghost use Rattle.unit_reports.specs.Watching.{AddsTold};
 ghost use Rattle.unit_runs.specs.Taking.{CountsTaken, IsTaken, calls_in};
 ghost use Rattle.unit_runs.specs.Turns as runs;
+ghost use Rattle.unit_runs.specs.declared.barring.Bar.TheVariants as bar;
 ghost use Rattle.trigger_run.specs.Turns.{HasCalledNext, HasStopped, HasTurned, IsAmidTurn, IsAmidTurns, IsTurn};
 
 use crate::units::process_one;
@@ -21,7 +22,7 @@ use host_core::Host;
 use relation_index::Packages;
 use texts::Text;
 use unit_reports::{Unit, Watcher};
-use unit_runs::{Turns, run_units};
+use unit_runs::{Bar, Turns, run_units};
 
 // The unit of the first name; none where no name is left.
 fn take_next<H: Host>(
@@ -29,7 +30,7 @@ fn take_next<H: Host>(
     administration: &mut Administration,
     packages: &mut Packages,
     diversions: &Diversions,
-    room: bool,
+    barred: Option<Bar>,
     names: &mut Vec<Text>,
 ) -> Result<Option<Unit>, Unit>
     requires order { Needs (H.state host.old)
@@ -41,7 +42,7 @@ fn take_next<H: Host>(
         (held_by administration.new diversions.now) (H.state host.old) (H.state host.new) result }
     ensures fewer { IfOk result (λ found. IfSome found (λ unit. length names.new.items
         < length names.old.items)) }
-    ensures room { room ≡ false → IfOk result (λ found. found ≡ None) }
+    ensures barred { is_some barred ≡ true → IfOk result (λ found. found ≡ None) }
     ensures order { OnOk result (Needs (H.state host.new)
         (IsInOrder administration.new.database administration.new.lists.lists)) }
     ensures open { OnOk result (IsOpen diversions.now.ways administration.new) }
@@ -53,12 +54,14 @@ fn take_next<H: Host>(
         (H.state host.old) (H.state host.new) }
     ensures counts { CountsTaken (H.state host.old) (H.state host.new) result }
     ensures not_closed { IfErr result (λ unit. IsBrokenBy Closed unit.reply → ⊥) }
+    ensures abandoned { IfErr result (λ unit. IsBrokenBy Abandoned unit.reply
+        → barred ≡ Some bar.Abandoned) }
 {
     if names.is_empty() {
         return Ok(None);
     }
     let name = names.remove(0);
-    match process_one(host, administration, packages, diversions, name, room) {
+    match process_one(host, administration, packages, diversions, name, barred) {
         Ok(unit) => Ok(Some(unit)),
         Err(unit) => Err(unit),
     }
@@ -106,14 +109,14 @@ impl<'d, H: Host> Turns<H> for Processing<'d> {
         &mut self,
         host: &mut H,
         administration: &mut Administration,
-        room: bool,
+        barred: Option<Bar>,
     ) -> Result<Option<Unit>, Unit> {
         take_next(
             host,
             administration,
             &mut self.packages,
             self.diversions,
-            room,
+            barred,
             &mut self.names,
         )
     }
@@ -150,6 +153,8 @@ pub(crate) fn run_turns<H: Host, W: Watcher>(
     ensures counts { IfErr result (λ unit. CountsReply (H.state host.old) (H.state host.new)
         unit.reply) }
     ensures not_closed { IfErr result (λ unit. IsBrokenBy Closed unit.reply → ⊥) }
+    ensures abandoned { IfErr result (λ unit. IsBrokenBy Abandoned unit.reply
+        → IsTrue (W.ends watcher.new)) }
     ensures order { OnOk result (Needs (H.state host.new)
         (IsInOrder administration.new.database administration.new.lists.lists)) }
     ensures open { OnOk result (IsOpen diversions.now.ways administration.new) }

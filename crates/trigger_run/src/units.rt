@@ -1,5 +1,5 @@
 // The unit of one name, brought to the disk.
-ghost use Rattle.std.specs.Prelude.{◌≡◌, ◌⊎◌, ◌∷◌, [], List, true, IfOk, OnOk, IfErr, None};
+ghost use Rattle.std.specs.Prelude.{◌≡◌, ◌⊎◌, ◌∷◌, [], List, IfOk, OnOk, IfErr, None, Some};
 ghost use Rattle.host_core.specs.Host.{AtEachMomentOf, Counts, Needs, NoFault};
 ghost use Rattle.host_core.specs.Loss.{IsAnswered, IsOnDisk};
 ghost use Rattle.held_administration.specs.Open.{IsOpen};
@@ -11,10 +11,11 @@ ghost use Rattle.status_records.specs.Records.{record_in};
 ghost use Rattle.status_records.specs.declared.record.Record.{Record as ARecord};
 ghost use Rattle.undo_rows.specs.Transcript.{TellsAll};
 ghost use Rattle.unit_reports.specs.Held.{held_by};
-ghost use Rattle.unit_reports.specs.Units.{CountsReply, IsBroken, IsBrokenBy, TellsNoPackage, touched_at};
-ghost use Rattle.unit_reports.specs.declared.report.Breakage.TheVariants.{NoMemory, Closed};
+ghost use Rattle.unit_reports.specs.Units.{CountsReply, IsBroken, IsBrokenBy, IsFromBefore, TellsNoPackage, touched_at};
+ghost use Rattle.unit_reports.specs.declared.report.Breakage.TheVariants.{Abandoned, Closed, NoMemory};
 ghost use Rattle.trigger_engine.specs.Units.{HasEnded, IsPending};
 ghost use Rattle.trigger_run.specs.Needs.{IsLetBe};
+ghost use Rattle.unit_runs.specs.declared.barring.Bar.TheVariants as bar;
 ghost use Rattle.trigger_run.specs.Units.{Answers, HasCalledProcessing, HasCalledUnitOf, IsAmidProcessing, IsAmidUnitOf, IsBroughtToDisk, IsBrokenOff, IsProcessing, IsQuietUnit, IsUnitOf, reply_to};
 
 use crate::needs::is_ready;
@@ -32,6 +33,7 @@ use unit_reports::{
     Breakage, Failure, Reply, Rule, Touched, Unit, breakage_of, broken, is_broken, refused,
     touched_at,
 };
+use unit_runs::{Bar, barred_unit};
 
 // The reply to a unit of a package, by the call for which it failed.
 fn reply_to(package: Text, failed: Option<Call>) -> Reply
@@ -170,7 +172,7 @@ fn process_named<H: Host>(
     ensures any_moment { AtEachMomentOf (IsAmidProcessing «package»
         (held_by administration.old diversions.now)) (H.state host.old) (H.state host.new) }
     ensures counts { CountsReply (H.state host.old) (H.state host.new) result.reply }
-    ensures not_closed { IsBrokenBy Closed result.reply → ⊥ }
+    ensures not_closed { IsFromBefore result.reply → ⊥ }
 {
     administration.database.law();
     let alloc = administration.alloc;
@@ -228,7 +230,7 @@ fn unit_for<H: Host>(
     ensures any_moment { AtEachMomentOf (IsAmidUnitOf «package»
         (held_by administration.old diversions.now)) (H.state host.old) (H.state host.new) }
     ensures counts { CountsReply (H.state host.old) (H.state host.new) result.reply }
-    ensures not_closed { IsBrokenBy Closed result.reply → ⊥ }
+    ensures not_closed { IsFromBefore result.reply → ⊥ }
 {
     let alloc = administration.alloc;
     match is_ready(alloc, &administration.database, packages, &package) {
@@ -238,14 +240,14 @@ fn unit_for<H: Host>(
     }
 }
 
-/// The unit of a name, or the unit that was broken off, as it is where there is no room for it.
+/// The unit of a name, or the unit that was broken off, as it is where it isn't to be begun.
 pub(crate) fn process_one<H: Host>(
     host: &mut H,
     administration: &mut Administration,
     packages: &mut Packages,
     diversions: &Diversions,
     package: Text,
-    room: bool,
+    barred: Option<Bar>,
 ) -> Result<Unit, Unit>
     requires order { Needs (H.state host.old)
         (IsInOrder administration.old.database administration.old.lists.lists) }
@@ -254,7 +256,7 @@ pub(crate) fn process_one<H: Host>(
     ensures ok { IfOk result (λ unit. IsUnitOf «package»
         (held_by administration.old diversions.now) (held_by administration.new diversions.now)
         unit (H.state host.old) (H.state host.new)) }
-    ensures room { OnOk result (room ≡ true) }
+    ensures barred { OnOk result (barred ≡ None) }
     ensures order { OnOk result (Needs (H.state host.new)
         (IsInOrder administration.new.database administration.new.lists.lists)) }
     ensures open { OnOk result (IsOpen diversions.now.ways administration.new) }
@@ -270,10 +272,11 @@ pub(crate) fn process_one<H: Host>(
     ensures counts { IfErr result (λ unit. CountsReply (H.state host.old) (H.state host.new)
         unit.reply) }
     ensures not_closed { IfErr result (λ unit. IsBrokenBy Closed unit.reply → ⊥) }
+    ensures abandoned { IfErr result (λ unit. IsBrokenBy Abandoned unit.reply
+        → barred ≡ Some bar.Abandoned) }
 {
-    if !room {
-        let alloc = administration.alloc;
-        return Err(broken(alloc, Vec::new(alloc), Breakage::NoMemory));
+    if let Some(bar) = barred {
+        return Err(barred_unit(administration.alloc, bar));
     }
     let unit = unit_for(host, administration, packages, diversions, package);
     if is_broken(&unit) {

@@ -1,2 +1,3 @@
 mod Turned
 pub mod Steps
+pub mod Abandoned

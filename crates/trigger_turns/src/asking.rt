@@ -1,5 +1,5 @@
 // What scripts ask for behind a package that was processed: it becomes pending, and is wished for.
-ghost use Rattle.std.specs.Prelude.{◌≡◌, ◌+◌, ◌≤◌, ◌++◌, [], false, true, length, map, vec_capacity, vec_len, IfErr, IfOk, MatchOption, OnOk};
+ghost use Rattle.std.specs.Prelude.{◌≡◌, ◌+◌, ◌≤◌, ◌++◌, [], false, true, length, map, vec_capacity, vec_len, IfErr, IfOk, IsTrue, MatchOption, OnOk};
 ghost use Rattle.dpkg_session.specs.Activated.{change_by};
 ghost use Rattle.host_core.specs.Host.{AtEachMoment, Counts, Silent};
 ghost use Rattle.host_core.specs.Looks.{Looks};
@@ -9,7 +9,8 @@ ghost use Rattle.trigger_journal.specs.Asked.{asked_of};
 ghost use Rattle.trigger_journal.specs.Requests.{requests_of};
 ghost use Rattle.trigger_journal.specs.Writing.{IsClearing};
 ghost use Rattle.unit_reports.specs.Held.{held_by};
-ghost use Rattle.unit_reports.specs.Units.{breakage_of};
+ghost use Rattle.unit_reports.specs.Units.{IsBrokenBy, breakage_of};
+ghost use Rattle.unit_reports.specs.declared.report.Breakage.TheVariants.{Abandoned};
 ghost use Rattle.trigger_turns.specs.Told.{HaveBeenTold};
 ghost use Rattle.trigger_turns.specs.Turns.{AddsAsked, AddsReport, EndsWith, Follows, HasChanged, HasEmptied, IsFull, IsCutOff, NotesThose, answered, pending_steps};
 
@@ -78,6 +79,8 @@ pub(crate) fn note_changes<H: Host, W: Watcher>(
         (held_by session.new.administration session.new.diversions) (H.state session.old.host)
         (H.state session.new.host)) units.old.items units.new.items result }
     ensures open { OnOk result (session.new.closed ≡ false) }
+    ensures abandoned { IfErr result (λ unit. IsBrokenBy Abandoned unit.reply
+        → IsTrue (W.ends watcher.new)) }
     ensures watched { HaveBeenTold W.tells units.old.items units.new.items watcher.old
         watcher.new }
 {
@@ -164,6 +167,8 @@ fn note_those<H: Host, W: Watcher>(
         (held_by session.new.administration session.new.diversions) (H.state session.old.host)
         (H.state session.new.host) result }
     ensures open { OnOk result (session.new.closed ≡ false) }
+    ensures abandoned { IfErr result (λ unit. IsBrokenBy Abandoned unit.reply
+        → IsTrue (W.ends watcher.new)) }
     ensures watched { HaveBeenTold W.tells units.old.items units.new.items watcher.old
         watcher.new }
 {
@@ -186,6 +191,8 @@ fn note_asked<H: Host, W: Watcher>(
         (held_by session.new.administration session.new.diversions) (H.state session.old.host)
         (H.state session.new.host) result }
     ensures open { OnOk result (session.new.closed ≡ false) }
+    ensures abandoned { IfErr result (λ unit. IsBrokenBy Abandoned unit.reply
+        → IsTrue (W.ends watcher.new)) }
     ensures watched { HaveBeenTold W.tells units.old.items units.new.items watcher.old
         watcher.new }
 {
@@ -273,6 +280,8 @@ fn take_since<H: Host, W: Watcher>(
         (held_by session.new.administration session.new.diversions) (H.state session.old.host)
         (H.state session.new.host) left.new.wishes.items left.new.takes result }
     ensures open { OnOk result (session.new.closed ≡ false) }
+    ensures abandoned { IfErr result (λ unit. IsBrokenBy Abandoned unit.reply
+        → IsTrue (W.ends watcher.new)) }
     ensures watched { HaveBeenTold W.tells units.old.items units.new.items watcher.old
         watcher.new }
 {
@@ -299,6 +308,8 @@ pub(crate) fn take_in<H: Host, W: Watcher>(
         (held_by session.new.administration session.new.diversions) (H.state session.old.host)
         (H.state session.new.host) left.new.wishes.items left.new.takes result }
     ensures open { OnOk result (session.new.closed ≡ false) }
+    ensures abandoned { IfErr result (λ unit. IsBrokenBy Abandoned unit.reply
+        → IsTrue (W.ends watcher.new)) }
     ensures watched { HaveBeenTold W.tells units.old.items units.new.items watcher.old
         watcher.new }
 {

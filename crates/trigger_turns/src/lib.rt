@@ -8,8 +8,9 @@
 //! activations asks for then becomes pending, the journal is emptied, and what became pending is wished
 //! for by what led to the turn (`IsTurn`). A package whose triggers lead to themselves is given up
 //! instead. A turn that was broken off ends it, with why in the unit behind those that were finished
-//! (`IsBrokenTurn`). Each unit was told once, as it was finished (`AreToldInTurns`). `pending_owners`
-//! gives the packages of which something is pending.
+//! (`IsBrokenTurn`); that one is abandoned only where the watcher wants no further one (`abandoned`).
+//! Each unit was told once, as it was finished (`AreToldInTurns`). `pending_owners` gives the
+//! packages of which something is pending.
 #![tactic(auto)]
 
 mod asking;

@@ -1,7 +1,9 @@
 // The turns of packages, one after another.
-ghost use Rattle.std.specs.Prelude.{◌≡◌, ◌+◌, ◌≤◌, ◌∷◌, [], ℕ, List, Some, false, length, vec_capacity, vec_len, IfOk, IsNone, OnOk};
+ghost use Rattle.std.specs.Prelude.{◌≡◌, ◌+◌, ◌≤◌, ◌∷◌, [], ℕ, List, Some, false, length, vec_capacity, vec_len, IfErr, IfOk, IfSome, IsNone, IsTrue, OnOk};
 ghost use Rattle.trigger_chains.specs.Wishes.{chain_behind, first_package, mine, without};
 ghost use Rattle.unit_reports.specs.Held.{held_by};
+ghost use Rattle.unit_reports.specs.Units.{IsBrokenBy};
+ghost use Rattle.unit_reports.specs.declared.report.Breakage.TheVariants.{Abandoned};
 ghost use Rattle.trigger_chains.specs.declared.wishes.Wish.{Wish as AWish};
 ghost use Rattle.trigger_turns.specs.Told.{AreToldInTurns, HaveBeenTold};
 ghost use Rattle.trigger_turns.specs.Turns.{AddsReport, AddsTurn, Follows, HasProcessedNamed, HasTurned, IsSingle, IsTurnOf, IsWay, RunsTurn, first_wishes};
@@ -33,6 +35,8 @@ fn process_named<H: Host, W: Watcher>(
         (held_by session.new.administration session.new.diversions) (H.state session.old.host)
         (H.state session.new.host)) units.old.items units.new.items result }
     ensures open { OnOk result (session.new.closed ≡ false) }
+    ensures abandoned { IfErr result (λ unit. IsBrokenBy Abandoned unit.reply
+        → IsTrue (W.ends watcher.new)) }
     ensures watched { HaveBeenTold W.tells units.old.items units.new.items watcher.old
         watcher.new }
 {
@@ -55,6 +59,8 @@ fn follow<H: Host, W: Watcher>(
         (held_by session.new.administration session.new.diversions) (H.state session.old.host)
         (H.state session.new.host) left.new.wishes.items left.new.takes result }
     ensures open { OnOk result (session.new.closed ≡ false) }
+    ensures abandoned { IfErr result (λ unit. IsBrokenBy Abandoned unit.reply
+        → IsTrue (W.ends watcher.new)) }
     ensures watched { HaveBeenTold W.tells units.old.items units.new.items watcher.old
         watcher.new }
 {
@@ -85,6 +91,8 @@ fn process_one<H: Host, W: Watcher>(
         (held_by session.new.administration session.new.diversions) (H.state session.old.host)
         (H.state session.new.host) result }
     ensures open { OnOk result (session.new.closed ≡ false) }
+    ensures abandoned { IfErr result (λ unit. IsBrokenBy Abandoned unit.reply
+        → IsTrue (W.ends watcher.new)) }
     ensures watched { HaveBeenTold W.tells units.old.items units.new.items watcher.old
         watcher.new }
 {
@@ -113,6 +121,8 @@ fn take_turn<H: Host, W: Watcher>(
         (held_by session.new.administration session.new.diversions) (H.state session.old.host)
         (H.state session.new.host) result }
     ensures open { OnOk result (session.new.closed ≡ false) }
+    ensures abandoned { IfErr result (λ unit. IsBrokenBy Abandoned unit.reply
+        → IsTrue (W.ends watcher.new)) }
     ensures watched { HaveBeenTold W.tells units.old.items units.new.items watcher.old
         watcher.new }
 {
@@ -140,6 +150,8 @@ fn run_next<H: Host, W: Watcher>(
         (held_by session.new.administration session.new.diversions) (H.state session.old.host)
         (H.state session.new.host) result }
     ensures open { OnOk result (session.new.closed ≡ false) }
+    ensures abandoned { IfErr result (λ unit. IsBrokenBy Abandoned unit.reply
+        → IsTrue (W.ends watcher.new)) }
     ensures watched { HaveBeenTold W.tells units.old.items units.new.items watcher.old
         watcher.new }
 {
@@ -170,6 +182,8 @@ fn run_turn<H: Host, W: Watcher>(
         (held_by session.new.administration session.new.diversions) (H.state session.old.host)
         (H.state session.new.host) result }
     ensures open { OnOk result (session.new.closed ≡ false) }
+    ensures abandoned { IfErr result (λ unit. IsBrokenBy Abandoned unit.reply
+        → IsTrue (W.ends watcher.new)) }
     ensures watched { HaveBeenTold W.tells units.old.items units.new.items watcher.old
         watcher.new }
 {
@@ -192,6 +206,8 @@ fn process_wishes<H: Host, W: Watcher>(
         (held_by session.new.administration session.new.diversions) (H.state session.old.host)
         (H.state session.new.host) }
     ensures open { IsNone result.last → session.new.closed ≡ false }
+    ensures abandoned { IfSome result.last (λ unit. IsBrokenBy Abandoned unit.reply
+        → IsTrue (W.ends watcher.new)) }
     ensures watched { AreToldInTurns W.tells watcher.old result.units.items watcher.new }
 {
     let mut left = Wished { wishes, takes };
@@ -227,6 +243,8 @@ pub fn process_in_turns<H: Host, W: Watcher>(
         (held_by session.new.administration session.new.diversions) (H.state session.old.host)
         (H.state session.new.host) }
     ensures open { IsNone result.last → session.new.closed ≡ false }
+    ensures abandoned { IfSome result.last (λ unit. IsBrokenBy Abandoned unit.reply
+        → IsTrue (W.ends watcher.new)) }
     ensures watched { AreToldInTurns W.tells watcher.old result.units.items watcher.new }
 {
     match first_wishes(alloc, session, names) {

@@ -9,3 +9,4 @@ pub mod Runs
 pub mod Stops
 pub mod Listed
 pub mod Falls
+pub mod FirstRows

@@ -1,5 +1,5 @@
 -- Lists of rows, and what a row has that fails.
-use Rattle.std.proofs.Common.{◌≡◌, ℕ, Bool, IsTrue, false, List, [], ◌∷◌, ◌++◌, Option, Some, None, IsSome, length, refl, sym, ap, subst, ◌∙◌, arith, append_assoc, length-append, get_or}
+use Rattle.std.proofs.Common.{◌≡◌, ℕ, ◌+◌, Bool, IsTrue, false, List, [], ◌∷◌, ◌++◌, Option, Some, None, IsSome, Result, Ok, Err, IfOk, length, refl, sym, ap, subst, ◌∙◌, arith, append_assoc, length-append, get_or}
 use Rattle.std.proofs.lemmas.List.{append-nil, get_or_append_left, get_or_at}
 use Rattle.host_core.specs.Paths.{Path}
 use Rattle.host_core.specs.World.{World}
@@ -19,6 +19,17 @@ use Rattle.undo_rows.specs.Ended.{IsCauseOf, cause_of, failure_of, forward_of, r
 
 pub nothing_done : (a : State) → Silent a a
 nothing_done a = record { honest = λ h. h; scripts = refl }
+
+pub where_ok : {T E : Type 0} (P Q : T → Type 0) (result : Result T E) → ((x : T) → P x → Q x) → IfOk result P → IfOk result Q
+where_ok P Q (Ok x) so is = so x is
+where_ok P Q (Err e) so is = tt
+
+-- rows behind others, parted
+pub behind : (there rows xs ys : List Row) → rows ≡ xs ++ ys → there ++ rows ≡ (there ++ xs) ++ ys
+behind there rows xs ys are = ap (λ (l : List Row). there ++ l) are ∙ sym (append_assoc there xs ys)
+
+pub behind_one : (there xs : List Row) (row : Row) → length (there ++ xs) + 1 ≡ length (there ++ (xs ++ row ∷ []))
+behind_one there xs row = sym (length-append (there ++ xs) (row ∷ [])) ∙ ap length (append_assoc there xs (row ∷ []))
 
 module _ (fits : ℕ → Row → Type 0) (rows xs : List Row) where
   -- where rows fit, so do the first of them

@@ -7,6 +7,8 @@ ghost use Rattle.undo_rows.specs.declared.rows.Row.{Row};
 ghost use Rattle.undo_rows.specs.declared.fall.Fall.{Fall};
 ghost use Rattle.undo_rows.specs.Transcript.{Tells};
 ghost use Rattle.undo_rows.specs.declared.failed.Failed.{Failed};
+ghost use Rattle.undo_rows.specs.declared.unwinding.Unwinding.{Unwinding};
+ghost use Rattle.undo_rows.specs.Ended.{IsCauseOf};
 ghost use Rattle.undo_rows.specs.Telling.{Begun, HasRun, HasStepped, HasSucceeded, HasUnwound};
 ghost use Rattle.undo_rows.specs.Transcripts.{Committed, Ended, IfHonest, Legal, MayRun, MayStep, MayUnwind, Unwound};
 
@@ -63,4 +65,16 @@ pub fn what_is_broken_off_begins_a_run<H: Host, A: Around<H>>()
         → Begun (MayRun rows) a b told now
         → (ts more : List Ran) × (calls b ≡ calls a ++ ts)
         × (MayRun rows (ts ++ more) × Tells ts told now) }
+{}
+
+/// What some rows were unwound by, or broken off with, is that of these rows with others behind them.
+pub fn the_first_rows_are_rows_of_all<H: Host, A: Around<H>>()
+    ensures unwound { (t : A.Task) (rows after : List Row) (fall : Fall) (failed : List Failed)
+        (a b : State) (told now : List Called)
+        → HasRun (A.file_step_fault t) (Unwound fall failed) rows a b told now
+        → HasRun (A.file_step_fault t) (Unwound fall failed) (rows ++ after) a b told now }
+    ensures begun { (rows after : List Row) (a b : State) (told now : List Called)
+        → Begun (MayRun rows) a b told now → Begun (MayRun (rows ++ after)) a b told now }
+    ensures cause { (rows after : List Row) (u : Unwinding)
+        → IsCauseOf rows (Some u) → IsCauseOf (rows ++ after) (Some u) }
 {}

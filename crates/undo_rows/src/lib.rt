@@ -20,7 +20,9 @@
 //!
 //! `run_rows` steps through a whole list of rows over any `Around` and undoes them where one fails:
 //! the calls are a legal run of the rows (`calls`), and where it failed, for which forward call or
-//! step fault (`cause`).
+//! step fault (`cause`). `run_part` does so with rows behind others that have succeeded, all of which
+//! it undoes; so the rows may run in parts, and the run of a first part is one of all of them
+//! (`the_first_rows_are_rows_of_all`).
 #![tactic(auto)]
 
 mod around;
@@ -39,8 +41,10 @@ pub use around::Around;
 pub use failed::Failed;
 pub use failure::Failure;
 pub use fall::{Fall, StepFault};
-pub use laws::{steps_and_an_unwind_are_a_run, what_is_broken_off_begins_a_run};
+pub use laws::{
+    steps_and_an_unwind_are_a_run, the_first_rows_are_rows_of_all, what_is_broken_off_begins_a_run,
+};
 pub use rows::{Called, Owner, Row, try_row, undo_row};
-pub use run::run_rows;
+pub use run::{run_part, run_rows};
 pub use stack::Stack;
 pub use unwinding::Unwinding;

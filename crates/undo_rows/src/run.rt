@@ -1,11 +1,12 @@
 // A run of rows: forward, and back where one fails.
-ghost use Rattle.std.specs.Prelude.{◌≡◌, [], IfOk, IfSome, IsSome, None, Some, length};
-ghost use Rattle.host_core.specs.Host.{Counts};
+ghost use Rattle.std.specs.Prelude.{◌≡◌, ◌++◌, [], IfNone, IfOk, IfSome, IsSome, List, None, Some, length};
+ghost use Rattle.host_core.specs.Host.{Counts, State};
 ghost use Rattle.scattered_losses.specs.Apart.{WorksApart};
 ghost use Rattle.undo_rows.specs.Faults.{OnlyIfDeclined};
 ghost use Rattle.undo_rows.specs.Place.{Back, Fit, Forward};
 ghost use Rattle.undo_rows.specs.Stops.{AtEachStop};
-ghost use Rattle.undo_rows.specs.Telling.{Begun, HasRun, HasUnwound};
+ghost use Rattle.undo_rows.specs.Telling.{Begun, HasRun, HasSucceeded, HasUnwound};
+ghost use Rattle.undo_rows.specs.declared.rows.Called.{Called};
 ghost use Rattle.undo_rows.specs.Transcripts.{MayRun, MayUnwind};
 ghost use Rattle.undo_rows.specs.Ended.{IsCauseOf, cause_of, end_place, ended_as};
 ghost use Rattle.undo_rows.specs.Stepping.{HasStopped, stop_place};
@@ -31,7 +32,7 @@ fn forward_copy(row: &Row) -> Result<Option<Call>, AllocError>
     }
 }
 
-// Steps through the rows, until one fails.
+// Steps through the rows behind those of the stack, until one fails.
 fn step_rows<H: Host, A: Around<H>>(
     host: &mut H,
     around: &mut A,
@@ -39,17 +40,20 @@ fn step_rows<H: Host, A: Around<H>>(
     rows: Vec<Row>,
     told: &mut Vec<Called>,
 ) -> Result<Option<Stopped>, HostFault>
-    requires place { A.at around.old (H.state host.old) (Forward 0) }
-    requires rows { Fit (A.fits (A.task around.old)) rows.items }
-    requires empty { stack.old ≡ [] }
+    requires place { A.at around.old (H.state host.old) (Forward (length stack.old)) }
+    requires rows { Fit (A.fits (A.task around.old)) (stack.old ++ rows.items) }
     ensures calls { IfOk result
-        (λ stopped. HasStopped (A.file_step_fault (A.task around.old)) stopped rows.items stack.new
-        (H.state host.old) (H.state host.new) told.old.items told.new.items) }
-    ensures told { Begun (MayRun rows.items) (H.state host.old) (H.state host.new) told.old.items
-        told.new.items }
+        (λ stopped. HasStopped (A.file_step_fault (A.task around.old)) stopped stack.old rows.items
+        stack.new (H.state host.old) (H.state host.new) told.old.items told.new.items) }
+    ensures told { (start : State) (before : List Called)
+        → HasSucceeded (A.file_step_fault (A.task around.old)) stack.old start (H.state host.old)
+        before told.old.items
+        → Begun (MayRun (stack.old ++ rows.items)) start (H.state host.new) before told.new.items }
+    ensures stacked { IfOk result
+        (λ stopped. IfNone stopped (stack.new ≡ stack.old ++ rows.items)) }
     ensures place { IfOk result
         (λ stopped. A.at around.new (H.state host.new)
-        (stop_place (length rows.items) (length stack.new) stopped)) }
+        (stop_place (length (stack.old ++ rows.items)) (length stack.new) stopped)) }
     ensures denied { IfOk result
         (λ stopped. IfSome stopped
         (λ one. OnlyIfDeclined one.fall.fault (H.state host.old) (H.state host.new))) }
@@ -123,8 +127,9 @@ fn unwind_rows<H: Host, A: Around<H>>(
     }
 }
 
-// A run over an empty stack.
-fn run_on<H: Host, A: Around<H>>(
+/// Steps through the rows behind those of the stack, which have succeeded; where one fails, it and all before it are undone. The
+/// answer is how, or none where all succeeded; the stack has them too then.
+pub fn run_part<H: Host, A: Around<H>>(
     alloc: Global,
     host: &mut H,
     around: &mut A,
@@ -132,21 +137,24 @@ fn run_on<H: Host, A: Around<H>>(
     rows: Vec<Row>,
     told: &mut Vec<Called>,
 ) -> Result<Option<Unwinding>, HostFault>
-    requires place { A.at around.old (H.state host.old) (Forward 0) }
-    requires rows { Fit (A.fits (A.task around.old)) rows.items }
-    requires empty { stack.old ≡ [] }
-    ensures calls { IfOk result
-        (λ u.
-        HasRun (A.file_step_fault (A.task around.old)) (ended_as u) rows.items (H.state host.old)
-        (H.state host.new) told.old.items told.new.items) }
-    ensures cause { IfOk result (IsCauseOf rows.items) }
+    requires place { A.at around.old (H.state host.old) (Forward (length stack.old)) }
+    requires rows { Fit (A.fits (A.task around.old)) (stack.old ++ rows.items) }
+    ensures calls { IfOk result (λ u. (start : State) (before : List Called)
+        → HasSucceeded (A.file_step_fault (A.task around.old)) stack.old start (H.state host.old)
+        before told.old.items
+        → HasRun (A.file_step_fault (A.task around.old)) (ended_as u) (stack.old ++ rows.items)
+        start (H.state host.new) before told.new.items) }
+    ensures stacked { IfOk result (λ u. IfNone u (stack.new ≡ stack.old ++ rows.items)) }
+    ensures cause { IfOk result (IsCauseOf (stack.old ++ rows.items)) }
     ensures denied { IfOk result
         (λ u. IfSome u
         (λ one. OnlyIfDeclined one.fall.fault (H.state host.old) (H.state host.new))) }
-    ensures told { Begun (MayRun rows.items) (H.state host.old) (H.state host.new) told.old.items
-        told.new.items }
-    ensures place { IfOk result
-        (λ u. A.at around.new (H.state host.new) (end_place (length rows.items) u)) }
+    ensures told { (start : State) (before : List Called)
+        → HasSucceeded (A.file_step_fault (A.task around.old)) stack.old start (H.state host.old)
+        before told.old.items
+        → Begun (MayRun (stack.old ++ rows.items)) start (H.state host.new) before told.new.items }
+    ensures place { IfOk result (λ u. A.at around.new (H.state host.new)
+        (end_place (length (stack.old ++ rows.items)) u)) }
     ensures any_moment { AtEachStop (A.stops (A.task around.old)) (H.state host.old)
         (H.state host.new) }
     ensures apart { WorksApart result A.area (H.state host.old) (H.state host.new) }
@@ -191,6 +199,7 @@ pub fn run_rows<H: Host, A: Around<H>>(
     ensures reference { A.reference around.new ≡ A.reference around.old }
     ensures counts { Counts (H.state host.old) (H.state host.new) result }
 {
+    steps_and_an_unwind_are_a_run::<H, A>();
     let mut stack = Stack::new(alloc);
-    run_on(alloc, host, around, &mut stack, rows, told)
+    run_part(alloc, host, around, &mut stack, rows, told)
 }

@@ -1,5 +1,5 @@
 -- What a unit's answer says of the faults of its host.
-use Rattle.std.proofs.Common.{◌≡◌, ◌+◌, ℕ, Option, Some, None, Err, refl, sym, ap, subst, ◌∙◌, arith}
+use Rattle.std.proofs.Common.{◌+◌, ℕ, Option, Some, None, Err, refl, sym, ap, subst, ◌∙◌, arith}
 use Rattle.host_core.proofs.Counted.{declined_then, no_fault_same, no_fault_since, no_fault_then}
 use Rattle.host_core.specs.Host.{State, Counts, HasFailed, NoFault}
 use Rattle.host_core.specs.declared.fault.HostFault.{HostFault}
@@ -8,8 +8,8 @@ use Rattle.undo_rows.specs.declared.failure.Failure.{Failure}
 use Rattle.undo_rows.specs.declared.failure.Failure.TheVariants.{OfCall, OfFiles}
 use Rattle.undo_rows.specs.declared.fall.StepFault.{StepFault}
 use Rattle.undo_rows.specs.declared.fall.StepFault.TheVariants as step
-use Rattle.unit_reports.specs.Units.{CountsCause, CountsLast, CountsReply, CountsStepFault, IsBroken, IsBrokenBy, breakage_of}
-use Rattle.unit_reports.specs.declared.report.Breakage.TheVariants.{Device, NoMemory, Declined, Damaged, Closed}
+use Rattle.unit_reports.specs.Units.{CountsCause, CountsLast, CountsReply, CountsStepFault, IsBroken, IsBrokenBy, IsFromBefore, breakage_of}
+use Rattle.unit_reports.specs.declared.report.Breakage.TheVariants.{Device, NoMemory, Declined, Damaged, Closed, Abandoned}
 use Rattle.unit_reports.specs.declared.report.Reply.{Reply}
 use Rattle.unit_reports.specs.declared.report.Reply.TheVariants.{Done, Refused, Failed, Looped, Broken}
 use Rattle.unit_reports.specs.declared.report.Unit.{Unit as AUnit}
@@ -55,6 +55,7 @@ counts_from (Broken NoMemory) a b c same counts = no_fault_then a b c same count
 counts_from (Broken Declined) a b c same counts = declined_then a b c same counts
 counts_from (Broken Damaged) a b c same counts = no_fault_then a b c same counts
 counts_from (Broken Closed) a b c same counts = no_fault_then a b c same counts
+counts_from (Broken Abandoned) a b c same counts = no_fault_then a b c same counts
 
 pub last_from : (last : Option AUnit) (a b c : State) → NoFault a b → CountsLast b c last → CountsLast a c last
 last_from None a b c same counts = no_fault_then a b c same counts
@@ -94,10 +95,30 @@ counts_broken T fault reply a b broken counts = subst (CountsReply a b) (sym bro
 pub counts_no_memory : (reply : Reply) (a b : State) → NoFault a b → IsBrokenBy NoMemory reply → CountsReply a b reply
 counts_no_memory reply a b same broken = subst (CountsReply a b) (sym broken) same
 
+-- One that was broken off in itself, and not for what was there before it.
+
+pub not_closed : (reply : Reply) → (IsFromBefore reply → ⊥) → IsBrokenBy Closed reply → ⊥
+not_closed reply within closed = within (subst IsFromBefore (sym closed) tt)
+
+pub not_abandoned : (reply : Reply) → (IsFromBefore reply → ⊥) → IsBrokenBy Abandoned reply → ⊥
+not_abandoned reply within abandoned = within (subst IsFromBefore (sym abandoned) tt)
+
+pub no_memory_within : (reply : Reply) → IsBrokenBy NoMemory reply → IsFromBefore reply → ⊥
+no_memory_within reply broken before = subst IsFromBefore broken before
+
+pub fault_within : (fault : HostFault) (reply : Reply) → IsBrokenBy (breakage_of fault) reply → IsFromBefore reply → ⊥
+fault_within host.Device reply is before = subst IsFromBefore is before
+fault_within host.NoMemory reply is before = subst IsFromBefore is before
+fault_within host.Declined reply is before = subst IsFromBefore is before
+
 pub no_memory_not_closed : (reply : Reply) → IsBrokenBy NoMemory reply → IsBrokenBy Closed reply → ⊥
-no_memory_not_closed reply broken closed = let e : Broken NoMemory ≡ Broken Closed = sym broken ∙ closed in cc
+no_memory_not_closed reply broken = not_closed reply (no_memory_within reply broken)
+
+pub no_memory_not_abandoned : (reply : Reply) → IsBrokenBy NoMemory reply → IsBrokenBy Abandoned reply → ⊥
+no_memory_not_abandoned reply broken = not_abandoned reply (no_memory_within reply broken)
 
 pub fault_not_closed : (fault : HostFault) (reply : Reply) → IsBrokenBy (breakage_of fault) reply → IsBrokenBy Closed reply → ⊥
-fault_not_closed host.Device reply is closed = let e : Broken Device ≡ Broken Closed = sym is ∙ closed in cc
-fault_not_closed host.NoMemory reply is closed = no_memory_not_closed reply is closed
-fault_not_closed host.Declined reply is closed = let e : Broken Declined ≡ Broken Closed = sym is ∙ closed in cc
+fault_not_closed fault reply is = not_closed reply (fault_within fault reply is)
+
+pub fault_not_abandoned : (fault : HostFault) (reply : Reply) → IsBrokenBy (breakage_of fault) reply → IsBrokenBy Abandoned reply → ⊥
+fault_not_abandoned fault reply is = not_abandoned reply (fault_within fault reply is)

@@ -14,7 +14,7 @@ use Rattle.undo_rows.specs.declared.rows.Called.{Called}
 use Rattle.unit_reports.specs.Held.{Held}
 use Rattle.unit_reports.specs.declared.refusal.Rule.{Rule}
 use Rattle.unit_reports.specs.declared.report.Breakage.{Breakage}
-use Rattle.unit_reports.specs.declared.report.Breakage.TheVariants.{Device, NoMemory, Declined, Damaged, Closed}
+use Rattle.unit_reports.specs.declared.report.Breakage.TheVariants.{Device, NoMemory, Declined, Damaged, Closed, Abandoned}
 use Rattle.unit_reports.specs.declared.report.Reply.{Reply}
 use Rattle.unit_reports.specs.declared.report.Reply.TheVariants.{Done, Refused, Failed, Looped, Broken}
 use Rattle.unit_reports.specs.declared.report.Report.{Report}
@@ -54,6 +54,27 @@ IsBroken (Looped cycle) = ⊥
 abbrev pub IsBrokenBy : Breakage → Reply → Type 0
 IsBrokenBy breakage reply = reply ≡ Broken breakage
 
+-- a unit that was broken off for what was there before it: the session was closed, or as many had failed as were allowed to
+abbrev pub IsFromBefore : Reply → Type 0
+IsFromBefore (Broken Device) = ⊥
+IsFromBefore (Broken NoMemory) = ⊥
+IsFromBefore (Broken Declined) = ⊥
+IsFromBefore (Broken Damaged) = ⊥
+IsFromBefore (Broken Closed) = Unit {0}
+IsFromBefore (Broken Abandoned) = Unit {0}
+IsFromBefore Done = ⊥
+IsFromBefore (Refused refusal) = ⊥
+IsFromBefore (Failed failure) = ⊥
+IsFromBefore (Looped cycle) = ⊥
+
+-- the answer of a unit that a rule refuses
+abbrev pub IsRefusal : Reply → Type 0
+IsRefusal (Refused refusal) = Unit {0}
+IsRefusal Done = ⊥
+IsRefusal (Failed failure) = ⊥
+IsRefusal (Looped cycle) = ⊥
+IsRefusal (Broken breakage) = ⊥
+
 abbrev pub breakage_of : HostFault → Breakage
 breakage_of host.Device = Device
 breakage_of host.NoMemory = NoMemory
@@ -80,6 +101,7 @@ CountsReply old new (Broken NoMemory) = NoFault old new
 CountsReply old new (Broken Declined) = HasDeclined old new
 CountsReply old new (Broken Damaged) = NoFault old new
 CountsReply old new (Broken Closed) = NoFault old new
+CountsReply old new (Broken Abandoned) = NoFault old new
 CountsReply old new Done = NoFault old new
 CountsReply old new (Refused refusal) = NoFault old new
 CountsReply old new (Failed failure) = CountsCause old new failure.cause

@@ -28,6 +28,7 @@ pub struct Cycle {
 
 /// Why a unit was broken off: a device fault, want of memory, a step that was declined where it
 /// can't be undone, a table of diversions that can't be read, or a session that is closed since one of these.
+/// A unit that was abandoned wasn't begun, since as many had failed as were allowed to.
 #[derive(Clone, Copy)]
 pub enum Breakage {
     Device,
@@ -35,6 +36,7 @@ pub enum Breakage {
     Declined,
     Damaged,
     Closed,
+    Abandoned,
 }
 
 #[derive(Drop)]

@@ -1,9 +1,9 @@
 // Who is told the units of a command as they are finished, and when.
-ghost use Rattle.std.specs.Prelude.{◌≡◌, ◌++◌, [], ◌∷◌, List};
+ghost use Rattle.std.specs.Prelude.{◌≡◌, ◌++◌, [], ◌∷◌, Bool, IsTrue, List, false};
 ghost use Rattle.host_core.specs.Host.{State};
 ghost use Rattle.host_core.specs.Loss.{IsAnswered};
 ghost use Rattle.undo_rows.specs.Transcript.{TellsAll};
-ghost use Rattle.unit_reports.specs.Units.{calls_of};
+ghost use Rattle.unit_reports.specs.Units.{IsRefusal, calls_of};
 ghost use Rattle.unit_reports.specs.Watching.{AddsTold, IsTold};
 ghost use Rattle.unit_reports.specs.declared.report.Unit.{Unit as AUnit};
 
@@ -15,9 +15,17 @@ pub trait Watcher {
     /// How it comes from one state to another by being told a unit, at this state of the host.
     ghost tells: { Self → AUnit → State → Self → Type 0 };
 
-    /// A unit is finished.
+    /// Whether it wants no further unit to be begun.
+    ghost ends: { Self → Bool };
+
+    /// A unit is finished. Where no further one was to be begun, it's one that a rule refuses.
     fn finished<H: Host>(&mut self, host: &H, unit: &Unit)
+        requires begun { IsTrue (ends self.old) → IsRefusal unit.now.reply }
         ensures { tells self.old unit.now (H.state host.now) self.new };
+
+    /// Whether no further unit is to be begun.
+    fn is_over(&self) -> bool
+        ensures { result ≡ ends self.now };
 }
 
 /// Does nothing with what it is told.
@@ -27,9 +35,15 @@ pub struct Unwatched;
 impl Watcher for Unwatched {
     ghost tells = { λ old unit at new. new ≡ old };
 
+    ghost ends = { λ watcher. false };
+
     fn finished<H: Host>(&mut self, host: &H, unit: &Unit) {
         let _ = host;
         let _ = unit;
+    }
+
+    fn is_over(&self) -> bool {
+        false
     }
 }
 

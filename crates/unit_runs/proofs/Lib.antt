@@ -1,2 +1,3 @@
+pub mod Barred
 pub mod Going
 pub mod Taken

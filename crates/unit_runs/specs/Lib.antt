@@ -1,2 +1,3 @@
+pub mod Barring
 pub mod Turns
 pub mod Taking

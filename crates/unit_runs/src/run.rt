@@ -1,5 +1,5 @@
 // Units, one after another.
-ghost use Rattle.std.specs.Prelude.{◌≡◌, ◌++◌, ◌<◌, [], true, IfErr, IfOk, OnErr, OnOk, vec_capacity, vec_len};
+ghost use Rattle.std.specs.Prelude.{◌≡◌, ◌++◌, ◌<◌, [], IsTrue, None, Some, false, true, IfErr, IfOk, OnErr, OnOk, vec_capacity, vec_len};
 ghost use Rattle.host_core.specs.Host.{AtEachMomentOf, Needs, Since, NoFault};
 ghost use Rattle.host_core.specs.Loss.{IsAnswered};
 ghost use Rattle.held_administration.specs.Open.{IsOpen};
@@ -8,21 +8,31 @@ ghost use Rattle.undo_rows.specs.Transcript.{TellsAll};
 ghost use Rattle.unit_reports.specs.Held.{held_by};
 ghost use Rattle.unit_reports.specs.Units.{CountsReply, IsBrokenBy, calls_of};
 ghost use Rattle.unit_reports.specs.Watching.{AddsTold};
-ghost use Rattle.unit_reports.specs.declared.report.Breakage.TheVariants.{Closed};
+ghost use Rattle.unit_reports.specs.declared.report.Breakage.TheVariants.{Abandoned, Closed};
 ghost use Rattle.unit_runs.specs.Taking.{GoesOn};
+ghost use Rattle.unit_runs.specs.declared.barring.Bar.TheVariants as bar;
 ghost use Rattle.unit_runs.specs.Turns.{GoesTo, HasStopped, HaveAllTurned, IsAmidNext, IsAmidTurns, IsBrokenNext};
 
+use crate::barring::Bar;
 use crate::turns::Turns;
 use held_administration::Administration;
 use host_core::Host;
 use unit_reports::{Unit, Watcher, what_is_told_in_turn};
 
-// Whether there is room for one unit more.
-fn has_room(units: &mut Vec<Unit>) -> bool
+// Why the next unit isn't begun, where it isn't; else there is room for it.
+fn bar_of<W: Watcher>(units: &mut Vec<Unit>, watcher: &W) -> Option<Bar>
     ensures same { units.new.items ≡ units.old.items }
-    ensures room { result ≡ true → vec_len units.new < vec_capacity units.new }
+    ensures room { result ≡ None → vec_len units.new < vec_capacity units.new }
+    ensures going { result ≡ None → W.ends watcher.now ≡ false }
+    ensures abandoned { result ≡ Some bar.Abandoned → IsTrue (W.ends watcher.now) }
 {
-    units.reserve(1).is_ok()
+    if watcher.is_over() {
+        return Some(Bar::Abandoned);
+    }
+    if units.reserve(1).is_err() {
+        return Some(Bar::NoRoom);
+    }
+    None
 }
 
 // The unit of the next turn more, or the unit that was broken off. The answer is whether a turn was left.
@@ -61,6 +71,8 @@ fn run_one<H: Host, T: Turns<H>, W: Watcher>(
     ensures counts { IfErr result (λ unit. CountsReply (H.state host.old) (H.state host.new)
         unit.reply) }
     ensures not_closed { IfErr result (λ unit. IsBrokenBy Closed unit.reply → ⊥) }
+    ensures abandoned { IfErr result (λ unit. IsBrokenBy Abandoned unit.reply
+        → IsTrue (W.ends watcher.new)) }
     ensures task { OnOk result (T.task turns.new ≡ T.task turns.old) }
     ensures goes { T.goes (T.task turns.old) (T.left turns.old) (T.left turns.new) }
     ensures fewer { IfOk result (λ more. more ≡ true → T.size (T.left turns.new)
@@ -69,8 +81,8 @@ fn run_one<H: Host, T: Turns<H>, W: Watcher>(
         watcher.old watcher.new }
 {
     what_is_told_in_turn::<W>();
-    let room = has_room(units);
-    match turns.take(host, administration, room) {
+    let barred = bar_of(units, watcher);
+    match turns.take(host, administration, barred) {
         Ok(Some(unit)) => {
             watcher.finished(host, &unit);
             units.push(unit).unwrap();
@@ -119,6 +131,8 @@ pub fn run_units<H: Host, T: Turns<H>, W: Watcher>(
     ensures counts { IfErr result (λ unit. CountsReply (H.state host.old) (H.state host.new)
         unit.reply) }
     ensures not_closed { IfErr result (λ unit. IsBrokenBy Closed unit.reply → ⊥) }
+    ensures abandoned { IfErr result (λ unit. IsBrokenBy Abandoned unit.reply
+        → IsTrue (W.ends watcher.new)) }
     ensures task { OnOk result (T.task turns.new ≡ T.task turns.old) }
     ensures goes { GoesTo (T.goes (T.task turns.old)) (T.left turns.old) (T.left turns.new) }
     ensures watched { AddsTold W.tells (H.state host.old) units.old.items units.new.items

@@ -1,5 +1,5 @@
 // The turns of a command.
-ghost use Rattle.std.specs.Prelude.{◌≡◌, ◌<◌, [], ℕ, false, List, None, IfErr, IfOk, IfSome, OnOk};
+ghost use Rattle.std.specs.Prelude.{◌≡◌, ◌<◌, [], ℕ, true, List, None, Some, IfErr, IfOk, IfSome, OnOk, is_some};
 ghost use Rattle.host_core.specs.Events.{Event};
 ghost use Rattle.host_core.specs.Host.{AtEachMomentOf, Needs, State};
 ghost use Rattle.host_core.specs.Loss.{IsAnswered};
@@ -11,11 +11,13 @@ ghost use Rattle.held_administration.specs.declared.held.Administration.{Adminis
 ghost use Rattle.undo_rows.specs.Transcript.{TellsAll};
 ghost use Rattle.unit_reports.specs.Held.{Held, held_by};
 ghost use Rattle.unit_reports.specs.Units.{IsBrokenBy};
-ghost use Rattle.unit_reports.specs.declared.report.Breakage.TheVariants.{Closed};
+ghost use Rattle.unit_reports.specs.declared.report.Breakage.TheVariants.{Abandoned, Closed};
 ghost use Rattle.unit_reports.specs.declared.report.Unit.{Unit as AUnit};
 ghost use Rattle.unit_runs.specs.Taking.{CountsTaken, IsTaken, calls_in};
 ghost use Rattle.unit_runs.specs.Turns.{IsAmidNext};
+ghost use Rattle.unit_runs.specs.declared.barring.Bar.TheVariants as bar;
 
+use crate::barring::Bar;
 use held_administration::Administration;
 use host_core::Host;
 use unit_reports::Unit;
@@ -57,13 +59,13 @@ pub trait Turns<H: Host> {
     /// No turn is left of what waits.
     ghost over: { Self → Self.Left → Held → Type 0 };
 
-    /// The unit of the next turn; none where no turn is left. An error is the unit that was broken off, as it is where there
-    /// is no room for it.
+    /// The unit of the next turn; none where no turn is left. An error is the unit that was broken off, as it is where it
+    /// isn't to be begun.
     fn take(
         &mut self,
         host: &mut H,
         administration: &mut Administration,
-        room: bool,
+        barred: Option<Bar>,
     ) -> Result<Option<Unit>, Unit>
         requires between { between self.old administration.old }
         requires open { IsOpen (diverted self.old).ways administration.old }
@@ -73,7 +75,7 @@ pub trait Turns<H: Host> {
             (left self.old) (left self.new) (held_by administration.old (diverted self.old))
             (held_by administration.new (diverted self.new)) (H.state host.old) (H.state host.new)
             result }
-        ensures room { room ≡ false → IfOk result (λ found. found ≡ None) }
+        ensures barred { is_some barred ≡ true → IfOk result (λ found. found ≡ None) }
         ensures between { OnOk result (between self.new administration.new) }
         ensures open { OnOk result (IsOpen (diverted self.new).ways administration.new) }
         ensures order { OnOk result (Needs (H.state host.new)
@@ -85,6 +87,8 @@ pub trait Turns<H: Host> {
             (H.state host.new) }
         ensures counts { CountsTaken (H.state host.old) (H.state host.new) result }
         ensures not_closed { IfErr result (λ unit. IsBrokenBy Closed unit.reply → ⊥) }
+        ensures abandoned { IfErr result (λ unit. IsBrokenBy Abandoned unit.reply
+            → barred ≡ Some bar.Abandoned) }
         ensures task { OnOk result (task self.new ≡ task self.old) }
         ensures goes { goes (task self.old) (left self.old) (left self.new) }
         ensures fewer { IfOk result (λ found. IfSome found (λ unit. size (left self.new)

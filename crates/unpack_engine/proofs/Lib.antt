@@ -23,8 +23,12 @@ pub mod Touching
 pub mod Whole
 pub mod UnitMoments
 pub mod Quiet
+pub mod Reading
+pub mod Again
 pub mod Planning
+pub mod Parts
 pub mod EndRecords
 pub mod InfoSound
 pub mod RecordsApart
 pub mod Alone
+pub mod Late

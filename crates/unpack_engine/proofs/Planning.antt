@@ -1,21 +1,27 @@
 -- A unit that is planned first: what it only looks at before changes nothing of what is carried out then.
 use Rattle.std.proofs.Common.{◌≡◌, IsTrue, true, List, [], ◌∷◌, ◌++◌, inl, inr, refl, sym, ap, subst, ◌∙◌, append_assoc}
+use Rattle.std.specs.Prelude.{Err, IfOk, Ok, OnOk, Option, Result}
 use Rattle.host_core.specs.Paths.{Path}
 use Rattle.host_core.specs.World.{World}
 use Rattle.host_core.specs.Events.{Event, Did, Finished, Cut, Failed, Denied, changes_of, scripts_of}
 use Rattle.host_core.specs.Host.{State, AllFailed, AtEachMomentOf, Reads, Silent}
 use Rattle.host_core.proofs.Moments.{scripts_of-append, since_reads, since_then, since_weaker_if, silent_then}
 use Rattle.host_core.proofs.Scripts.{changes_of-append, no_change, silent_added}
+use Rattle.undo_rows.specs.Ended.{IsCauseOf}
 use Rattle.undo_rows.specs.Transcripts.{Ended}
+use Rattle.undo_rows.specs.declared.rows.Row.{Row}
+use Rattle.undo_rows.specs.declared.unwinding.Unwinding.{Unwinding}
+use Rattle.diversions.specs.Ways.{Ways}
 use Rattle.file_lists.specs.declared.paths.PackageList.{PackageList}
 use Rattle.status_db.specs.Held.{HasRecords}
 use Rattle.status_db.specs.Recorded.{Recorded}
 use Rattle.undo_rows.specs.declared.rows.Called.{Called}
-use Rattle.unpack_plan.specs.Planned.{Planned}
+use Rattle.unpack_plan.specs.Planned.{IsPlanned, Planned}
 use Rattle.unpack_steps.specs.Trail.{HasCome}
 use Rattle.unpack_rows.specs.Kinds.{kinds_of}
 use Rattle.unpack_rows.specs.Stages.{stage_of}
-use Rattle.unpack_engine.specs.Units.{Begins, Given, Ground, HasCalled, HasCalledRows, HasCarriedOut, HasUnpacked, IsAmidUnit, IsPlanFor, IsRunning, IsStage, IsUnderWay, ground_of, last_place, stage_records, task_from}
+use Rattle.unpack_engine.specs.Tables.{HasCarriedOutPlan, IsUnderWayByEither}
+use Rattle.unpack_engine.specs.Units.{Begins, Given, Ground, HasCalled, HasCalledRows, HasCarriedOut, HasFailedFor, HasUnpacked, IsAmidEither, IsAmidUnit, IsPlanFor, IsRunning, IsStage, IsUnderWay, ground_of, job_of, last_place, stage_records, task_from}
 use Rattle.unpack_engine.proofs.Sequel.{called_behind}
 use Rattle.unpack_engine.proofs.UnderWay.{IsStaged}
 
@@ -46,7 +52,7 @@ module _ (g : Ground) (p : Planned) (old : World) (early : List Event) (none : s
       let staged = staged_behind so_far now is.stage is.records in
       record { stage = staged.0; records = staged.1; opens = is.opens; incoming = is.incoming; loose = is.loose }
 
-none_failed : (es : List Event) → AllFailed es → scripts_of es ≡ []
+pub none_failed : (es : List Event) → AllFailed es → scripts_of es ≡ []
 none_failed [] all = refl
 none_failed (Did step ∷ es) all = elim all [ ]
 none_failed (Finished ran ∷ es) all = elim all [ ]
@@ -55,31 +61,10 @@ none_failed (Failed ∷ es) all = none_failed es all
 none_failed (Denied path ∷ es) all = elim all [ ]
 
 module _ (g : Given) (places : List Path) (old mid : State) (reads : Reads old mid) (silent : Silent old mid) where
-  looking_moments : AtEachMomentOf (IsAmidUnit g places) old mid
-  looking_moments = since_reads (IsAmidUnit g places old.world) old mid reads (λ es all. inl (refl, none_failed es all))
-
-  pub only_looked : AtEachMomentOf (IsAmidUnit g places) old mid
-  only_looked = looking_moments
-
   -- the plan is told by what was seen
   module _ (plan : Planned) (plan_for : IsPlanFor g old.world mid.honest plan) (new : State) (falls : IsTrue new.honest → IsTrue mid.honest) where
     pub planned_for : IsPlanFor g old.world new.honest plan
     planned_for = record { stored = plan_for.stored; seen = λ h. plan_for.seen (falls h); planned = plan_for.planned }
-
-    planned_true : IsTrue new.honest → IsPlanFor g old.world true plan
-    planned_true h = record { stored = plan_for.stored; seen = λ t. plan_for.seen (falls h); planned = plan_for.planned }
-
-    pub unit_amid : AtEachMomentOf (IsUnderWay (ground_of g places) plan) mid new → AtEachMomentOf (IsAmidUnit g places) old new
-    unit_amid moments = since_then (IsAmidUnit g places old.world) old mid new looking_moments
-        (since_weaker_if (IsUnderWay (ground_of g places) plan mid.world) (λ so_far. IsAmidUnit g places old.world (looking_moments.added ++ so_far)) mid new
-        (λ h so_far now is. inr (record {
-          plan = plan;
-          plan_for = planned_true h;
-          under_way = under_way_behind (ground_of g places) plan old.world looking_moments.added none_added so_far now (subst (λ w. IsUnderWay (ground_of g places) plan w so_far now) reads.world is);
-        })) moments)
-      where
-        none_added : scripts_of looking_moments.added ≡ []
-        none_added = silent_added old mid looking_moments.added silent looking_moments.events
 
     module _ (told now : List Called) where
       pub called_of : HasCalledRows plan.rows mid new told now → HasCalled g old new told now
@@ -109,3 +94,55 @@ module _ (g : Given) (places : List Path) (old mid : State) (reads : Reads old m
 
         pub unpacked_by : HasCarriedOut (ground_of g places) plan ended after lists mid new told now → HasUnpacked g places ended after lists old new told now
         unpacked_by carried = record { plan = plan; plan_for = planned_for; carried_out = carried_behind carried }
+
+-- At each moment of a unit whose table may be read again: by the plan as it began, or by another one of the same job and the other table.
+pub looked_moments : (g : Given) (ways : Ways) (places : List Path) (old mid : State) → Reads old mid → AtEachMomentOf (IsAmidEither g (record g { ways = ways }) places) old mid
+looked_moments g ways places old mid reads = since_reads (IsAmidEither g (record g { ways = ways }) places old.world) old mid reads (λ es all. inl (inl (refl, none_failed es all)))
+
+module _ (g : Given) (ways : Ways) (places : List Path) (old mid : State) (reads : Reads old mid) (silent : Silent old mid) (plan : Planned) (plan_for : IsPlanFor g old.world mid.honest plan) (new : State) where
+  abbrev late : Given
+  late = record g { ways = ways }
+
+  looked : AtEachMomentOf (IsAmidEither g late places) old mid
+  looked = looked_moments g ways places old mid reads
+
+  amid_either : (falls : IsTrue new.honest → IsTrue mid.honest) → IsTrue new.honest → (so_far : List Event) (now : World)
+      → IsUnderWayByEither (job_of g plan_for.stored) plan ways (ground_of g places) mid.world so_far now → IsAmidEither g late places old.world (looked.added ++ so_far) now
+  amid_either falls h so_far now (inl way) = inl (inr (record {
+    plan = plan;
+    plan_for = record { stored = plan_for.stored; seen = λ t. plan_for.seen (falls h); planned = plan_for.planned };
+    under_way = under_way_behind (ground_of g places) plan old.world looked.added (silent_added old mid looked.added silent looked.events) so_far now (subst (λ w. IsUnderWay (ground_of g places) plan w so_far now) reads.world way);
+  }))
+  amid_either falls h so_far now (inr (other, planned, way)) = inr (inr (record {
+    plan = other;
+    plan_for = record { stored = plan_for.stored; seen = λ t. plan_for.seen (falls h); planned = planned };
+    under_way = under_way_behind (ground_of late places) other old.world looked.added (silent_added old mid looked.added silent looked.events) so_far now (subst (λ w. IsUnderWay (ground_of late places) other w so_far now) reads.world way);
+  }))
+
+  pub either_amid : (falls : IsTrue new.honest → IsTrue mid.honest) → AtEachMomentOf (IsUnderWayByEither (job_of g plan_for.stored) plan ways (ground_of g places)) mid new → AtEachMomentOf (IsAmidEither g late places) old new
+  either_amid falls moments = since_then (IsAmidEither g late places old.world) old mid new looked
+      (since_weaker_if (IsUnderWayByEither (job_of g plan_for.stored) plan ways (ground_of g places) mid.world) (λ so_far. IsAmidEither g late places old.world (looked.added ++ so_far)) mid new
+      (λ h so_far now is. amid_either falls h so_far now is) moments)
+
+  -- the plan that was carried out is one for the other table
+  pub planned_late : (falls : IsTrue new.honest → IsTrue mid.honest) (other : Planned) → IsPlanned (job_of late plan_for.stored) other → IsPlanFor late old.world new.honest other
+  planned_late falls other planned = record { stored = plan_for.stored; seen = λ h. plan_for.seen (falls h); planned = planned }
+
+  planned_late_mid : (other : Planned) → IsPlanned (job_of late plan_for.stored) other → IsPlanFor late old.world mid.honest other
+  planned_late_mid other planned = record { stored = plan_for.stored; seen = plan_for.seen; planned = planned }
+
+  module _ (falls : IsTrue new.honest → IsTrue mid.honest) (told now : List Called) (ended : Ended) (after : Recorded) (lists : List PackageList) (rows : List Row)
+      (has : HasCarriedOutPlan (job_of late plan_for.stored) (ground_of late places) rows ended after lists mid new told now) where
+    pub unpacked_late : HasUnpacked late places ended after lists old new told now
+    unpacked_late = unpacked_by late places old mid reads silent has.plan (planned_late_mid has.plan has.planned) new falls told now ended after lists has.carried_out
+
+    pub failed_late : (u : Option Unwinding) → IsCauseOf rows u → HasFailedFor late old new u
+    failed_late u cause = record { plan = has.plan; plan_for = planned_late falls has.plan has.planned; cause = subst (λ (l : List Row). IsCauseOf l u) (sym has.rows_are) cause }
+
+    pub carried_late : HasCarriedOut (ground_of late places) has.plan ended after lists old new told now
+    carried_late = carried_behind late places old mid reads silent has.plan (planned_late_mid has.plan has.planned) new falls told now ended after lists has.carried_out
+
+-- of an answer two things hold, one of them where the host was honest
+pub if_ok_kept : {T E N : Type 0} (result : Result T E) (P R : T → Type 0) (A : Type 0) → ((x : T) → P x → (N → A) → R x) → IfOk result P → (N → OnOk result A) → IfOk result R
+if_ok_kept (Ok x) P R A so p a = so x p a
+if_ok_kept (Err e) P R A so p a = tt

@@ -2,3 +2,4 @@ pub mod Others
 pub mod Units
 pub mod Endings
 pub mod Touched
+pub mod Tables

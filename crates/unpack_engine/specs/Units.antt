@@ -1,22 +1,25 @@
 -- The unit of an unpack: what it does, from the world that it finds to the one that it leaves, and what holds at each moment of it
 -- (Policy 6.6).
-use Rattle.std.specs.Prelude.{◌≡◌, ◌⊎◌, ◌↔◌, ℕ, Bool, true, false, IsTrue, List, [], ◌∷◌, ◌++◌, Option, Some, None, Contains, is_some, length, nat_le}
+use Rattle.std.specs.Prelude.{◌≡◌, ◌⊎◌, ◌↔◌, ◌+◌, ℕ, Bool, true, false, IsTrue, List, [], ◌∷◌, ◌++◌, Option, Some, None, Contains, is_some, length, nat_le, take}
 use Rattle.host_core.specs.Paths.{Path}
 use Rattle.host_core.specs.World.{World, KeepsBut}
-use Rattle.host_core.specs.Events.{Event, changes_of, scripts_of}
-use Rattle.host_core.specs.Host.{State, Silent, WasDenied}
+use Rattle.host_core.specs.Events.{Event, Ran, changes_of, scripts_of}
+use Rattle.host_core.specs.Host.{State, Silent, WasDenied, calls}
 use Rattle.host_core.specs.Loss.{IsLater}
 use Rattle.host_core.specs.declared.call.Script.{Script}
 use Rattle.administration.specs.Directories.{IsRemoved}
 use Rattle.administration.specs.Files.{IsDropped, IsDropping}
-use Rattle.administration.specs.Places.{list_path, script_path, tmp_path, is_within}
+use Rattle.administration.specs.Places.{diversions_path, list_path, script_path, tmp_path, is_within}
 use Rattle.undo_rows.specs.declared.rows.Called.{Called}
 use Rattle.undo_rows.specs.declared.rows.Row.{Row}
 use Rattle.undo_rows.specs.Place.{Place}
 use Rattle.undo_rows.specs.Telling.{Begun, HasRun}
-use Rattle.undo_rows.specs.Transcripts.{Ended, Committed, Unwound, MayRun}
+use Rattle.undo_rows.specs.Transcript.{Succeed}
+use Rattle.undo_rows.specs.Transcripts.{Anyhow, Ended, Committed, Unwound, MayRun}
 use Rattle.control_members.specs.LaidOut.{AreLaidOut, IsIncoming, IsLaying}
 use Rattle.control_members.specs.declared.member.Member.{Member}
+use Rattle.diversions.specs.Diverted.{Diverted}
+use Rattle.diversions.specs.Lines.{HasDiversions, IsDamageAt}
 use Rattle.diversions.specs.Ways.{Ways}
 use Rattle.file_lists.specs.Increasing.{AreIncreasing}
 use Rattle.file_lists.specs.Info.{AreLoose}
@@ -34,7 +37,7 @@ use Rattle.unpack_rows.specs.EndStates.{end_of, own_name}
 use Rattle.unpack_rows.specs.ForwardRows.{is_present}
 use Rattle.unpack_rows.specs.Kinds.{kinds_of}
 use Rattle.unpack_rows.specs.Notes.{noted, notes_at}
-use Rattle.unpack_rows.specs.Stages.{stage_of}
+use Rattle.unpack_rows.specs.Stages.{has_files, stage_of}
 use Rattle.unpack_rows.specs.declared.rows.OtherPackage.{OtherPackage}
 use Rattle.unpack_rows.specs.declared.rows.Present.{Present}
 use Rattle.unpack_steps.specs.Clearing.{MayClear, is_gone, next_ready}
@@ -46,32 +49,34 @@ use Rattle.unpack_commit.specs.Takeover.{losers, losing_records, put_records, ta
 use Rattle.unpack_plan.specs.Planned.{Job, Planned, IsPlanned}
 use Rattle.unpack_engine.specs.Others.{AreOthers, yields_beside}
 
--- the tree, and what the administration says of records, lists and diversions when the unit begins; the other packages that have
--- rows, and packages with whose files no path clashes
+-- the tree, and what the administration says of records and lists when the unit begins, and of diversions as it begins and as its
+-- files are checked: by the first conffiles change their package, by the other paths have their places; the other packages that
+-- have rows, and packages with whose files no path clashes
 pub record Given : Type 0 where
   pub «package» : Package
   pub records : List Record
   pub lists : List PackageList
+  pub begun : Ways
   pub ways : Ways
   pub others : List OtherPackage
   pub yields : List (List ℕ)
 
-abbrev pub given_beside : Package → List Record → List PackageList → Ways → List OtherPackage → List (List ℕ) → Given
-given_beside «package» records lists ways others yields =
-    record { «package» = «package»; records = records; lists = lists; ways = ways; others = others; yields = yields }
+abbrev pub given_beside : Package → List Record → List PackageList → (begun ways : Ways) → List OtherPackage → List (List ℕ) → Given
+given_beside «package» records lists begun ways others yields =
+    record { «package» = «package»; records = records; lists = lists; begun = begun; ways = ways; others = others; yields = yields }
 
 -- what is held of the administration says so
-abbrev pub given_from : Package → Administration → Ways → List OtherPackage → List (List ℕ) → Given
-given_from «package» a ways others yields = given_beside «package» a.database.records a.lists.lists ways others yields
+abbrev pub given_from : Package → Administration → (begun ways : Ways) → List OtherPackage → List (List ℕ) → Given
+given_from «package» a begun ways others yields = given_beside «package» a.database.records a.lists.lists begun ways others yields
 
--- where no other package has a row or yields
+-- where no other package has a row or yields, and the diversions stay
 abbrev pub given : Package → List Record → List PackageList → Ways → Given
-given «package» records lists ways = given_beside «package» records lists ways [] []
+given «package» records lists ways = given_beside «package» records lists ways ways [] []
 
 -- with the scripts of the old version that are stored
 abbrev pub job_of : Given → Present → Job
 job_of g stored =
-    record { «package» = g.«package»; records = g.records; lists = g.lists; ways = g.ways; stored = stored; others = g.others; yields = g.yields }
+    record { «package» = g.«package»; records = g.records; lists = g.lists; begun = g.begun; ways = g.ways; stored = stored; others = g.others; yields = g.yields }
 
 -- which scripts are stored with a package, by its record: without one none is looked for
 abbrev pub IsSeen : Option Record → List ℕ → World → Present → Type 0
@@ -162,8 +167,8 @@ pub data IsRunning (begins may_begin : World → World → Type 0) (task : State
   running : (begun : State) (before more : List Event) → so_far ≡ before ++ more → scripts_of before ≡ [] → begins old begun.world
       → Stops (task begun) (begun.events ++ more) now → IsRunning begins may_begin task old so_far now
 
--- what the unit finds and what doesn't change while it runs: the records, lists and diversions, the places that scripts leave
--- alone, and the packages with which no path clashes
+-- what the unit finds and what doesn't change while it runs: the records and lists, the places that scripts leave alone, and the
+-- packages with which no path clashes; and the diversions by which its files go
 pub record Ground : Type 0 where
   pub records : List Record
   pub lists : List PackageList
@@ -341,6 +346,53 @@ pub record IsAmid (g : Given) (places : List Path) (old : World) (so_far : List 
 -- the same, or it only looks yet
 abbrev pub IsAmidUnit : Given → List Path → World → List Event → World → Type 0
 IsAmidUnit g places old so_far now = ((now ≡ old) × (scripts_of so_far ≡ [])) ⊎ IsAmid g places old so_far now
+
+-- the same by either of two: with the diversions as it began, or as its files were checked
+abbrev pub IsAmidEither : Given → Given → List Path → World → List Event → World → Type 0
+IsAmidEither first late places old so_far now = IsAmidUnit first places old so_far now ⊎ IsAmidUnit late places old so_far now
+
+-- the rows of a plan up to that of the files, and the others
+pub record ArePartedRows (plan : Planned) (before files : List Row) : Type 0 where
+  pub all : before ++ files ≡ plan.rows
+  pub none : has_files (take (length before) plan.kinds) ≡ false
+  pub next : has_files (take (length before + 1) plan.kinds) ≡ has_files plan.kinds
+
+-- a table with the entries of another; its aliases stay
+abbrev pub with_entries_of : Diverted → Diverted → Diverted
+with_entries_of read held = record held { ways = record held.ways { entries = read.ways.entries } }
+
+-- the table of diversions as it stands in a world; one that can't be read leaves that of before
+pub data IsTableIn (w : World) (first late : Ways) : Type 0 where
+  read : HasDiversions w late.entries → IsTableIn w first late
+  damaged : (line : ℕ) → IsDamageAt (w diversions_path) line → late ≡ first → IsTableIn w first late
+
+-- Behind all script calls before the files the table was read again; the aliases stay as they were known.
+pub record IsReadAgain (plan : Planned) (first late : Ways) (old new : State) : Type 0 where
+  pub before : List Row
+  pub files : List Row
+  pub parted : ArePartedRows plan before files
+  pub m : State
+  pub since : IsLater old m
+  pub until : IsLater m new
+  pub ran : List Ran
+  pub calls_are : calls m ≡ calls old ++ ran
+  pub all : Succeed Anyhow [] before ran
+  pub table : IsTrue m.honest → IsTableIn m.world first late
+  pub aliases : late.aliases ≡ first.aliases
+
+-- what is given, with the diversions as the unit began
+abbrev pub as_begun : Given → Given
+as_begun g = record g { ways = g.begun }
+
+-- that of a plan as the unit began
+abbrev pub HasReadAgain : Given → State → State → Type 0
+HasReadAgain g old new = (plan : Planned) × IsPlanFor (as_begun g) old.world new.honest plan × IsReadAgain plan g.begun g.ways old new
+
+-- The diversions by which the files of a unit go: those as it began, as long as not all scripts before its files have succeeded; else those
+-- as they are behind these scripts, where the new preinst is one.
+pub record GoesByTable (g : Given) (u : Option Unwinding) (old new : State) : Type 0 where
+  pub either : (g.ways ≡ g.begun) ⊎ HasReadAgain g old new
+  pub again : u ≡ None → is_some g.«package».scripts.preinst ≡ true → HasReadAgain g old new
 
 -- The calls of these rows, whatever the answer: none; or the first of some that are legal for them, and they are told.
 pub data HasCalledRows (rows : List Row) (old new : State) (told now : List Called) : Type 0 where

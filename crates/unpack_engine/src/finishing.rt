@@ -41,13 +41,15 @@ use unpack_plan::PlannedCommit;
 use unpack_steps::Rows;
 
 /// How a unit ended: how its rows were unwound, or none where it was committed; its packages, in
-/// the order of names: the one that was named, and each whose record differs since; and whether the
-/// lists of all packages but the named one are those of before.
+/// the order of names: the one that was named, and each whose record differs since; whether the
+/// lists of all packages but the named one are those of before; and whether the table of diversions
+/// is another than before, as scripts have left it.
 #[derive(Drop)]
 pub struct Unpacked {
     pub unwinding: Option<Unwinding>,
     pub touched: Texts,
     pub alone: bool,
+    pub anew: bool,
 }
 
 // The same of a commit.
@@ -260,6 +262,7 @@ pub(crate) fn finish<H: Host>(
     works: &[Work],
     commit: PlannedCommit,
     unwinding: Option<Unwinding>,
+    anew: bool,
 ) -> Result<Unpacked, HostFault>
     requires noting { database.old.closed ≡ false }
     requires opened { lists.old.closed ≡ false }
@@ -275,6 +278,7 @@ pub(crate) fn finish<H: Host>(
     requires kept { Needs (H.state host.old) (IsKept database.old) }
     requires laid { Needs (H.state host.old) (AreLaidOut commit.members) }
     ensures unwinding { IfOk result (λ u. u.unwinding ≡ unwinding) }
+    ensures anew { IfOk result (λ u. u.anew ≡ anew) }
     ensures told { IfOk result (λ u. AreTold
         (own_name rows.now.found rows.now.incoming)
         (ended_records
@@ -355,6 +359,7 @@ pub(crate) fn finish<H: Host>(
                     unwinding: None,
                     touched: finished.touched,
                     alone: finished.alone,
+                    anew,
                 }),
                 Err(fault) => Err(fault),
             }
@@ -367,6 +372,7 @@ pub(crate) fn finish<H: Host>(
                     unwinding: Some(unwinding),
                     touched,
                     alone: true,
+                    anew,
                 }),
                 Err(fault) => Err(fault),
             }

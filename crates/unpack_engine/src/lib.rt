@@ -15,20 +15,24 @@
 //! are read back as they are held (`order`). The places that scripts leave alone begin with those of
 //! before (`places`).
 //!
+//! Behind the scripts that are called before the files the table of diversions is read again, and the
+//! files go by it (`table`: `GoesByTable`); one that can't be read leaves that of before.
+//!
 //! Where it is broken off, its calls are the first of some that are legal for the plan's rows
 //! (`told`). What is done before a record is noted is on the disk before the places of records
 //! change, and the note before what comes behind it (`apart`). At each moment the next opening
 //! finds the records at its stage: while it begins those of before, while rows run these with the
 //! notes up to their place, and then those with the first records of the commit, none of which is
-//! noted before all else in it is done; and nothing is in its way; all else is as the parts say
-//! (`any_moment`: `IsAmidUnit`). A device fault is told exactly where the device failed, once and
-//! last (`counts`).
+//! noted before all else in it is done; and nothing is in its way; all else is as the parts say, by
+//! the table as the unit began or as it was read again (`any_moment`: `IsAmidEither`). A device
+//! fault is told exactly where the device failed, once and last (`counts`).
 #![tactic(auto)]
 
 mod committed;
 mod finishing;
 mod looks;
 mod path_texts;
+mod renewing;
 mod running;
 mod touched;
 mod unit;

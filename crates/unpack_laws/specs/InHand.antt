@@ -51,7 +51,7 @@ module _ (g : Given) where
 
   -- what may yield conffiles to it (Policy 10.7.4)
   abbrev pub unit_yielding : Yielding
-  unit_yielding = yielding g.ways unit_name g.yields g.records
+  unit_yielding = yielding g.begun unit_name g.yields g.records
 
   -- a package that keeps its places: it doesn't yield, or none of its paths has its place where a file or a link is shipped
   -- (Policy 7.6.1)

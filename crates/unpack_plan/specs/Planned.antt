@@ -36,11 +36,13 @@ use Rattle.unpack_plan.specs.declared.plan.Plan.{Plan}
 use Rattle.unpack_plan.specs.declared.plan.PlannedCommit.{PlannedCommit}
 
 -- the tree, what the administration says, which scripts of the old version are stored, the other packages that have rows, and the
--- names of those that let this one take paths of theirs
+-- names of those that let this one take paths of theirs; by the table as the unit began conffiles change their package, and by that
+-- as its files are checked paths have their places
 pub record Job : Type 0 where
   pub «package» : Package
   pub records : List Record
   pub lists : List PackageList
+  pub begun : Ways
   pub ways : Ways
   pub stored : Present
   pub others : List OtherPackage
@@ -98,7 +100,7 @@ name_of j = j.«package».name
 
 -- what may yield conffiles to it
 abbrev pub yielding_of : Job → Yielding
-yielding_of j = yielding j.ways (name_of j) j.yields j.records
+yielding_of j = yielding j.begun (name_of j) j.yields j.records
 
 -- the records of the package (Policy 6.6)
 pub record ArePlannedRecords (j : Job) (p : Planned) : Type 0 where

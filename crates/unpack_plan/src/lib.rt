@@ -9,9 +9,11 @@
 //! are cleared, control files, and the record of the unpacked package; and the packages with which
 //! no path clashes: those of which only conffiles are left, and those that are given (`yields`). Where one of these records a
 //! digest of a conffile's place, and the package has no entry of it, that digest counts as recorded
-//! (Policy 10.7.4, `IsFresh`).
+//! (Policy 10.7.4, `IsFresh`). `plan_again` plans the files of a tree by another table of diversions:
+//! what it gives is that part of a plan by that table, the records and rows of which stay.
 #![tactic(auto)]
 
+mod again;
 mod calls;
 mod conffile_paths;
 mod contents;
@@ -28,5 +30,6 @@ mod texts_of;
 mod works;
 mod yielded;
 
+pub use again::{PlannedFiles, plan_again};
 pub use others::Others;
 pub use plan::{Plan, PlannedCommit, plan_of};

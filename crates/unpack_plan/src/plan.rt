@@ -111,6 +111,7 @@ pub fn plan_of(
           «package» = incoming;
           records = database.now.records;
           lists = lists.now.lists;
+          begun = diversions.now.ways;
           ways = diversions.now.ways;
           stored = stored;
           others = others.packages.items;

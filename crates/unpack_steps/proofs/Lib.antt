@@ -11,5 +11,7 @@ pub mod HookRows
 pub mod Leftovers
 pub mod Clears
 pub mod Begins
+pub mod AnyTable
+pub mod FirstKinds
 pub mod Declining
 pub mod RecordsApart

@@ -7,3 +7,4 @@ pub mod Follows
 pub mod Stays
 pub mod FileMoves
 pub mod Unpacking
+pub mod Underway

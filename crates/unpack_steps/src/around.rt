@@ -16,7 +16,7 @@ use host_core::{Host, HostFault, Places};
 use undo_rows::{Around, Failed, Fall, Row, StepFault};
 use unpack_rows::{is_spared, note_before, note_undone};
 
-impl<'a, 's, H: Host> Around<H> for Unpacking<'a, 's, H> {
+impl<'a, 's, 'w, H: Host> Around<H> for Unpacking<'a, 's, 'w, H> {
     ghost Task = { Task };
 
     ghost task = { λ a. task_in a };

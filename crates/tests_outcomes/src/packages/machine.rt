@@ -6,7 +6,7 @@ mod prediction;
 
 use super::Package;
 use crate::tables::SCRIPTS;
-use command_line::{Hosts, RootFault, ScriptStreams, TreeOwners, run_words};
+use command_line::{Hosts, RootFault, ScriptStreams, TreeOpening, TreeOwners, run_words};
 use host_core::{Access, Content, Host, HostFault, Node, Outcome, RootPath};
 use host_memory::{Ending, Entry, MemoryHost, Planned};
 use std::alloc::{AllocError, Global};
@@ -258,6 +258,9 @@ impl Hosts for Machine {
     // no other program has the root
     ghost locked = { λ _ _ _. ⊥ };
 
+    // no word is one of an archive
+    ghost full = { λ _ _ _. ⊥ };
+
     ghost below = { λ _. 0 };
 
     fn open_root(
@@ -279,7 +282,7 @@ impl Hosts for Machine {
         }
     }
 
-    fn open_tree(&mut self, _tree: &str, _owners: TreeOwners) -> Result<MemoryHost, HostFault> {
+    fn open_tree(&mut self, _tree: &str, _owners: TreeOwners) -> Result<MemoryHost, TreeOpening> {
         let mut host = MemoryHost::new(self.alloc)?;
         for (path, text) in self.case.tree.files {
             put(self.alloc, &mut host, path, text)?;

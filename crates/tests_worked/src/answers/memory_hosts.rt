@@ -1,7 +1,8 @@
 // A root and trees in memory, and in the modules below what is answered over them.
-ghost use Rattle.std.specs.Prelude.{◌≡◌, ⊤, IsTrue, Some, option_map};
+ghost use Rattle.std.specs.Prelude.{◌≡◌, ⊤, IsTrue, Some, codes, option_map};
 ghost use Rattle.host_memory.specs.Memory.{memory_state};
 
+mod abandoned_rows;
 mod access_rows;
 mod activation_rows;
 mod adoption_rows;
@@ -18,10 +19,12 @@ mod override_rows;
 mod query_rows;
 mod rehearsal_rows;
 mod removal_rows;
+mod room_rows;
 mod round_rows;
 mod script_rows;
 mod selection_rows;
 mod shown_rows;
+mod spelling_rows;
 mod tree_rows;
 mod trigger_cycle_rows;
 mod trigger_rows;
@@ -31,7 +34,7 @@ mod upgrade_rows;
 mod word_rows;
 
 use super::{answer, expect, path_of, text_of};
-use command_line::{Hosts, RootFault, ScriptStreams, TreeOwners};
+use command_line::{Hosts, RootFault, ScriptStreams, TreeOpening, TreeOwners};
 use host_core::{Access, Content, Host, HostFault, Node, Outcome, RootPath};
 use host_memory::{Ending, Entry, MemoryHost, Planned};
 use std::alloc::{AllocError, Global};
@@ -276,7 +279,8 @@ impl MemoryHosts {
             return Ok(());
         };
         let shown = shown_at(self.alloc, host, "/var/lib/dpkg/updates")?;
-        if !answer.ends_with("|2\n") && !["", "directory:"].contains(&shown.as_str()) {
+        let broken = answer.ends_with("|2\n") || answer.contains("broken abandoned\n");
+        if !broken && !["", "directory:"].contains(&shown.as_str()) {
             text.push_str(shown.as_str())?;
             text.push('\n')?;
         }
@@ -362,6 +366,8 @@ impl Hosts for MemoryHosts {
     // no other program has the root
     ghost locked = { λ _ _ _. ⊥ };
 
+    ghost full = { λ _ word _. word ≡ codes "full.deb" };
+
     ghost below = { λ _. 0 };
 
     fn open_root(
@@ -383,7 +389,10 @@ impl Hosts for MemoryHosts {
         }
     }
 
-    fn open_tree(&mut self, tree: &str, _owners: TreeOwners) -> Result<MemoryHost, HostFault> {
+    fn open_tree(&mut self, tree: &str, _owners: TreeOwners) -> Result<MemoryHost, TreeOpening> {
+        if tree == "full.deb" {
+            return Err(TreeOpening::NoRoom(path_of(self.alloc, "/var/lib/dpkg/tmp.trees")?));
+        }
         Ok(tree_of(self.alloc, self.trees, tree)?)
     }
 

@@ -9,7 +9,7 @@ mod link_rows;
 mod package_rows;
 
 use super::{answer, is_refusing, is_want, text_of};
-use command_line::{Hosts, RootFault, ScriptStreams, TreeOwners};
+use command_line::{Hosts, RootFault, ScriptStreams, TreeOpening, TreeOwners};
 use host_core::HostFault;
 use host_files::{FilesHost, Unknown};
 use std::alloc::AllocError;
@@ -77,6 +77,9 @@ impl Hosts for RealHosts {
     // these tests have their roots to themselves
     ghost locked = { λ _ _ _. ⊥ };
 
+    // no word is one of an archive
+    ghost full = { λ _ _ _. ⊥ };
+
     ghost below = { λ _. 0 };
 
     fn open_root(
@@ -92,7 +95,7 @@ impl Hosts for RealHosts {
         self.open(directory)
     }
 
-    fn open_tree(&mut self, tree: &str, _owners: TreeOwners) -> Result<RealHost, HostFault> {
+    fn open_tree(&mut self, tree: &str, _owners: TreeOwners) -> Result<RealHost, TreeOpening> {
         let mut host = self.open(tree)?;
         host.set_tree();
         Ok(host)

@@ -1,4 +1,5 @@
 use Rattle.command_line.proofs.Printed.{printed_trees}
+use Rattle.command_line.proofs.Limited.{kept_trees}
 use Rattle.command_line.proofs.Steps.{trees_keep}
 use Rattle.command_line.proofs.answer.unpack_telling.Goals as goal
 
@@ -7,3 +8,6 @@ returns-clause-same_output g c = trees_keep c.unpack.result _ (λ t. t.out.ghost
 
 pub returns-clause-told : goal.returns-clause-told
 returns-clause-told g c = λ whole. printed_trees _ (λ t. t.flow) (λ t. g.O.Write.contents t.out.now) (λ a u at b h. h.1) c.unpack.result c.args.printer.now c.unpack.new.watcher whole c.unpack.ensures.watched
+
+pub returns-clause-kept : goal.returns-clause-kept
+returns-clause-kept g c = kept_trees _ (λ t. t.left) (λ a u at b h. (h.2, h.3)) c.unpack.result c.args.printer.now c.unpack.new.watcher c.unpack.ensures.watched

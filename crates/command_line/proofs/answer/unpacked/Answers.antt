@@ -27,7 +27,7 @@ returns-in-Ok-clause-ended g c =
     ∙ triggered_answer (units_of done) (last_in done) came.triggered (done_answer done).status off
     ∙ ap (λ (a : Answer). with_triggers came.triggered a) (sym (done_lines _ c.args.options c.args.unpacking.now done _ _ _ _ ran.run)) in
     let notes = came.left in
-    (Ok came, ended, subst (λ (h : Option (List ℕ)). IsLeft (with_notes notes (with_triggers came.triggered (done_answer done))) held h c.units_left.result) (search rules) (subst (λ (a : Answer). IsLeft (with_notes notes a) held printed c.units_left.result) same left))
+    (Ok came, (ended, c.in-Ok.ensures.kept), subst (λ (h : Option (List ℕ)). IsLeft (with_notes notes (with_triggers came.triggered (done_answer done))) held h c.units_left.result) (search rules) (subst (λ (a : Answer). IsLeft (with_notes notes a) held printed c.units_left.result) same left))
 
 pub returns-in-Err-clause-ended : goal.returns-in-Err-clause-ended
 returns-in-Err-clause-ended g c =

@@ -23,7 +23,7 @@ returns-in-Ok-clause-ended g c =
     let same : units_answer lines c.last_behind-last.result.now c.max-status.result ≡ with_triggers came.triggered (report_answer done) =
     units_answer_as lines c.last_behind-last.ensures (search rules) ∙ triggered_answer done.units.items done.last came.triggered (report_status done) off in
     let notes = came.left in
-    (Ok came, ended, subst (λ (h : Option (List ℕ)). IsLeft (with_notes notes (with_triggers came.triggered (report_answer done))) held h c.units_left.result) (search rules) (subst (λ (a : Answer). IsLeft (with_notes notes a) held printed c.units_left.result) same left))
+    (Ok came, (ended, c.in-Ok.ensures.kept), subst (λ (h : Option (List ℕ)). IsLeft (with_notes notes (with_triggers came.triggered (report_answer done))) held h c.units_left.result) (search rules) (subst (λ (a : Answer). IsLeft (with_notes notes a) held printed c.units_left.result) same left))
 
 pub returns-in-Err-clause-ended : goal.returns-in-Err-clause-ended
 returns-in-Err-clause-ended g c =

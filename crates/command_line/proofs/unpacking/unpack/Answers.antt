@@ -14,5 +14,5 @@ returns-in-Ok-unpack_on-clause-done g c =
     let inner : Around = around g.S.Hosts mid new in (
       begun,
       behind,
-      unpacked_within outer inner (record { tree = c.open_root.ensures.trees; seen = λ s h. h; failed = λ h. omega arith }) (λ s h. h) begun c.args.options c.args.unpacking.now c.in-Ok-unpack_on.ended c.in-Ok-unpack_on.ensures.done,
+      unpacked_within outer inner (record { tree = c.open_root.ensures.trees; seen = λ s h. h; full = λ word path h. h; failed = λ h. omega arith }) (λ s h. h) begun c.args.options c.args.unpacking.now c.in-Ok-unpack_on.ended c.in-Ok-unpack_on.ensures.done,
     )

@@ -33,7 +33,7 @@ returns-in-Ok-clause-done g c =
       end = g.S.Opened.Host.state c.into_host.result;
       given = c.close_root.ensures.given;
       ran = subst (λ host. HasRunToEnd outer c.args.options c.args.unpacking.now ended anew begun (g.S.Opened.Host.state host)) (sym c.into_host.ensures)
-          (ended_within outer inner (record { tree = λ word s h. h; seen = c.close_root.ensures.seen; failed = λ h. omega arith }) c.args.options c.args.unpacking.now ended anew begun (g.S.Opened.Host.state c.run_to_end-ended.new.session.host)
+          (ended_within outer inner (record { tree = λ word s h. h; seen = c.close_root.ensures.seen; full = c.close_root.ensures.full; failed = λ h. omega arith }) c.args.options c.args.unpacking.now ended anew begun (g.S.Opened.Host.state c.run_to_end-ended.new.session.host)
           (subst (λ (h : Held). HasRunToEnd inner c.args.options c.args.unpacking.now ended h begun (g.S.Opened.Host.state c.run_to_end-ended.new.session.host)) same done));
     }) c.run_to_end-ended.ensures.done
 

@@ -9,7 +9,7 @@ use Rattle.configure_run.proofs.Replies.{broken_by}
 use Rattle.configure_run.proofs.Told.{refused_left_calls, some_left_calls, tells_no_more}
 use Rattle.configure_run.proofs.Units.{no_calls}
 use Rattle.configure_run.proofs.all_turns.run_turns.Goals as goal
-use Rattle.unit_reports.proofs.Counting.{counts_no_memory, no_memory_not_closed}
+use Rattle.unit_reports.proofs.Counting.{counts_no_memory, no_memory_not_abandoned, no_memory_not_closed}
 
 pub refuse_left-requires : goal.refuse_left-requires
 refuse_left-requires g c = record { none_left = c.in-Ok.ensures.none_left }
@@ -44,3 +44,6 @@ pub returns-in-Err-refuse_left-clause-watched : goal.returns-in-Err-refuse_left-
 returns-in-Err-refuse_left-clause-watched g c =
     told_added g.W.Watcher.tells (g.H.Host.state c.args.host.now) (g.H.Host.state c.take_turns.new.host) c.args.watcher.now c.take_turns.new.watcher c.refuse_left.new.watcher c.args.units.now.items c.take_turns.new.units.items c.refuse_left.new.units.items
     c.take_turns.ensures.watched c.in-Ok.ensures.told c.in-Ok.ensures.answered c.refuse_left.ensures.watched
+
+pub returns-in-Err-refuse_left-clause-abandoned : goal.returns-in-Err-refuse_left-clause-abandoned
+returns-in-Err-refuse_left-clause-abandoned g c told = absurd (no_memory_not_abandoned c.no_memory.result.reply c.no_memory.ensures.reply told)

@@ -15,7 +15,7 @@ use Rattle.configure_run.proofs.Runs.{reads_here, since_run, since_run_reads, si
 use Rattle.configure_run.proofs.Told.{refused_calls, some_refused_calls, tells_no_more, tells_silent}
 use Rattle.configure_run.proofs.Units.{no_calls}
 use Rattle.configure_run.proofs.run.run_all.Goals as goal
-use Rattle.unit_reports.proofs.Counting.{counts_from, counts_no_memory, fault_not_closed, no_memory_not_closed, no_fault_here}
+use Rattle.unit_reports.proofs.Counting.{counts_from, counts_no_memory, fault_not_abandoned, fault_not_closed, no_memory_not_abandoned, no_memory_not_closed, no_fault_here}
 use Rattle.host_core.proofs.Counted.{no_fault_then}
 
 pub run_and_renew-requires-clause-order : goal.run_and_renew-requires-clause-order
@@ -93,3 +93,9 @@ returns-in-Err-run_and_renew-clause-watched g c =
     (tells_silent (g.H.Host.state c.args.host.now) (g.H.Host.state c.begun.new.host) (calls_of c.args.units.now.items) (calls_of c.refuse_first.new.units.items) c.begun.ensures.looks.silent
     (refused_calls (early_refusals c.args.administration.now.database.records (each_once c.args.names.now)) c.refuse_first.new.units.items c.in-Ok.ensures.ok ∙ sym (ap calls_of c.requires.none)))
     (inr c.begun.ensures.looks.reads) c.run_and_renew.ensures.watched
+
+pub returns-in-Err-begun-clause-abandoned : goal.returns-in-Err-begun-clause-abandoned
+returns-in-Err-begun-clause-abandoned g c told = absurd (fault_not_abandoned c.in-Err-begun.fault c.broken.result.reply (c.broken.ensures.reply ∙ ap Broken c.breakage_of.ensures) told)
+
+pub returns-in-Err-clause-abandoned : goal.returns-in-Err-clause-abandoned
+returns-in-Err-clause-abandoned g c told = absurd (no_memory_not_abandoned c.no_memory.result.reply c.no_memory.ensures.reply told)

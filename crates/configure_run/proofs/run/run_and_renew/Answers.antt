@@ -11,7 +11,7 @@ use Rattle.configure_run.proofs.Runs.{stop_of_end}
 use Rattle.configure_run.proofs.Told.{tells_no_more}
 use Rattle.configure_run.proofs.Units.{no_calls}
 use Rattle.configure_run.proofs.run.run_and_renew.Goals as goal
-use Rattle.unit_reports.proofs.Counting.{counts_no_memory, no_memory_not_closed}
+use Rattle.unit_reports.proofs.Counting.{counts_no_memory, no_memory_not_abandoned, no_memory_not_closed}
 
 pub run_turns-requires-clause-wait : goal.run_turns-requires-clause-wait
 run_turns-requires-clause-wait g c = are_waiting c.args.names.now c.args.administration.now.database.records c.args.queue c.requires.begun c.law.ensures.order
@@ -34,3 +34,6 @@ returns-in-Err-renew-clause-counts g c = counts_no_memory c.no_memory.result.rep
 
 pub returns-in-Err-renew-clause-not_closed : goal.returns-in-Err-renew-clause-not_closed
 returns-in-Err-renew-clause-not_closed g c = no_memory_not_closed c.no_memory.result.reply c.no_memory.ensures.reply
+
+pub returns-in-Err-renew-clause-abandoned : goal.returns-in-Err-renew-clause-abandoned
+returns-in-Err-renew-clause-abandoned g c told = absurd (no_memory_not_abandoned c.no_memory.result.reply c.no_memory.ensures.reply told)

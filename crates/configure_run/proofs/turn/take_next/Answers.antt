@@ -1,9 +1,9 @@
-use Rattle.std.proofs.Common.{[], ℕ, Option, inl, refl, subst, sym, false, ◌∙◌}
-use Rattle.std.proofs.lemmas.Bool.{true≢false}
+use Rattle.std.proofs.Common.{[], ℕ, Option, inl, refl, subst, sym}
 use Rattle.std.specs.Prelude.{IfSome, IsTrue, MatchOption}
 use Rattle.dependency_sets.specs.Sets.{has}
 use Rattle.host_core.proofs.Moments.{since_start, since_weaker}
 use Rattle.unit_reports.specs.Held.{held_by}
+use Rattle.unit_runs.proofs.Barred.{not_taken}
 use Rattle.unit_runs.proofs.Going.{still_here}
 use Rattle.unit_runs.specs.Turns as runs
 use Rattle.configure_run.specs.Starting.{AreWaiting}
@@ -17,7 +17,7 @@ use Rattle.configure_run.proofs.Told.{tells_silent}
 use Rattle.configure_run.proofs.Units.{no_calls}
 use Rattle.configure_run.proofs.turn.take_next.Goals as goal
 use Rattle.host_core.proofs.Barriers.{answered_here}
-use Rattle.unit_reports.proofs.Counting.{counts_no_memory, no_memory_not_closed, no_fault_here}
+use Rattle.unit_reports.proofs.Counting.{counts_no_memory, no_memory_not_abandoned, no_memory_not_closed, no_fault_here}
 
 pub take_turn-requires-clause-waits : goal.take_turn-requires-clause-waits
 take_turn-requires-clause-waits g c = subst (λ n. IsTrue (has c.args.queue.now.waiting n)) (sym c.in-Ok-Some.number-is) (subst (λ (o : Option ℕ). IfSome o (λ n. IsTrue (has c.args.queue.now.waiting n))) c.in-Ok-Some.field-0-is c.in-Ok-Some.ensures.waits)
@@ -34,8 +34,8 @@ returns-in-Ok-clause-waits g c = subst (λ n. IsTrue (has c.args.queue.now.waiti
 pub returns-in-Ok-clause-found : goal.returns-in-Ok-clause-found
 returns-in-Ok-clause-found g c = (((lhs c.in-Ok-Some.number-is), c.is_done.result), refl, subst (λ n. IsTrue (has c.args.queue.now.waiting n)) (sym c.in-Ok-Some.number-is) (subst (λ (o : Option ℕ). IfSome o (λ n. IsTrue (has c.args.queue.now.waiting n))) c.in-Ok-Some.field-0-is c.in-Ok-Some.ensures.waits))
 
-pub returns-in-Ok-clause-room : goal.returns-in-Ok-clause-room
-returns-in-Ok-clause-room g c none = absurd (true≢false (sym c.in-Ok.ensures.room ∙ none))
+pub returns-in-Ok-clause-barred : goal.returns-in-Ok-clause-barred
+returns-in-Ok-clause-barred g c = not_taken c.args.barred c.in-Ok.ensures.barred
 
 pub returns-in-Ok-clause-wait : goal.returns-in-Ok-clause-wait
 returns-in-Ok-clause-wait g c = subst (λ b. AreWaiting (after_turn b (lhs c.in-Ok-Some.number-is) c.args.queue.now) c.take_turn.new.administration.database.records) (sym c.is_done.ensures) c.in-Ok.ensures.wait
@@ -92,3 +92,6 @@ returns-in-Err-clause-counts g c = counts_no_memory c.no_memory.result.reply (g.
 
 pub returns-in-Err-clause-not_closed : goal.returns-in-Err-clause-not_closed
 returns-in-Err-clause-not_closed g c = no_memory_not_closed c.no_memory.result.reply c.no_memory.ensures.reply
+
+pub returns-in-Err-clause-abandoned : goal.returns-in-Err-clause-abandoned
+returns-in-Err-clause-abandoned g c told = absurd (no_memory_not_abandoned c.no_memory.result.reply c.no_memory.ensures.reply told)

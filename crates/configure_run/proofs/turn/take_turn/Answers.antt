@@ -1,4 +1,4 @@
-use Rattle.std.proofs.Common.{◌<◌, List, length, ◌⊎◌, inr, subst, sym, ◌∙◌}
+use Rattle.std.proofs.Common.{[], ◌<◌, List, length, ◌⊎◌, inl, inr, subst, sym, ◌∙◌}
 use Rattle.configure_engine.specs.Units.{IsWaiting}
 use Rattle.dependency_sets.proofs.StrikingLaws.{in_range}
 use Rattle.host_core.proofs.Moments.{since_weaker}
@@ -8,17 +8,40 @@ use Rattle.unit_reports.specs.Units.{IsBroken}
 use Rattle.configure_run.specs.Taking.{IsAmidTurnOf}
 use Rattle.configure_run.specs.Turns.{IsAmidUnit, IsUnit, is_done}
 use Rattle.configure_run.proofs.LeftLaws.{numbered_by}
-use Rattle.configure_run.proofs.Replies.{is_broken_off, is_whole, not_broken}
-use Rattle.configure_run.proofs.Told.{called_for_tells}
-use Rattle.configure_run.proofs.Units.{numbered_name, waiting_behind}
+use Rattle.configure_run.proofs.Replies.{broken_by, is_broken_off, is_whole, not_broken}
+use Rattle.configure_run.proofs.Told.{called_for_tells, tells_silent}
+use Rattle.configure_run.proofs.Moments.{silent_here}
+use Rattle.configure_run.proofs.Units.{no_calls, numbered_name, waiting_behind}
 use Rattle.configure_run.proofs.turn.take_turn.Goals as goal
-use Rattle.unit_reports.proofs.Counting.{counts_whole}
+use Rattle.unit_reports.proofs.Counting.{counts_whole, not_abandoned, not_closed}
+use Rattle.unit_runs.proofs.Barred.{barred_abandoned, barred_counts, barred_not_closed}
 
 pub bounds-as_slice-number : goal.bounds-as_slice-number
 bounds-as_slice-number g c = (subst (λ (l : List Package). c.args.number < length l) (sym (c.as_slice.ensures.list ∙ c.packages-packages.ensures)) (subst (λ n. c.args.number < n) c.law.ensures.even.waiting (in_range c.args.queue.now.waiting c.args.number c.requires.waits)))
 
 pub unit_of-unit-requires-clause-waits : goal.unit_of-unit-requires-clause-waits
 unit_of-unit-requires-clause-waits g c = subst (IsWaiting c.args.administration.now.database.records) (numbered_name c.args.queue.now.packages c.args.number c.index-as_slice-number.result (numbered_by c.args.queue.now.packages c.as_slice.result.now c.args.number c.index-as_slice-number.result (c.as_slice.ensures.list ∙ c.packages-packages.ensures) (subst (λ (l : List Package). c.args.number < length l) (sym (c.as_slice.ensures.list ∙ c.packages-packages.ensures)) (subst (λ n. c.args.number < n) c.law.ensures.even.waiting (in_range c.args.queue.now.waiting c.args.number c.requires.waits))) c.index-as_slice-number.is)) (c.requires.wait c.args.number c.requires.waits)
+
+pub returns-in-Some-clause-broken_off : goal.returns-in-Some-clause-broken_off
+returns-in-Some-clause-broken_off g c = record { broken = broken_by _ c.barred_unit.result.reply c.barred_unit.ensures.reply; untouched = c.barred_unit.ensures.touched; called = inl (no_calls c.barred_unit.result (g.H.Host.state c.args.host.now) c.barred_unit.ensures.told) }
+
+pub returns-in-Some-clause-told_broken : goal.returns-in-Some-clause-told_broken
+returns-in-Some-clause-told_broken g c = tells_silent (g.H.Host.state c.args.host.now) (g.H.Host.state c.args.host.now) [] c.barred_unit.result.calls.items (silent_here (g.H.Host.state c.args.host.now)) c.barred_unit.ensures.told
+
+pub returns-in-Some-clause-counts : goal.returns-in-Some-clause-counts
+returns-in-Some-clause-counts g c = barred_counts c.in-Some.bar c.barred_unit.result.reply (g.H.Host.state c.args.host.now) c.barred_unit.ensures.reply
+
+pub returns-in-Some-clause-not_closed : goal.returns-in-Some-clause-not_closed
+returns-in-Some-clause-not_closed g c = barred_not_closed c.in-Some.bar c.barred_unit.result.reply c.barred_unit.ensures.reply
+
+pub returns-in-Some-clause-abandoned : goal.returns-in-Some-clause-abandoned
+returns-in-Some-clause-abandoned g c = barred_abandoned c.in-Some.bar c.args.barred c.barred_unit.result.reply c.in-Some.is c.barred_unit.ensures.reply
+
+pub returns-then-is_broken-clause-not_closed : goal.returns-then-is_broken-clause-not_closed
+returns-then-is_broken-clause-not_closed g c = not_closed c.unit_of-unit.result.reply c.unit_of-unit.ensures.not_closed
+
+pub returns-then-is_broken-clause-abandoned : goal.returns-then-is_broken-clause-abandoned
+returns-then-is_broken-clause-abandoned g c told = absurd (not_abandoned c.unit_of-unit.result.reply c.unit_of-unit.ensures.not_closed told)
 
 pub returns-then-is_broken-clause-broken_off : goal.returns-then-is_broken-clause-broken_off
 returns-then-is_broken-clause-broken_off g c = record { broken = (is_broken_off c.unit_of-unit.result.reply c.is_broken.result c.if-is_broken.true c.is_broken.ensures); untouched = c.unit_of-unit.ensures.untouched (is_broken_off c.unit_of-unit.result.reply c.is_broken.result c.if-is_broken.true c.is_broken.ensures); called = inr (c.index-as_slice-number.result, (numbered_by c.args.queue.now.packages c.as_slice.result.now c.args.number c.index-as_slice-number.result (c.as_slice.ensures.list ∙ c.packages-packages.ensures) (subst (λ (l : List Package). c.args.number < length l) (sym (c.as_slice.ensures.list ∙ c.packages-packages.ensures)) (subst (λ n. c.args.number < n) c.law.ensures.even.waiting (in_range c.args.queue.now.waiting c.args.number c.requires.waits))) c.index-as_slice-number.is), c.unit_of-unit.ensures.told) }

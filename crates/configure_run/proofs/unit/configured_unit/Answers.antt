@@ -3,10 +3,10 @@ use Rattle.host_core.specs.declared.call.Call.{Call}
 use Rattle.unit_reports.specs.declared.report.Breakage.TheVariants.{NoMemory}
 use Rattle.unit_reports.specs.declared.report.Reply.TheVariants.{Broken}
 use Rattle.std.proofs.Common.{Option}
-use Rattle.configure_run.proofs.Replies.{answer_not_closed, broken_by, broken_or, counts_answered}
+use Rattle.configure_run.proofs.Replies.{answer_within, broken_by, broken_or, counts_answered}
 use Rattle.configure_run.proofs.Units.{called_as, disk_as}
 use Rattle.configure_run.proofs.unit.configured_unit.Goals as goal
-use Rattle.unit_reports.proofs.Counting.{counts_broken, fault_not_closed}
+use Rattle.unit_reports.proofs.Counting.{counts_broken, fault_within}
 
 pub returns-in-Ok-clause-unit : goal.returns-in-Ok-clause-unit
 returns-in-Ok-clause-unit g c =
@@ -29,7 +29,7 @@ pub returns-in-Ok-clause-counts : goal.returns-in-Ok-clause-counts
 returns-in-Ok-clause-counts g c = counts_answered _ _ _ c.answered.result (g.H.Host.state c.args.host.now) (g.H.Host.state c.configure_to_disk.new.host) c.in-Ok.ensures.counts c.answered.ensures.answer
 
 pub returns-in-Ok-clause-not_closed : goal.returns-in-Ok-clause-not_closed
-returns-in-Ok-clause-not_closed g c = answer_not_closed _ _ _ c.answered.result c.answered.ensures.answer
+returns-in-Ok-clause-not_closed g c = answer_within _ _ _ c.answered.result c.answered.ensures.answer
 
 pub returns-in-Err-clause-unit : goal.returns-in-Err-clause-unit
 returns-in-Err-clause-unit g c = inl (broken_by _ c.broken.result.reply c.broken.ensures.reply)
@@ -44,4 +44,4 @@ pub returns-in-Err-clause-counts : goal.returns-in-Err-clause-counts
 returns-in-Err-clause-counts g c = counts_broken (Option Call) c.in-Err.fault c.broken.result.reply (g.H.Host.state c.args.host.now) (g.H.Host.state c.configure_to_disk.new.host) (c.broken.ensures.reply ∙ ap Broken c.breakage_of.ensures) c.in-Err.ensures.counts
 
 pub returns-in-Err-clause-not_closed : goal.returns-in-Err-clause-not_closed
-returns-in-Err-clause-not_closed g c = fault_not_closed c.in-Err.fault c.broken.result.reply (c.broken.ensures.reply ∙ ap Broken c.breakage_of.ensures)
+returns-in-Err-clause-not_closed g c = fault_within c.in-Err.fault c.broken.result.reply (c.broken.ensures.reply ∙ ap Broken c.breakage_of.ensures)

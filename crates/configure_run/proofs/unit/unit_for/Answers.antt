@@ -6,10 +6,10 @@ use Rattle.unit_reports.specs.declared.report.Breakage.TheVariants.{NoMemory}
 use Rattle.unit_reports.specs.declared.report.Reply.TheVariants.{Broken}
 use Rattle.configure_run.specs.Turns.{HasObstacle, IsUnitFor}
 use Rattle.configure_run.proofs.Moments.{order_read, since_unit, since_unit_reads}
-use Rattle.configure_run.proofs.Replies.{broken_by, broken_or, counts_refused, either_so, refused_not_closed}
+use Rattle.configure_run.proofs.Replies.{broken_by, broken_or, counts_refused, either_so, refused_within}
 use Rattle.configure_run.proofs.Units.{called_nothing}
 use Rattle.configure_run.proofs.unit.unit_for.Goals as goal
-use Rattle.unit_reports.proofs.Counting.{counts_broken, counts_from, fault_not_closed}
+use Rattle.unit_reports.proofs.Counting.{counts_broken, counts_from, fault_within}
 
 pub configured_unit-requires-clause-order : goal.configured_unit-requires-clause-order
 configured_unit-requires-clause-order g c = order_read (held_by c.args.administration.now c.args.diversions.now) (g.H.Host.state c.args.host.now) (g.H.Host.state c.obstacle_of.new.host) c.obstacle_of.ensures.looks.reads c.requires.order
@@ -59,7 +59,7 @@ pub returns-in-Ok-Some-clause-counts : goal.returns-in-Ok-Some-clause-counts
 returns-in-Ok-Some-clause-counts g c = counts_refused (ConffileKind c.in-Ok-Some.path) c.args.name.now c.refused_named.result (g.H.Host.state c.args.host.now) (g.H.Host.state c.obstacle_of.new.host) c.in-Ok-Some.ensures.looks.counts c.refused_named.ensures.unit
 
 pub returns-in-Ok-Some-clause-not_closed : goal.returns-in-Ok-Some-clause-not_closed
-returns-in-Ok-Some-clause-not_closed g c = refused_not_closed (ConffileKind c.in-Ok-Some.path) c.args.name.now c.refused_named.result c.refused_named.ensures.unit
+returns-in-Ok-Some-clause-not_closed g c = refused_within (ConffileKind c.in-Ok-Some.path) c.args.name.now c.refused_named.result c.refused_named.ensures.unit
 
 pub returns-in-Err-clause-unit : goal.returns-in-Err-clause-unit
 returns-in-Err-clause-unit g c = inl (broken_by _ c.broken.result.reply c.broken.ensures.reply)
@@ -83,4 +83,4 @@ pub returns-in-Err-clause-counts : goal.returns-in-Err-clause-counts
 returns-in-Err-clause-counts g c = counts_broken (Option (List ℕ)) c.in-Err.fault c.broken.result.reply (g.H.Host.state c.args.host.now) (g.H.Host.state c.obstacle_of.new.host) (c.broken.ensures.reply ∙ ap Broken c.breakage_of.ensures) c.in-Err.ensures.looks.counts
 
 pub returns-in-Err-clause-not_closed : goal.returns-in-Err-clause-not_closed
-returns-in-Err-clause-not_closed g c = fault_not_closed c.in-Err.fault c.broken.result.reply (c.broken.ensures.reply ∙ ap Broken c.breakage_of.ensures)
+returns-in-Err-clause-not_closed g c = fault_within c.in-Err.fault c.broken.result.reply (c.broken.ensures.reply ∙ ap Broken c.breakage_of.ensures)

@@ -10,7 +10,7 @@ use Rattle.std.proofs.Common.{◌⊎◌}
 use Rattle.configure_run.specs.Starting.{name_at}
 use Rattle.configure_run.specs.Turns.{IsUnit}
 use Rattle.configure_run.proofs.Moments.{since_unit_start, silent_here}
-use Rattle.configure_run.proofs.Replies.{broken_or, counts_refused, either_so, refused_not_closed}
+use Rattle.configure_run.proofs.Replies.{broken_or, counts_refused, either_so, refused_within}
 use Rattle.configure_run.proofs.Units.{called_nothing, those_within}
 use Rattle.configure_run.proofs.unit.unit_of.Goals as goal
 use Rattle.host_core.proofs.Barriers.{answered_here}
@@ -37,7 +37,7 @@ pub returns-in-Some-clause-counts : goal.returns-in-Some-clause-counts
 returns-in-Some-clause-counts g c = counts_refused (BrokenBy (name_at c.args.packages.now c.in-Some.breaking)) c.args.of.now.name c.refused_for.result (g.H.Host.state c.args.host.now) (g.H.Host.state c.args.host.now) (no_fault_here (g.H.Host.state c.args.host.now)) (subst (λ (l : List Package). IsBrokenBy NoMemory c.refused_for.result.reply ⊎ IsRefusedUnit (BrokenBy (name_at l c.in-Some.breaking)) c.args.of.now.name c.refused_for.result) c.as_slice.ensures.list c.refused_for.ensures.unit)
 
 pub returns-in-Some-clause-not_closed : goal.returns-in-Some-clause-not_closed
-returns-in-Some-clause-not_closed g c = refused_not_closed (BrokenBy (name_at c.args.packages.now c.in-Some.breaking)) c.args.of.now.name c.refused_for.result (subst (λ (l : List Package). IsBrokenBy NoMemory c.refused_for.result.reply ⊎ IsRefusedUnit (BrokenBy (name_at l c.in-Some.breaking)) c.args.of.now.name c.refused_for.result) c.as_slice.ensures.list c.refused_for.ensures.unit)
+returns-in-Some-clause-not_closed g c = refused_within (BrokenBy (name_at c.args.packages.now c.in-Some.breaking)) c.args.of.now.name c.refused_for.result (subst (λ (l : List Package). IsBrokenBy NoMemory c.refused_for.result.reply ⊎ IsRefusedUnit (BrokenBy (name_at l c.in-Some.breaking)) c.args.of.now.name c.refused_for.result) c.as_slice.ensures.list c.refused_for.ensures.unit)
 
 pub returns-in-None-clause-unit : goal.returns-in-None-clause-unit
 returns-in-None-clause-unit g c = either_so (λ is. IsUnit.unbroken c.in-None.ensures is) c.unit_for.ensures.unit

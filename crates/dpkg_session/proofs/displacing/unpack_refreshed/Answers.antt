@@ -1,4 +1,6 @@
 use Rattle.std.proofs.Common.{ℕ, List, take, ap, subst, sym, ◌∙◌}
+use Rattle.diversions.specs.Diverted.{Diverted}
+use Rattle.file_lists.specs.Owners.{places_in}
 use Rattle.file_lists.specs.Beside.{AreSameBeside}
 use Rattle.recorded_packages.specs.Renewal.{AreSameBut}
 use Rattle.dpkg_session.proofs.displacing.unpack_refreshed.Goals as goal
@@ -8,14 +10,15 @@ unpack_beside-requires-clause-open g c = record { noting = c.requires.open.notin
 
 pub bring_up_to_date-requires : goal.bring_up_to_date-requires
 bring_up_to_date-requires g c = record {
-  had = λ alone.
+  had = λ others_kept.
+      let same = c.in-Ok.ensures.anew (c.keeps_others.ensures.table others_kept) in
       let before = c.args.administration.now.lists.lists in
       let after = c.unpack_beside.new.administration in
       record {
         before = before;
         sound = c.law-2.ensures;
-        same = subst (λ (n : List ℕ). AreSameBeside n before after.lists.lists) (sym c.requires.named) (c.in-Ok.ensures.alone.0 alone);
-        is = ap (λ (n : ℕ). take n after.places) c.place_count-kept.ensures ∙ c.in-Ok.ensures.places ∙ c.requires.open.kept;
+        same = subst (λ (n : List ℕ). AreSameBeside n before after.lists.lists) (sym c.requires.named) (c.in-Ok.ensures.alone.0 (c.keeps_others.ensures.alone others_kept));
+        is = ap (λ (n : ℕ). take n after.places) c.place_count-kept.ensures ∙ c.in-Ok.ensures.places ∙ c.requires.open.kept ∙ ap (λ (d : Diverted). places_in d.ways before) (sym same);
       };
 }
 

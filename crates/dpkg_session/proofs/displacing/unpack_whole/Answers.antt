@@ -25,7 +25,7 @@ displace-requires-clause-order g c = c.in-Ok.ensures.order
 
 pub returns-then-is_some-clause-unit : goal.returns-then-is_some-clause-unit
 returns-then-is_some-clause-unit g c =
-    unwound_end c.args.incoming c.args.beside.now (held_by c.args.administration.now c.args.diversions.now) c.args.administration.now.places c.unpack_refreshed.new.administration.database c.unpack_refreshed.new.administration.lists.lists c.requires.open.kept
+    unwound_end c.args.incoming c.args.beside.now (held_by c.args.administration.now c.args.diversions.now) c.unpack_refreshed.new.diversions.ways c.args.administration.now.places c.unpack_refreshed.new.administration.database c.unpack_refreshed.new.administration.lists.lists c.requires.open.kept
     c.in-Ok.unpacked.unwinding c.undisplaced.result.unpacked.unwinding c.undisplaced.result.displaced.names c.undisplaced.result.displaced.failed
     (g.H.Host.state c.args.host.now) (g.H.Host.state c.unpack_refreshed.new.host) c.args.told.now.items c.unpack_refreshed.new.told.items c.in-Ok.ensures.unit c.in-Ok.ensures.order (sym c.is_some.ensures ∙ c.if-is_some.true)
     (ap (λ (u : Unpacked). u.unwinding) c.undisplaced.ensures.unpacked) c.undisplaced.ensures.none c.undisplaced.ensures.no_failure
@@ -53,10 +53,10 @@ returns-then-is_some-clause-any_moment g c =
 
 pub returns-in-Ok-displace-clause-unit : goal.returns-in-Ok-displace-clause-unit
 returns-in-Ok-displace-clause-unit g c =
-    displaced_whole c.args.incoming c.args.beside.now (held_by c.args.administration.now c.args.diversions.now) c.args.administration.now.places c.unpack_refreshed.new.administration.database c.unpack_refreshed.new.administration.lists.lists c.requires.open.kept
+    displaced_whole c.args.incoming c.args.beside.now (held_by c.args.administration.now c.args.diversions.now) c.unpack_refreshed.new.diversions.ways c.args.administration.now.places c.unpack_refreshed.new.administration.database c.unpack_refreshed.new.administration.lists.lists c.requires.open.kept
     c.args.behind.now c.requires.behind c.as_slice.result.now c.as_slice-in-Ok.result.now c.as_slice.ensures.value c.as_slice-in-Ok.ensures c.in-Ok.unpacked.unwinding (sym c.is_some.ensures ∙ c.if-is_some.false) (g.H.Host.state c.args.host.now) (g.H.Host.state c.unpack_refreshed.new.host) (g.H.Host.state c.displace.new.host)
     c.args.told.now.items c.unpack_refreshed.new.told.items c.in-Ok.ensures.unit
-    c.in-Ok-displace.displaced.names c.in-Ok-displace.displaced.failed (held_by c.displace.new.administration c.args.diversions.now) c.displace.new.told.items c.in-Ok.ensures.order c.in-Ok-displace.ensures.displaced
+    c.in-Ok-displace.displaced.names c.in-Ok-displace.displaced.failed c.displace.new.administration.database c.displace.new.administration.lists.lists c.displace.new.told.items c.in-Ok.ensures.order c.in-Ok-displace.ensures.displaced
 
 pub returns-in-Ok-displace-clause-denied : goal.returns-in-Ok-displace-clause-denied
 returns-in-Ok-displace-clause-denied g c = none_denied c.in-Ok.unpacked.unwinding (g.H.Host.state c.args.host.now) (g.H.Host.state c.displace.new.host) (sym c.is_some.ensures ∙ c.if-is_some.false)
@@ -75,25 +75,25 @@ returns-in-Ok-displace-clause-on_disk g c = answered_disk (g.H.Host.state c.unpa
 
 pub returns-in-Ok-displace-clause-told : goal.returns-in-Ok-displace-clause-told
 returns-in-Ok-displace-clause-told g c =
-    called_whole c.args.incoming c.args.beside.now (held_by c.args.administration.now c.args.diversions.now) c.args.administration.now.places c.unpack_refreshed.new.administration.database c.unpack_refreshed.new.administration.lists.lists c.requires.open.kept
+    called_whole c.args.incoming c.args.beside.now (held_by c.args.administration.now c.args.diversions.now) c.unpack_refreshed.new.diversions.ways c.args.administration.now.places c.unpack_refreshed.new.administration.database c.unpack_refreshed.new.administration.lists.lists c.requires.open.kept
     c.args.behind.now c.requires.behind c.as_slice.result.now c.as_slice-in-Ok.result.now c.as_slice.ensures.value c.as_slice-in-Ok.ensures c.in-Ok.unpacked.unwinding (sym c.is_some.ensures ∙ c.if-is_some.false) (g.H.Host.state c.args.host.now) (g.H.Host.state c.unpack_refreshed.new.host) (g.H.Host.state c.displace.new.host)
     c.args.told.now.items c.unpack_refreshed.new.told.items c.in-Ok.ensures.unit c.displace.new.told.items c.displace.ensures.told
 
 pub returns-in-Err-displace-clause-told : goal.returns-in-Err-displace-clause-told
 returns-in-Err-displace-clause-told g c =
-    called_whole c.args.incoming c.args.beside.now (held_by c.args.administration.now c.args.diversions.now) c.args.administration.now.places c.unpack_refreshed.new.administration.database c.unpack_refreshed.new.administration.lists.lists c.requires.open.kept
+    called_whole c.args.incoming c.args.beside.now (held_by c.args.administration.now c.args.diversions.now) c.unpack_refreshed.new.diversions.ways c.args.administration.now.places c.unpack_refreshed.new.administration.database c.unpack_refreshed.new.administration.lists.lists c.requires.open.kept
     c.args.behind.now c.requires.behind c.as_slice.result.now c.as_slice-in-Ok.result.now c.as_slice.ensures.value c.as_slice-in-Ok.ensures c.in-Ok.unpacked.unwinding (sym c.is_some.ensures ∙ c.if-is_some.false) (g.H.Host.state c.args.host.now) (g.H.Host.state c.unpack_refreshed.new.host) (g.H.Host.state c.displace.new.host)
     c.args.told.now.items c.unpack_refreshed.new.told.items c.in-Ok.ensures.unit c.displace.new.told.items c.displace.ensures.told
 
 pub returns-in-Ok-displace-clause-any_moment : goal.returns-in-Ok-displace-clause-any_moment
 returns-in-Ok-displace-clause-any_moment g c =
-    since_whole c.args.incoming c.args.beside.now (held_by c.args.administration.now c.args.diversions.now) c.args.administration.now.places c.unpack_refreshed.new.administration.database c.unpack_refreshed.new.administration.lists.lists c.requires.open.kept
+    since_whole c.args.incoming c.args.beside.now (held_by c.args.administration.now c.args.diversions.now) c.unpack_refreshed.new.diversions.ways c.args.administration.now.places c.unpack_refreshed.new.administration.database c.unpack_refreshed.new.administration.lists.lists c.requires.open.kept
     c.args.behind.now c.requires.behind c.as_slice.result.now c.as_slice-in-Ok.result.now c.as_slice.ensures.value c.as_slice-in-Ok.ensures c.in-Ok.unpacked.unwinding (sym c.is_some.ensures ∙ c.if-is_some.false) (g.H.Host.state c.args.host.now) (g.H.Host.state c.unpack_refreshed.new.host) (g.H.Host.state c.displace.new.host)
     c.args.told.now.items c.unpack_refreshed.new.told.items c.in-Ok.ensures.unit c.requires.untold c.unpack_refreshed.ensures.any_moment c.displace.ensures.any_moment
 
 pub returns-in-Err-displace-clause-any_moment : goal.returns-in-Err-displace-clause-any_moment
 returns-in-Err-displace-clause-any_moment g c =
-    since_whole c.args.incoming c.args.beside.now (held_by c.args.administration.now c.args.diversions.now) c.args.administration.now.places c.unpack_refreshed.new.administration.database c.unpack_refreshed.new.administration.lists.lists c.requires.open.kept
+    since_whole c.args.incoming c.args.beside.now (held_by c.args.administration.now c.args.diversions.now) c.unpack_refreshed.new.diversions.ways c.args.administration.now.places c.unpack_refreshed.new.administration.database c.unpack_refreshed.new.administration.lists.lists c.requires.open.kept
     c.args.behind.now c.requires.behind c.as_slice.result.now c.as_slice-in-Ok.result.now c.as_slice.ensures.value c.as_slice-in-Ok.ensures c.in-Ok.unpacked.unwinding (sym c.is_some.ensures ∙ c.if-is_some.false) (g.H.Host.state c.args.host.now) (g.H.Host.state c.unpack_refreshed.new.host) (g.H.Host.state c.displace.new.host)
     c.args.told.now.items c.unpack_refreshed.new.told.items c.in-Ok.ensures.unit c.requires.untold c.unpack_refreshed.ensures.any_moment c.displace.ensures.any_moment
 

@@ -9,7 +9,7 @@ use Rattle.recorded_packages.specs.Packages.{ArePackagesOf}
 use Rattle.unit_reports.specs.Held.{Held, held_by}
 use Rattle.unit_reports.proofs.Counting.{last_from}
 use Rattle.dpkg_session.specs.Installs.{names_done}
-use Rattle.dpkg_session.proofs.Again.{behind, behind_answered, behind_moments, behind_told, behind_watched, unread_last, unread_moments, unread_told, unread_watched}
+use Rattle.dpkg_session.proofs.Again.{behind, behind_answered, behind_moments, behind_told, behind_watched, never_abandoned, unread_last, unread_moments, unread_told, unread_watched}
 use Rattle.dpkg_session.proofs.installing.configure_done.Goals as goal
 
 pub configure_done_read-requires-clause-order : goal.configure_done_read-requires-clause-order
@@ -176,3 +176,6 @@ returns-in-Some-clause-watched g c =
     let t = g.H.Host.state c.read_before.new.host in
     let unread = c.in-Some.ensures.unread in
     unread_watched g.W.Watcher.tells s t c.args.watcher.now c.in-Some.report.units.items c.in-Some.report.last unread
+
+pub returns-in-Some-clause-abandoned : goal.returns-in-Some-clause-abandoned
+returns-in-Some-clause-abandoned g c = never_abandoned c.in-Some.report.last _ c.in-Some.ensures.not_abandoned

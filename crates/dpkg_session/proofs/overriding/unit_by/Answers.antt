@@ -6,6 +6,7 @@ use Rattle.unit_reports.specs.declared.refusal.Rule.TheVariants.{OverrideLine}
 use Rattle.dpkg_session.specs.Overriding.{taken_with}
 use Rattle.dpkg_session.specs.Run.{IsAmidTaken}
 use Rattle.dpkg_session.specs.Units.{HasCalledTaken, IsTakenUnit}
+use Rattle.dpkg_session.proofs.Runs.{refused_within}
 use Rattle.dpkg_session.proofs.Taken.{not_begun_taken, since_taken_start, taken_refused}
 use Rattle.dpkg_session.proofs.overriding.unit_by.Goals as goal
 
@@ -23,7 +24,7 @@ returns-in-Err-clause-told g c = not_begun_taken c.args.allowed (taken_with c.ar
 pub returns-in-Ok-clause-unit : goal.returns-in-Ok-clause-unit
 returns-in-Ok-clause-unit g c =
     let h = held_by c.args.administration.now c.args.diversions.now in
-    let after = held_by c.unit_with.new.administration c.args.diversions.now in
+    let after = held_by c.unit_with.new.administration c.unit_with.new.diversions in
     let s = g.H.Host.state c.args.host.now in
     let t = g.H.Host.state c.unit_with.new.host in
     elim c.unit_with.ensures.unit [
@@ -38,3 +39,6 @@ returns-in-Ok-clause-told g c =
 pub returns-in-Ok-clause-any_moment : goal.returns-in-Ok-clause-any_moment
 returns-in-Ok-clause-any_moment g c =
     subst (λ (r : Result Overrides ℕ). AtEachMomentOf (IsAmidTaken c.args.allowed (taken_with r c.args.incoming) (held_by c.args.administration.now c.args.diversions.now)) (g.H.Host.state c.args.host.now) (g.H.Host.state c.unit_with.new.host)) (sym c.in-Ok.is) c.unit_with.ensures.any_moment
+
+pub returns-in-Err-clause-not_closed : goal.returns-in-Err-clause-not_closed
+returns-in-Err-clause-not_closed g c = refused_within _ _ c.refused.result c.refused.ensures

@@ -1,8 +1,9 @@
-use Rattle.std.proofs.Common.{inl, inr, sym, subst, ◌∙◌}
+use Rattle.std.proofs.Common.{ap, inl, inr, sym, subst, ◌∙◌}
 use Rattle.held_administration.specs.Order.{IsInOrder}
 use Rattle.host_core.specs.World.{World}
 use Rattle.unit_reports.specs.Held.{held_by}
-use Rattle.unit_reports.proofs.Counting.{counts_from}
+use Rattle.unit_reports.specs.declared.report.Reply.TheVariants.{Broken}
+use Rattle.unit_reports.proofs.Counting.{counts_from, fault_within}
 use Rattle.dpkg_session.proofs.Growth.{answered_from, looked_overridden, overridden_called, overridden_moments, overridden_unit}
 use Rattle.dpkg_session.proofs.overriding.unit_of_overridden.Goals as goal
 
@@ -20,7 +21,7 @@ returns-in-Ok-clause-unit g c =
     elim c.unit_by.ensures.unit [
       | inl broken ↦ inl broken
       | inr is ↦ inr (overridden_unit s m looked.reads looked.silent c.args.allowed c.args.incoming (held_by c.args.administration.now c.args.diversions.now) c.in-Ok.read looked.found
-          c.unit_by.result t c.unit_by.ensures.any_moment.honest (held_by c.unit_by.new.administration c.args.diversions.now) is)
+          c.unit_by.result t c.unit_by.ensures.any_moment.honest (held_by c.unit_by.new.administration c.unit_by.new.diversions) is)
     ]
 
 pub returns-in-Ok-clause-told : goal.returns-in-Ok-clause-told
@@ -56,3 +57,6 @@ returns-in-Err-clause-told g c = inl (record { silent = c.read_overrides.ensures
 pub returns-in-Err-clause-any_moment : goal.returns-in-Err-clause-any_moment
 returns-in-Err-clause-any_moment g c =
     looked_overridden c.args.allowed c.args.incoming (held_by c.args.administration.now c.args.diversions.now) (g.H.Host.state c.args.host.now) (g.H.Host.state c.read_overrides.new.host) c.read_overrides.ensures.looks.reads
+
+pub returns-in-Err-clause-not_closed : goal.returns-in-Err-clause-not_closed
+returns-in-Err-clause-not_closed g c = fault_within c.in-Err.fault c.broken.result.reply (c.broken.ensures.reply ∙ ap Broken c.breakage_of.ensures)

@@ -7,11 +7,11 @@ use Rattle.unit_reports.specs.Held.{held_by}
 use Rattle.unit_reports.specs.Units.{IsBroken}
 use Rattle.unit_reports.specs.declared.refusal.Rule.{Rule}
 use Rattle.unit_reports.specs.declared.refusal.Rule.TheVariants.{OwnerUnknown}
-use Rattle.unit_reports.proofs.Counting.{counts_no_memory, no_fault_here}
+use Rattle.unit_reports.proofs.Counting.{counts_no_memory, no_fault_here, no_memory_within}
 use Rattle.dpkg_session.specs.Overriding.{taken_by, taken_from}
 use Rattle.dpkg_session.specs.Run.{IsAmidTaken}
 use Rattle.dpkg_session.specs.Units.{HasCalledTaken, IsTakenUnit}
-use Rattle.dpkg_session.proofs.Runs.{counts_refused}
+use Rattle.dpkg_session.proofs.Runs.{counts_refused, refused_within}
 use Rattle.dpkg_session.proofs.Taken.{not_begun_taken, since_taken_start, taken_owner, taken_refused, taken_whole}
 use Rattle.dpkg_session.proofs.overriding.unit_with.Goals as goal
 
@@ -45,7 +45,7 @@ returns-in-Err-clause-counts g c = counts_no_memory c.broken.result.reply (g.H.H
 pub returns-in-Ok-None-clause-unit : goal.returns-in-Ok-None-clause-unit
 returns-in-Ok-None-clause-unit g c =
     let h = held_by c.args.administration.now c.args.diversions.now in
-    let after = held_by c.unit_of_followed.new.administration c.args.diversions.now in
+    let after = held_by c.unit_of_followed.new.administration c.unit_of_followed.new.diversions in
     let s = g.H.Host.state c.args.host.now in
     let t = g.H.Host.state c.unit_of_followed.new.host in
     let whole = taken_whole c.args.overrides.now c.args.incoming c.override_accesses-overridden.result _ c.in-Ok-None.field-0-is c.in-Ok-None.ensures c.override_accesses-overridden.ensures in
@@ -63,3 +63,9 @@ pub returns-in-Ok-None-clause-any_moment : goal.returns-in-Ok-None-clause-any_mo
 returns-in-Ok-None-clause-any_moment g c =
     let whole = taken_whole c.args.overrides.now c.args.incoming c.override_accesses-overridden.result _ c.in-Ok-None.field-0-is c.in-Ok-None.ensures c.override_accesses-overridden.ensures in
     subst (λ (r : Result Package Rule). AtEachMomentOf (IsAmidTaken c.args.allowed r (held_by c.args.administration.now c.args.diversions.now)) (g.H.Host.state c.args.host.now) (g.H.Host.state c.unit_of_followed.new.host)) (sym whole) c.unit_of_followed.ensures.any_moment
+
+pub returns-in-Ok-Some-clause-not_closed : goal.returns-in-Ok-Some-clause-not_closed
+returns-in-Ok-Some-clause-not_closed g c = refused_within _ _ c.refused.result c.refused.ensures
+
+pub returns-in-Err-clause-not_closed : goal.returns-in-Err-clause-not_closed
+returns-in-Err-clause-not_closed g c = no_memory_within c.broken.result.reply c.broken.ensures.reply

@@ -1,7 +1,7 @@
 use Rattle.std.proofs.Common.{ap, refl, ◌∙◌}
 use Rattle.held_administration.specs.declared.held.Administration.{Administration}
 use Rattle.unit_reports.specs.Held.{held_by}
-use Rattle.dpkg_session.proofs.Again.{counts_unread, unread_by, unread_not_closed}
+use Rattle.dpkg_session.proofs.Again.{counts_unread, unread_by, unread_not_abandoned, unread_not_closed}
 use Rattle.dpkg_session.proofs.rereading.read_before.Goals as goal
 
 pub returns-in-Ok-clause-read : goal.returns-in-Ok-clause-read
@@ -25,3 +25,6 @@ returns-in-Err-clause-counts g c = counts_unread c.in-Err.fault c.unread_report.
 
 pub returns-in-Err-clause-not_closed : goal.returns-in-Err-clause-not_closed
 returns-in-Err-clause-not_closed g c = unread_not_closed c.in-Err.fault c.unread_report.result.last c.unread_report.ensures.last
+
+pub returns-in-Err-clause-not_abandoned : goal.returns-in-Err-clause-not_abandoned
+returns-in-Err-clause-not_abandoned g c = unread_not_abandoned c.in-Err.fault c.unread_report.result.last c.unread_report.ensures.last

@@ -1,12 +1,12 @@
 use Rattle.std.proofs.Common.{inl, inr, subst, ◌∙◌}
 use Rattle.unit_reports.specs.Held.{held_by}
 use Rattle.dpkg_session.proofs.Amid.{since_decided, since_decided_start}
-use Rattle.dpkg_session.proofs.Runs.{by_refused, by_unpacked, counts_refused}
+use Rattle.dpkg_session.proofs.Runs.{by_refused, by_unpacked, counts_refused, refused_within}
 use Rattle.dpkg_session.proofs.Told.{called_decided, not_begun_decided}
 use Rattle.unpack_relations.specs.Checks.{AreBesideApart}
 use Rattle.dpkg_session.proofs.units.decide_and_unpack.Goals as goal
 use Rattle.host_core.proofs.Barriers.{answered_here}
-use Rattle.unit_reports.proofs.Counting.{counts_no_memory, no_fault_here}
+use Rattle.unit_reports.proofs.Counting.{counts_no_memory, no_fault_here, no_memory_within}
 
 pub unpack_unit-requires-clause-apart : goal.unpack_unit-requires-clause-apart
 unpack_unit-requires-clause-apart g c = subst (AreBesideApart c.args.incoming.name c.args.administration.now.database.records) c.in-Ok-Planned.field-0-is (c.in-Ok-Planned.ensures.apart c.args.administration.now.database.records c.requires.indexed)
@@ -46,3 +46,9 @@ returns-in-Ok-Refused-clause-answered g c = inr (answered_here (g.H.Host.state c
 
 pub returns-in-Ok-Planned-clause-answered : goal.returns-in-Ok-Planned-clause-answered
 returns-in-Ok-Planned-clause-answered g c = elim c.unpack_unit.ensures.on_disk [ inl broken ↦ inl broken | inr disk ↦ inr (inl disk) ]
+
+pub returns-in-Ok-Refused-clause-not_closed : goal.returns-in-Ok-Refused-clause-not_closed
+returns-in-Ok-Refused-clause-not_closed g c = refused_within _ _ c.refused.result c.refused.ensures
+
+pub returns-in-Err-clause-not_closed : goal.returns-in-Err-clause-not_closed
+returns-in-Err-clause-not_closed g c = no_memory_within c.broken.result.reply c.broken.ensures.reply

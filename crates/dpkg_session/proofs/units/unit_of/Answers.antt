@@ -1,7 +1,7 @@
 use Rattle.std.proofs.Common.{inr}
 use Rattle.unit_reports.specs.Held.{held_by}
 use Rattle.dpkg_session.proofs.Amid.{since_read, since_unit_start}
-use Rattle.dpkg_session.proofs.Runs.{counts_refused, of_read, of_unread}
+use Rattle.dpkg_session.proofs.Runs.{counts_refused, of_read, of_unread, refused_within}
 use Rattle.dpkg_session.proofs.Told.{called_read, not_begun}
 use Rattle.dpkg_session.proofs.units.unit_of.Goals as goal
 use Rattle.host_core.proofs.Barriers.{answered_here}
@@ -29,3 +29,6 @@ returns-in-Err-clause-counts g c = counts_refused _ _ c.refused.result (g.H.Host
 
 pub returns-in-Err-clause-answered : goal.returns-in-Err-clause-answered
 returns-in-Err-clause-answered g c = inr (answered_here (g.H.Host.state c.args.host.now))
+
+pub returns-in-Err-clause-not_closed : goal.returns-in-Err-clause-not_closed
+returns-in-Err-clause-not_closed g c = refused_within _ _ c.refused.result c.refused.ensures

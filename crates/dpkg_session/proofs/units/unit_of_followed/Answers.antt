@@ -3,7 +3,7 @@ use Rattle.unit_reports.specs.Held.{held_by}
 use Rattle.dpkg_session.proofs.Amid.{since_decided_start}
 use Rattle.dpkg_session.proofs.Told.{not_begun_decided}
 use Rattle.dpkg_session.proofs.units.unit_of_followed.Goals as goal
-use Rattle.unit_reports.proofs.Counting.{counts_no_memory, no_fault_here}
+use Rattle.unit_reports.proofs.Counting.{counts_no_memory, no_fault_here, no_memory_within}
 
 pub decide_and_unpack-unit-requires-clause-open : goal.decide_and_unpack-unit-requires-clause-open
 decide_and_unpack-unit-requires-clause-open g c = record { noting = c.requires.open.noting; listing = c.requires.open.listing; kept = c.requires.open.kept }
@@ -20,3 +20,6 @@ returns-in-Err-clause-told g c = not_begun_decided c.args.allowed c.args.incomin
 
 pub returns-in-Err-clause-counts : goal.returns-in-Err-clause-counts
 returns-in-Err-clause-counts g c = counts_no_memory c.broken.result.reply (g.H.Host.state c.args.host.now) (g.H.Host.state c.args.host.now) (no_fault_here (g.H.Host.state c.args.host.now)) c.broken.ensures.reply
+
+pub returns-in-Err-clause-not_closed : goal.returns-in-Err-clause-not_closed
+returns-in-Err-clause-not_closed g c = no_memory_within c.broken.result.reply c.broken.ensures.reply

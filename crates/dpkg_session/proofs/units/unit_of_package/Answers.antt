@@ -7,7 +7,7 @@ use Rattle.recorded_packages.specs.Packages.{ArePackagesOf}
 use Rattle.unit_reports.specs.Held.{held_by}
 use Rattle.unit_reports.proofs.Counting.{counts_from}
 use Rattle.unit_reports.specs.declared.report.Reply.TheVariants.{Broken}
-use Rattle.dpkg_session.proofs.ReadingFaults.{counts_reading, damage_of, reading_not_closed}
+use Rattle.dpkg_session.proofs.ReadingFaults.{counts_reading, damage_of, reading_within}
 use Rattle.dpkg_session.proofs.Growth.{answered_from, looked_moments, package_called, package_moments, package_unit}
 use Rattle.dpkg_session.proofs.units.unit_of_package.Goals as goal
 
@@ -29,7 +29,7 @@ returns-in-Ok-clause-unit g c =
     elim c.unit_of_overridden.ensures.unit [
       | inl broken ↦ inl broken
       | inr is ↦ inr (package_unit s m looked.reads looked.silent c.args.allowed c.args.incoming (held_by c.args.administration.now c.args.diversions.now) (held_by c.read_for_tree.new.administration c.read_for_tree.new.diversions) c.read_for_tree.new.diversions.ways (ap (λ (a : Administration). held_by a c.read_for_tree.new.diversions) c.read_for_tree.ensures.same) c.in-Ok.ensures.read
-          c.unit_of_overridden.result t c.unit_of_overridden.ensures.any_moment.honest (held_by c.unit_of_overridden.new.administration c.read_for_tree.new.diversions) is)
+          c.unit_of_overridden.result t c.unit_of_overridden.ensures.any_moment.honest (held_by c.unit_of_overridden.new.administration c.unit_of_overridden.new.diversions) is)
     ]
 
 pub returns-in-Ok-clause-told : goal.returns-in-Ok-clause-told
@@ -75,4 +75,4 @@ pub returns-in-Err-clause-counts : goal.returns-in-Err-clause-counts
 returns-in-Err-clause-counts g c = counts_reading c.in-Err.fault c.broken.result.reply (g.H.Host.state c.args.host.now) (g.H.Host.state c.read_for_tree.new.host) (c.broken.ensures.reply ∙ ap Broken c.breakage_of.ensures) c.in-Err.ensures.counts
 
 pub returns-in-Err-clause-not_closed : goal.returns-in-Err-clause-not_closed
-returns-in-Err-clause-not_closed g c = reading_not_closed c.in-Err.fault c.broken.result.reply (c.broken.ensures.reply ∙ ap Broken c.breakage_of.ensures)
+returns-in-Err-clause-not_closed g c = reading_within c.in-Err.fault c.broken.result.reply (c.broken.ensures.reply ∙ ap Broken c.breakage_of.ensures)

@@ -21,7 +21,7 @@ returns-in-Ok-clause-unit g c =
     let old = g.H.Host.state c.args.host.now in
     let new = g.H.Host.state c.unpack_indexed.new.host in
     let at = λ (f : Filed). held c.args.administration.now.database f c.args.diversions.now in
-    subst (λ (f : Filed). IfOk c.unpack_indexed.result (λ u. HasUnpackedBeside c.args.incoming c.args.beside.now (at f) c.args.administration.now.places u.unwinding c.unpack_indexed.new.administration.database c.unpack_indexed.new.administration.lists.lists old new c.args.told.now.items c.unpack_indexed.new.told.items))
+    subst (λ (f : Filed). IfOk c.unpack_indexed.result (λ u. HasUnpackedBeside c.args.incoming c.args.beside.now (at f) c.unpack_indexed.new.diversions.ways c.args.administration.now.places u.unwinding c.unpack_indexed.new.administration.database c.unpack_indexed.new.administration.lists.lists old new c.args.told.now.items c.unpack_indexed.new.told.items))
     c.index_where_many.ensures c.unpack_indexed.ensures.unit
 
 pub returns-in-Ok-clause-alone : goal.returns-in-Ok-clause-alone

@@ -4,14 +4,16 @@ use Rattle.host_core.specs.Host.{Needs}
 use Rattle.status_records.specs.Records.{put_record, record_in}
 use Rattle.status_records.specs.Words.{is_not_installed}
 use Rattle.status_records.specs.declared.record.Record.{Record}
+use Rattle.unit_reports.proofs.Counting.{fault_within}
 use Rattle.unit_reports.specs.Held.{held_by}
+use Rattle.unit_reports.specs.declared.report.Reply.TheVariants.{Broken}
 use Rattle.unit_stages.proofs.Order.{note_order}
 use Rattle.record_changes.specs.Activated.{changed}
 use Rattle.record_changes.specs.Units.{IsChange}
 use Rattle.record_changes.proofs.Changing.{named, still_stands}
 use Rattle.record_changes.proofs.Found.{found_name, found_stands, is_known}
 use Rattle.record_changes.proofs.Indexed.{still_indexed}
-use Rattle.record_changes.proofs.Notes.{broken_or, noted_counts, noted_not_closed, since_noting}
+use Rattle.record_changes.proofs.Notes.{broken_or, noted_counts, noted_within, since_noting}
 use Rattle.record_changes.proofs.units.note.Goals as goal
 
 pub note_record-requires-clause-stands : goal.note_record-requires-clause-stands
@@ -49,7 +51,10 @@ pub returns-in-Ok-clause-counts : goal.returns-in-Ok-clause-counts
 returns-in-Ok-clause-counts g c = noted_counts c.args.asked.now _ c.noted.result (g.H.Host.state c.args.host.now) (g.H.Host.state c.note_record.new.host) c.in-Ok.ensures.counts c.noted.ensures.unit
 
 pub returns-in-Ok-clause-not_closed : goal.returns-in-Ok-clause-not_closed
-returns-in-Ok-clause-not_closed g c = noted_not_closed c.args.asked.now _ c.noted.result c.noted.ensures.unit
+returns-in-Ok-clause-not_closed g c = noted_within c.args.asked.now _ c.noted.result c.noted.ensures.unit
+
+pub returns-in-Err-clause-not_closed : goal.returns-in-Err-clause-not_closed
+returns-in-Err-clause-not_closed g c = fault_within c.in-Err.fault c.broken.result.reply (c.broken.ensures.reply ∙ ap Broken c.breakage_of.ensures)
 
 pub returns-in-Ok-clause-any_moment : goal.returns-in-Ok-clause-any_moment
 returns-in-Ok-clause-any_moment g c = λ diverted.

@@ -3,7 +3,7 @@ use Rattle.host_core.specs.Host.{Since}
 use Rattle.unit_reports.specs.Held.{held_by}
 use Rattle.removal_run.specs.Turns.{AreAccepted, IsAmidTurns}
 use Rattle.removal_run.proofs.Accepting.{accepted_first}
-use Rattle.removal_run.proofs.Sorting.{refused_calls}
+use Rattle.removal_run.proofs.Sorting.{refused_all, refused_calls}
 use Rattle.removal_run.proofs.Ending.{since_none, since_removals}
 use Rattle.removal_run.specs.Names.{once}
 use Rattle.removal_run.specs.Refusals.{refusals}
@@ -14,6 +14,9 @@ run_sorted-requires-clause-accepted g c = subst (AreAccepted c.args.options.exte
 
 pub run_sorted-requires-clause-told : goal.run_sorted-requires-clause-told
 run_sorted-requires-clause-told g c = refused_calls (refusals c.args.options.extents c.args.administration.now.database.records (once c.args.names.items)) c.in-Ok.sorted.refused.items c.in-Ok.ensures.refused
+
+pub run_sorted-requires-clause-refused : goal.run_sorted-requires-clause-refused
+run_sorted-requires-clause-refused g c = refused_all (refusals c.args.options.extents c.args.administration.now.database.records (once c.args.names.items)) c.in-Ok.sorted.refused.items c.in-Ok.ensures.refused
 
 pub returns-in-Ok-clause-any_moment : goal.returns-in-Ok-clause-any_moment
 returns-in-Ok-clause-any_moment g c =

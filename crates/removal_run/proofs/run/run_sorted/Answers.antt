@@ -1,13 +1,15 @@
 use Rattle.std.proofs.Common.{◌≡◌, [], List, ℕ, sym, subst, ◌∙◌}
+use Rattle.std.specs.Prelude.{IsTrue}
+use Rattle.std.specs.List.{AllByRecursion}
 use Rattle.recorded_packages.specs.Packages.{ArePackagesOf}
 use Rattle.recorded_packages.specs.Renewal.{AreSameBut}
 use Rattle.relation_index.specs.declared.package.Package.{Package}
 use Rattle.unit_reports.proofs.Telling.{told_all}
 use Rattle.unit_reports.specs.Held.{held_by}
-use Rattle.unit_reports.specs.Units.{calls_of}
+use Rattle.unit_reports.specs.Units.{IsRefusal, calls_of}
 use Rattle.unit_reports.specs.Watching.{IsTold}
 use Rattle.unit_reports.specs.declared.report.Unit.{Unit as AUnit}
-use Rattle.removal_run.proofs.Ending.{none_ends, runs_through, runs_up_to, stopped_up_to, tells_ended}
+use Rattle.removal_run.proofs.Ending.{ending_not_abandoned, none_ends, runs_through, runs_up_to, stopped_up_to, tells_ended}
 use Rattle.removal_run.proofs.Tellings.{told_ended, told_turns}
 use Rattle.removal_run.proofs.run.run_sorted.Goals as goal
 
@@ -47,7 +49,13 @@ returns-clause-watched g c =
     c.requires.told (subst (λ (us : List AUnit). IsTold g.W.Watcher.tells (g.H.Host.state c.args.host.now) c.args.watcher.now us c.tell_all.new.watcher) c.as_slice.ensures.value c.tell_all.ensures) c.run_turns.ensures.watched)
 
 pub tell_all-requires : goal.tell_all-requires
-tell_all-requires g c = subst (λ (us : List AUnit). calls_of us ≡ []) (sym c.as_slice.ensures.value) c.requires.told
+tell_all-requires g c = record {
+  quiet = subst (λ (us : List AUnit). calls_of us ≡ []) (sym c.as_slice.ensures.value) c.requires.told;
+  refused = subst (AllByRecursion (λ (u : AUnit). IsRefusal u.reply)) (sym c.as_slice.ensures.value) c.requires.refused;
+}
+
+pub returns-in-Ok-clause-abandoned : goal.returns-in-Ok-clause-abandoned
+returns-in-Ok-clause-abandoned g c = ending_not_abandoned (IsTrue (g.W.Watcher.ends c.ended.new.watcher)) c.in-Ok.queue c.run_turns.new.units.items c.ended.result.units.items c.ended.result.last c.ended.ensures.ends
 
 pub returns-in-Ok-clause-indexed : goal.returns-in-Ok-clause-indexed
 returns-in-Ok-clause-indexed g c = λ none.

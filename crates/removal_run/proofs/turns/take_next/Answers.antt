@@ -1,7 +1,7 @@
-use Rattle.std.proofs.Common.{◌≡◌, ◌<◌, ℕ, Bool, List, None, length, ap, subst, sym, false, ◌∙◌}
-use Rattle.std.proofs.lemmas.Bool.{true≢false}
+use Rattle.std.proofs.Common.{◌≡◌, ◌<◌, ℕ, Bool, List, None, length, ap, subst, sym, ◌∙◌}
 use Rattle.host_core.specs.Host.{AtEachMomentOf}
 use Rattle.unit_reports.specs.Held.{held_by}
+use Rattle.unit_runs.proofs.Barred.{not_taken}
 use Rattle.removal_run.specs.Names.{without}
 use Rattle.removal_run.specs.Next.{IsNextIn}
 use Rattle.removal_run.specs.Turns.{AreAccepted}
@@ -64,8 +64,8 @@ returns-in-Ok-clause-fewer g c =
     subst (λ (w : List (List ℕ)). length w < length c.args.waiting.now.items) (sym c.strike.ensures)
     (struck_fewer n.name c.args.waiting.now.items (next_among c.args.options.ignore_depends q.packages c.args.administration.now.database.records c.args.waiting.now.items q c.requires.queue n found))
 
-pub returns-in-Ok-clause-room : goal.returns-in-Ok-clause-room
-returns-in-Ok-clause-room g c none = absurd (true≢false (sym c.in-Ok.ensures.room ∙ none))
+pub returns-in-Ok-clause-barred : goal.returns-in-Ok-clause-barred
+returns-in-Ok-clause-barred g c = not_taken c.args.barred c.in-Ok.ensures.barred
 
 pub returns-in-Ok-clause-order : goal.returns-in-Ok-clause-order
 returns-in-Ok-clause-order g c = c.in-Ok.ensures.ok.is.order

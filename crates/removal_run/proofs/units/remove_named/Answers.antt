@@ -4,9 +4,9 @@ use Rattle.std.specs.Prelude.{Option}
 use Rattle.unit_reports.specs.declared.report.Reply.TheVariants.{Broken}
 use Rattle.unit_reports.specs.Held.{held_by}
 use Rattle.removal_run.proofs.Removals.{called_as, is_removal}
-use Rattle.removal_run.proofs.Replies.{answer_not_closed, counts_answered}
+use Rattle.removal_run.proofs.Replies.{answer_within, counts_answered}
 use Rattle.removal_run.proofs.units.remove_named.Goals as goal
-use Rattle.unit_reports.proofs.Counting.{counts_broken, fault_not_closed}
+use Rattle.unit_reports.proofs.Counting.{counts_broken, fault_within}
 
 pub returns-in-Ok-clause-unit : goal.returns-in-Ok-clause-unit
 returns-in-Ok-clause-unit g c =
@@ -28,7 +28,7 @@ pub returns-in-Err-clause-counts : goal.returns-in-Err-clause-counts
 returns-in-Err-clause-counts g c = counts_broken (Option Call) c.in-Err.fault c.broken.result.reply (g.H.Host.state c.args.host.now) (g.H.Host.state c.remove_to_disk.new.host) (c.broken.ensures.reply ∙ ap Broken c.breakage_of.ensures) c.in-Err.ensures.counts
 
 pub returns-in-Ok-clause-not_closed : goal.returns-in-Ok-clause-not_closed
-returns-in-Ok-clause-not_closed g c = answer_not_closed _ _ _ c.answered.result c.answered.ensures.answer
+returns-in-Ok-clause-not_closed g c = answer_within _ _ _ c.answered.result c.answered.ensures.answer
 
 pub returns-in-Err-clause-not_closed : goal.returns-in-Err-clause-not_closed
-returns-in-Err-clause-not_closed g c = fault_not_closed c.in-Err.fault c.broken.result.reply (c.broken.ensures.reply ∙ ap Broken c.breakage_of.ensures)
+returns-in-Err-clause-not_closed g c = fault_within c.in-Err.fault c.broken.result.reply (c.broken.ensures.reply ∙ ap Broken c.breakage_of.ensures)

@@ -1,5 +1,6 @@
 use Rattle.std.proofs.Common.{arith, ◌≡◌, ◌≤◌, ◌+◌, List, [], ◌∷◌, ◌++◌, max, take, ap, sym, ◌∙◌}
 use Rattle.std.proofs.lemmas.List.{take_more}
+use Rattle.unit_reports.specs.declared.report.Breakage.TheVariants.{Device, NoMemory, Declined, Damaged, Closed, Abandoned}
 use Rattle.unit_reports.specs.declared.report.Reply.{Reply}
 use Rattle.unit_reports.specs.declared.report.Reply.TheVariants.{Done, Refused, Failed, Looped, Broken}
 use Rattle.unit_reports.specs.declared.report.Unit.{Unit as AUnit}
@@ -16,7 +17,12 @@ at_most Done = omega arith
 at_most (Refused r) = omega arith
 at_most (Failed f) = omega arith
 at_most (Looped c) = omega arith
-at_most (Broken b) = omega arith
+at_most (Broken Device) = omega arith
+at_most (Broken NoMemory) = omega arith
+at_most (Broken Declined) = omega arith
+at_most (Broken Damaged) = omega arith
+at_most (Broken Closed) = omega arith
+at_most (Broken Abandoned) = omega arith
 
 pub loop-unit-preserved : goal.loop-unit-preserved
 loop-unit-preserved c =

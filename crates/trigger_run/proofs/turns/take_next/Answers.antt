@@ -1,12 +1,12 @@
-use Rattle.std.proofs.Common.{rules, ◌≡◌, ◌∷◌, sym, false, ◌∙◌}
-use Rattle.std.proofs.lemmas.Bool.{true≢false}
+use Rattle.std.proofs.Common.{rules, ◌≡◌, ◌∷◌}
 use Rattle.unit_reports.specs.Held.{held_by}
+use Rattle.unit_runs.proofs.Barred.{not_taken}
 use Rattle.trigger_run.proofs.Processings.{unit_tells}
 use Rattle.trigger_run.proofs.Turning.{broken_one, since_next}
 use Rattle.trigger_run.proofs.turns.take_next.Goals as goal
 
-pub returns-in-Ok-clause-room : goal.returns-in-Ok-clause-room
-returns-in-Ok-clause-room g c none = absurd (true≢false (sym c.in-Ok.ensures.room ∙ none))
+pub returns-in-Ok-clause-barred : goal.returns-in-Ok-clause-barred
+returns-in-Ok-clause-barred g c = not_taken c.args.barred c.in-Ok.ensures.barred
 
 pub returns-in-Ok-clause-any_moment : goal.returns-in-Ok-clause-any_moment
 returns-in-Ok-clause-any_moment g c =

@@ -1,9 +1,9 @@
-use Rattle.std.proofs.Common.{◌∙◌}
+use Rattle.unit_reports.proofs.Counting.{counts_whole, not_abandoned, not_closed}
 use Rattle.unit_reports.specs.Held.{held_by}
+use Rattle.unit_runs.proofs.Barred.{barred_abandoned, barred_broken, barred_counts, barred_not_closed}
 use Rattle.trigger_run.proofs.Processings.{called_nothing, since_nothing, unit_tells}
-use Rattle.trigger_run.proofs.Replies.{broken_by, is_broken_off, is_whole, not_broken}
+use Rattle.trigger_run.proofs.Replies.{is_broken_off, is_whole, not_broken}
 use Rattle.trigger_run.proofs.units.process_one.Goals as goal
-use Rattle.unit_reports.proofs.Counting.{counts_whole}
 
 pub returns-clause-ok : goal.returns-clause-ok
 returns-clause-ok g c = not_broken c.unit_for-unit.result.reply c.is_broken.result c.if-is_broken.false c.is_broken.ensures c.unit_for-unit.ensures.unit
@@ -20,15 +20,15 @@ returns-clause-answered g c = not_broken c.unit_for-unit.result.reply c.is_broke
 pub returns-clause-told : goal.returns-clause-told
 returns-clause-told g c = unit_tells _ _ (g.H.Host.state c.args.host.now) (g.H.Host.state c.unit_for-unit.new.host) _ c.unit_for-unit.ensures.told
 
-pub returns-then-not-room-clause-broken_off : goal.returns-then-not-room-clause-broken_off
-returns-then-not-room-clause-broken_off g c = record {
-  broken = broken_by _ c.broken.result.reply c.broken.ensures.reply;
-  untouched = c.broken.ensures.touched;
-  called = called_nothing c.args.«package» (held_by c.args.administration.now c.args.diversions.now) (g.H.Host.state c.args.host.now) c.broken.result (c.broken.ensures.told ∙ c.new.ensures.items);
+pub returns-in-Some-clause-broken_off : goal.returns-in-Some-clause-broken_off
+returns-in-Some-clause-broken_off g c = record {
+  broken = barred_broken c.in-Some.bar c.barred_unit.result.reply c.barred_unit.ensures.reply;
+  untouched = c.barred_unit.ensures.touched;
+  called = called_nothing c.args.«package» (held_by c.args.administration.now c.args.diversions.now) (g.H.Host.state c.args.host.now) c.barred_unit.result c.barred_unit.ensures.told;
 }
 
-pub returns-then-not-room-clause-any_moment : goal.returns-then-not-room-clause-any_moment
-returns-then-not-room-clause-any_moment g c = since_nothing c.args.«package» (held_by c.args.administration.now c.args.diversions.now) (g.H.Host.state c.args.host.now)
+pub returns-in-Some-clause-any_moment : goal.returns-in-Some-clause-any_moment
+returns-in-Some-clause-any_moment g c = since_nothing c.args.«package» (held_by c.args.administration.now c.args.diversions.now) (g.H.Host.state c.args.host.now)
 
 pub returns-then-is_broken-clause-broken_off : goal.returns-then-is_broken-clause-broken_off
 returns-then-is_broken-clause-broken_off g c =
@@ -39,3 +39,18 @@ pub returns-clause-no_fault : goal.returns-clause-no_fault
 returns-clause-no_fault g c =
     let unit = c.unit_for-unit.result in
     counts_whole unit.reply (g.H.Host.state c.args.host.now) (g.H.Host.state c.unit_for-unit.new.host) (is_whole unit.reply c.is_broken.result c.if-is_broken.false c.is_broken.ensures) c.unit_for-unit.ensures.counts
+
+pub returns-in-Some-clause-counts : goal.returns-in-Some-clause-counts
+returns-in-Some-clause-counts g c = barred_counts c.in-Some.bar c.barred_unit.result.reply (g.H.Host.state c.args.host.now) c.barred_unit.ensures.reply
+
+pub returns-in-Some-clause-not_closed : goal.returns-in-Some-clause-not_closed
+returns-in-Some-clause-not_closed g c = barred_not_closed c.in-Some.bar c.barred_unit.result.reply c.barred_unit.ensures.reply
+
+pub returns-in-Some-clause-abandoned : goal.returns-in-Some-clause-abandoned
+returns-in-Some-clause-abandoned g c = barred_abandoned c.in-Some.bar c.args.barred c.barred_unit.result.reply c.in-Some.is c.barred_unit.ensures.reply
+
+pub returns-then-is_broken-clause-not_closed : goal.returns-then-is_broken-clause-not_closed
+returns-then-is_broken-clause-not_closed g c = not_closed c.unit_for-unit.result.reply c.unit_for-unit.ensures.not_closed
+
+pub returns-then-is_broken-clause-abandoned : goal.returns-then-is_broken-clause-abandoned
+returns-then-is_broken-clause-abandoned g c = λ abandoned. absurd (not_abandoned c.unit_for-unit.result.reply c.unit_for-unit.ensures.not_closed abandoned)

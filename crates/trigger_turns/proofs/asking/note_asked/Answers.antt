@@ -2,6 +2,7 @@ use Rattle.std.proofs.Common.{[], None, Some, append-nil, refl, sym}
 use Rattle.unit_reports.specs.Held.{held_by}
 use Rattle.trigger_turns.specs.Turns.{IsAsked, IsBrokenBehind}
 use Rattle.trigger_turns.proofs.Turned.{asked_noted, blind_as, looks_shown_as, told_same}
+use Rattle.trigger_turns.proofs.Abandoned.{cut_off}
 use Rattle.trigger_turns.proofs.asking.note_asked.Goals as goal
 
 pub returns-in-Ok-Some-clause-noted : goal.returns-in-Ok-Some-clause-noted
@@ -23,3 +24,6 @@ returns-in-Err-clause-noted g c = ([], IsBrokenBehind.blind refl (blind_as _ c.u
 
 pub returns-in-Err-clause-watched : goal.returns-in-Err-clause-watched
 returns-in-Err-clause-watched g c = told_same _ _ _ _ refl
+
+pub returns-in-Err-clause-abandoned : goal.returns-in-Err-clause-abandoned
+returns-in-Err-clause-abandoned g c = cut_off _ c.in-Err.fault c.unbegun.result c.unbegun.ensures

@@ -1,5 +1,6 @@
 use Rattle.std.proofs.Common.{arith}
 use Rattle.trigger_turns.proofs.Turned.{changes_short, ends_open, told_once}
+use Rattle.trigger_turns.proofs.Abandoned.{ends_abandoned}
 use Rattle.trigger_turns.proofs.asking.note_changes.Goals as goal
 
 pub add_units-requires : goal.add_units-requires
@@ -29,3 +30,6 @@ returns-clause-open g c = ends_open c.add_units.result c.change-report.result.la
 
 pub returns-clause-watched : goal.returns-clause-watched
 returns-clause-watched g c = told_once _ _ _ c.change-report.result.units.items _ _ c.add_units.ensures.items (g.H.Host.state c.args.session.now.host, c.change-report.ensures.watched)
+
+pub returns-clause-abandoned : goal.returns-clause-abandoned
+returns-clause-abandoned g c = ends_abandoned _ c.add_units.result c.change-report.result.last c.add_units.ensures.ends (c.change-report.ensures.abandoned c.requires.open)

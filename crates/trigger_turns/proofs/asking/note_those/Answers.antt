@@ -1,10 +1,12 @@
 use Rattle.std.proofs.Common.{◌≡◌, List, false, inl, subst, sym}
-use Rattle.std.specs.Prelude.{OnOk}
+use Rattle.std.specs.Prelude.{IfErr, IsTrue, OnOk}
+use Rattle.host_core.specs.declared.fault.HostFault.TheVariants.{NoMemory}
 use Rattle.unit_reports.specs.Held.{held_by}
 use Rattle.unit_reports.specs.declared.report.Unit.{Unit as AUnit}
 use Rattle.trigger_turns.specs.Told.{HaveBeenTold}
 use Rattle.trigger_turns.specs.Turns.{NotesThose, answered}
 use Rattle.trigger_turns.proofs.Turned.{answered_open, blind_here, notes_those, told_same}
+use Rattle.trigger_turns.proofs.Abandoned.{IsAbandonedFor, answered_abandoned, cut_off}
 use Rattle.trigger_turns.proofs.asking.note_those.Goals as goal
 
 pub returns-in-true-clause-noted : goal.returns-in-true-clause-noted
@@ -26,3 +28,9 @@ returns-in-false-clause-noted g c = inl (blind_here _ _ _ c.unbegun.ensures, c.h
 
 pub returns-in-false-clause-watched : goal.returns-in-false-clause-watched
 returns-in-false-clause-watched g c = told_same _ _ _ _ c.has_room.ensures.same
+
+pub returns-in-true-clause-abandoned : goal.returns-in-true-clause-abandoned
+returns-in-true-clause-abandoned g c = subst (λ r. IfErr r (IsAbandonedFor (IsTrue (g.W.Watcher.ends c.note_changes.new.watcher)))) (sym c.answered.ensures) (answered_abandoned (IsTrue (g.W.Watcher.ends c.note_changes.new.watcher)) c.note_changes.result c.note_changes.ensures.abandoned)
+
+pub returns-in-false-clause-abandoned : goal.returns-in-false-clause-abandoned
+returns-in-false-clause-abandoned g c = cut_off _ NoMemory c.unbegun.result c.unbegun.ensures

@@ -1,5 +1,6 @@
 use Rattle.std.proofs.Common.{arith}
 use Rattle.trigger_turns.proofs.Turned.{ends_open, names_short, told_once}
+use Rattle.trigger_turns.proofs.Abandoned.{ends_abandoned}
 use Rattle.trigger_turns.proofs.turns.process_named.Goals as goal
 
 pub add_units-requires : goal.add_units-requires
@@ -29,3 +30,6 @@ returns-clause-open g c = ends_open c.add_units.result c.process_triggers-report
 
 pub returns-clause-watched : goal.returns-clause-watched
 returns-clause-watched g c = told_once _ _ _ c.process_triggers-report.result.units.items _ _ c.add_units.ensures.items (g.H.Host.state c.args.session.now.host, c.process_triggers-report.ensures.watched)
+
+pub returns-clause-abandoned : goal.returns-clause-abandoned
+returns-clause-abandoned g c = ends_abandoned _ c.add_units.result c.process_triggers-report.result.last c.add_units.ensures.ends (c.process_triggers-report.ensures.abandoned c.requires.open)

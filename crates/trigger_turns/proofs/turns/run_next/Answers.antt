@@ -1,11 +1,13 @@
 use Rattle.std.proofs.Common.{◌≡◌, List, Global, None, Option, Vec, [], false, refl, subst, sym}
-use Rattle.std.specs.Prelude.{MatchOption, OnOk}
+use Rattle.std.specs.Prelude.{IfErr, IsTrue, MatchOption, OnOk}
 use Rattle.trigger_chains.specs.Wishes.{first_package}
 use Rattle.trigger_chains.specs.declared.wishes.Wish.{Wish}
+use Rattle.host_core.specs.declared.fault.HostFault.TheVariants.{NoMemory}
 use Rattle.unit_reports.specs.Held.{held_by}
 use Rattle.trigger_turns.specs.Turns.{IsPrepared, RunsTurn}
 use Rattle.trigger_turns.specs.declared.wishing.Prepared.{Prepared}
 use Rattle.trigger_turns.proofs.Turned.{answered_open, prepared_of, runs_turn, told_same, turn_unbegun, unprepared_of, way_single}
+use Rattle.trigger_turns.proofs.Abandoned.{IsAbandonedFor, answered_abandoned, cut_off}
 use Rattle.trigger_turns.proofs.turns.run_next.Goals as goal
 
 pub take_turn-requires-clause-one : goal.take_turn-requires-clause-one
@@ -37,3 +39,9 @@ returns-in-Err-clause-turned g c = turn_unbegun _ _ _ _ _ _ [] false c.unbegun.r
 
 pub returns-in-Err-clause-watched : goal.returns-in-Err-clause-watched
 returns-in-Err-clause-watched g c = told_same _ _ _ _ refl
+
+pub returns-in-Ok-Some-clause-abandoned : goal.returns-in-Ok-Some-clause-abandoned
+returns-in-Ok-Some-clause-abandoned g c = subst (λ r. IfErr r (IsAbandonedFor (IsTrue (g.W.Watcher.ends c.take_turn.new.watcher)))) (sym c.answered.ensures) (answered_abandoned (IsTrue (g.W.Watcher.ends c.take_turn.new.watcher)) c.take_turn.result c.take_turn.ensures.abandoned)
+
+pub returns-in-Err-clause-abandoned : goal.returns-in-Err-clause-abandoned
+returns-in-Err-clause-abandoned g c = cut_off _ NoMemory c.unbegun.result c.unbegun.ensures

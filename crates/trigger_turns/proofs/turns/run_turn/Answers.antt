@@ -1,9 +1,11 @@
 use Rattle.std.proofs.Common.{List, subst}
+use Rattle.host_core.specs.declared.fault.HostFault.TheVariants.{NoMemory}
 use Rattle.unit_reports.specs.Held.{held_by}
 use Rattle.unit_reports.specs.declared.report.Unit.{Unit as AUnit}
 use Rattle.trigger_turns.specs.Told.{HaveBeenTold}
 use Rattle.trigger_turns.specs.Turns.{RunsTurn}
 use Rattle.trigger_turns.proofs.Turned.{told_same, turn_unbegun}
+use Rattle.trigger_turns.proofs.Abandoned.{cut_off}
 use Rattle.trigger_turns.proofs.turns.run_turn.Goals as goal
 
 pub returns-in-true-clause-turned : goal.returns-in-true-clause-turned
@@ -21,3 +23,6 @@ returns-in-false-clause-turned g c = turn_unbegun _ _ _ _ _ _ c.args.left.now.wi
 
 pub returns-in-false-clause-watched : goal.returns-in-false-clause-watched
 returns-in-false-clause-watched g c = told_same _ _ _ _ c.has_room.ensures.same
+
+pub returns-in-false-clause-abandoned : goal.returns-in-false-clause-abandoned
+returns-in-false-clause-abandoned g c = cut_off _ NoMemory c.unbegun.result c.unbegun.ensures

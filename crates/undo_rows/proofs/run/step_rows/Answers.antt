@@ -1,11 +1,14 @@
 use Rattle.std.proofs.Common.{◌≡◌, ◌+◌, List, [], ◌∷◌, ◌++◌, Option, length, refl, sym, ap, subst, ◌∙◌, append_assoc, length-append, rules}
+use Rattle.std.proofs.lemmas.List.{append-nil, nil_from_length}
 use Rattle.host_core.specs.World.{is_kept}
+use Rattle.host_core.specs.Host.{State}
+use Rattle.undo_rows.specs.declared.rows.Called.{Called}
 use Rattle.undo_rows.specs.declared.rows.Row.{Row}
 use Rattle.undo_rows.specs.declared.fall.Fall.{Fall}
 use Rattle.undo_rows.specs.Place.{Forward, leads}
-use Rattle.undo_rows.specs.Telling.{Begun, HasStepped}
+use Rattle.undo_rows.specs.Telling.{Begun, HasStepped, HasSucceeded}
 use Rattle.undo_rows.specs.Transcripts.{MayRun}
-use Rattle.undo_rows.proofs.Listed.{at_once, fit_at, next_part, nothing_done}
+use Rattle.undo_rows.proofs.Listed.{at_once, behind, behind_one, fit_at, next_part, nothing_done}
 use Rattle.scattered_losses.proofs.GoingApart.{faults_behind, fails_so, gone_by, gone_here, gone_on, later_of, passed_on}
 use Rattle.undo_rows.proofs.run.step_rows.Goals as goal
 
@@ -14,12 +17,14 @@ loop-row-init g c =
     let A = g.A.Around in
     let s = g.H.Host.state c.args.host.now in
     let t = A.task c.args.around.now in
+    let there = c.args.stack.now in
+    let same : there ≡ there ++ [] = sym (append-nil there) in
     record {
       left = search rules;
-      stack = c.requires.empty;
-      succeeded = c.steps_and_an_unwind_are_a_run.ensures.none t s s c.args.told.now.items (nothing_done s);
-      place = c.requires.place;
-      any_moment = at_once (A.stops t) (is_kept (A.kept c.args.around.now)) s (λ h more v only. g.met.A.Around.holds c.args.around.now s (Forward 0) more v c.requires.place h only);
+      stack = same;
+      succeeded = λ start before first. subst (λ (l : List Row). HasSucceeded (A.file_step_fault t) l start s before c.args.told.now.items) same first;
+      place = subst (λ (l : List Row). A.at c.args.around.now s (Forward (length l))) same c.requires.place;
+      any_moment = at_once (A.stops t) (is_kept (A.kept c.args.around.now)) s (λ h more v only. g.met.A.Around.holds c.args.around.now s (Forward (length there)) more v c.requires.place h only);
       task = refl;
       reference = refl;
       apart = gone_here A.area s;
@@ -34,7 +39,10 @@ step-requires-clause-row g c =
     let A = g.A.Around in
     let inv = c.loop-row.invariant in
     let fits = A.fits (A.task c.args.around.now) in
-    let here = fit_at fits c.args.rows.items c.loop-row.yielded c.in-Some.row c.next.new.self.rest.items (search rules) c.requires.rows in
+    let there = c.args.stack.now in
+    let xs = c.loop-row.yielded in
+    let walk : c.args.rows.items ≡ xs ++ c.in-Some.row ∷ c.next.new.self.rest.items = search rules in
+    let here = fit_at fits (there ++ c.args.rows.items) (there ++ xs) c.in-Some.row c.next.new.self.rest.items (behind there c.args.rows.items xs (c.in-Some.row ∷ c.next.new.self.rest.items) walk) c.requires.rows in
     subst (λ t. A.fits t (length c.loop-row.stack) c.in-Some.row) (sym inv.task) (subst (λ (l : List Row). fits (length l) c.in-Some.row) (sym inv.stack) here)
 
 pub loop-row-preserved-in_default : goal.loop-row-preserved-in_default
@@ -45,6 +53,7 @@ loop-row-preserved-in_default g c =
     let a = g.H.Host.state c.args.host.now in
     let b = g.H.Host.state c.loop-row.host in
     let d = g.H.Host.state c.step.new.host in
+    let there = c.args.stack.now in
     let xs = c.loop-row.yielded in
     let row = c.in-Some.row in
     let was = c.loop-row.told.items in
@@ -54,9 +63,10 @@ loop-row-preserved-in_default g c =
     (subst (λ u. HasStepped (A.file_step_fault u) row c.in_ok-fall.field-0 b d was now) inv.task c.in_ok-fall.ensures.calls) in
     record {
       left = walk ∙ sym (append_assoc xs (row ∷ []) c.next.new.self.rest.items);
-      stack = c.in_ok-fall.ensures.rows ∙ ap (λ (l : List Row). l ++ row ∷ []) inv.stack;
-      succeeded = c.steps_and_an_unwind_are_a_run.ensures.step t xs row a b d c.args.told.now.items was now inv.succeeded stepped;
-      place = subst (λ n. A.at c.step.new.around d (Forward n)) (ap (λ (l : List Row). length l + 1) inv.stack ∙ sym (length-append xs (row ∷ [])))
+      stack = c.in_ok-fall.ensures.rows ∙ ap (λ (l : List Row). l ++ row ∷ []) inv.stack ∙ append_assoc there xs (row ∷ []);
+      succeeded = λ start before first. subst (λ (l : List Row). HasSucceeded (A.file_step_fault t) l start d before now) (append_assoc there xs (row ∷ []))
+          (c.steps_and_an_unwind_are_a_run.ensures.step t (there ++ xs) row start b d before was now (inv.succeeded start before first) stepped);
+      place = subst (λ n. A.at c.step.new.around d (Forward n)) (ap (λ (l : List Row). length l + 1) inv.stack ∙ behind_one there xs row)
           (subst (λ (o : Option Fall). A.at c.step.new.around d (leads (length c.loop-row.stack) o)) c.in_default.is c.in_ok-fall.ensures.place);
       any_moment = next_part _ A.stops _ _ inv.task _ _ _ inv.any_moment c.step.ensures.any_moment;
       task = c.step.ensures.task ∙ inv.task;
@@ -73,6 +83,7 @@ loop-row-preserved g c =
     let a = g.H.Host.state c.args.host.now in
     let b = g.H.Host.state c.loop-row.host in
     let d = g.H.Host.state c.step.new.host in
+    let there = c.args.stack.now in
     let xs = c.loop-row.yielded in
     let row = c.in-Some.row in
     let was = c.loop-row.told.items in
@@ -82,9 +93,10 @@ loop-row-preserved g c =
     (subst (λ u. HasStepped (A.file_step_fault u) row c.in_ok-fall.field-0 b d was now) inv.task c.in_ok-fall.ensures.calls) in
     record {
       left = walk ∙ sym (append_assoc xs (row ∷ []) c.next.new.self.rest.items);
-      stack = c.in_ok-fall.ensures.rows ∙ ap (λ (l : List Row). l ++ row ∷ []) inv.stack;
-      succeeded = c.steps_and_an_unwind_are_a_run.ensures.step t xs row a b d c.args.told.now.items was now inv.succeeded stepped;
-      place = subst (λ n. A.at c.step.new.around d (Forward n)) (ap (λ (l : List Row). length l + 1) inv.stack ∙ sym (length-append xs (row ∷ [])))
+      stack = c.in_ok-fall.ensures.rows ∙ ap (λ (l : List Row). l ++ row ∷ []) inv.stack ∙ append_assoc there xs (row ∷ []);
+      succeeded = λ start before first. subst (λ (l : List Row). HasSucceeded (A.file_step_fault t) l start d before now) (append_assoc there xs (row ∷ []))
+          (c.steps_and_an_unwind_are_a_run.ensures.step t (there ++ xs) row start b d before was now (inv.succeeded start before first) stepped);
+      place = subst (λ n. A.at c.step.new.around d (Forward n)) (ap (λ (l : List Row). length l + 1) inv.stack ∙ behind_one there xs row)
           (subst (λ (o : Option Fall). A.at c.step.new.around d (leads (length c.loop-row.stack) o)) c.in_default.is c.in_ok-fall.ensures.place);
       any_moment = next_part _ A.stops _ _ inv.task _ _ _ inv.any_moment c.step.ensures.any_moment;
       task = c.step.ensures.task ∙ inv.task;
@@ -96,23 +108,28 @@ loop-row-preserved g c =
 pub returns-in_err-forward-clause-told : goal.returns-in_err-forward-clause-told
 returns-in_err-forward-clause-told g c =
     let inv = c.loop-row.invariant in
-    let a = g.H.Host.state c.args.host.now in
     let b = g.H.Host.state c.loop-row.host in
     let was = c.loop-row.told.items in
-    subst (λ (l : List Row). Begun (MayRun l) a b c.args.told.now.items was) (sym {A = List Row} inv.left)
-    (c.what_is_broken_off_begins_a_run.ensures.beside (g.A.Around.task c.args.around.now) c.loop-row.yielded c.loop-row.row-iterator.rest.items a b b c.args.told.now.items was inv.succeeded (nothing_done b))
+    let there = c.args.stack.now in
+    let xs = c.loop-row.yielded in
+    let rest = c.loop-row.row-iterator.rest.items in
+    λ start before first. subst (λ (l : List Row). Begun (MayRun l) start b before was) (sym {A = List Row} (behind there c.args.rows.items xs rest inv.left))
+    (c.what_is_broken_off_begins_a_run.ensures.beside (g.A.Around.task c.args.around.now) (there ++ xs) rest start b b before was (inv.succeeded start before first) (nothing_done b))
 
 pub returns-in_err-fall-clause-told : goal.returns-in_err-fall-clause-told
 returns-in_err-fall-clause-told g c =
     let inv = c.loop-row.invariant in
-    let a = g.H.Host.state c.args.host.now in
     let b = g.H.Host.state c.loop-row.host in
     let d = g.H.Host.state c.step.new.host in
     let was = c.loop-row.told.items in
     let now = c.step.new.told.items in
-    let walk : c.args.rows.items ≡ c.loop-row.yielded ++ c.in-Some.row ∷ c.next.new.self.rest.items = search rules in
-    subst (λ (l : List Row). Begun (MayRun l) a d c.args.told.now.items now) (sym walk)
-    (c.what_is_broken_off_begins_a_run.ensures.step (g.A.Around.task c.args.around.now) c.loop-row.yielded c.next.new.self.rest.items c.in-Some.row a b d c.args.told.now.items was now inv.succeeded c.step.ensures.told)
+    let there = c.args.stack.now in
+    let xs = c.loop-row.yielded in
+    let row = c.in-Some.row in
+    let rest = c.next.new.self.rest.items in
+    let walk : c.args.rows.items ≡ xs ++ row ∷ rest = search rules in
+    λ start before first. subst (λ (l : List Row). Begun (MayRun l) start d before now) (sym (behind there c.args.rows.items xs (row ∷ rest) walk))
+    (c.what_is_broken_off_begins_a_run.ensures.step (g.A.Around.task c.args.around.now) (there ++ xs) rest row start b d before was now (inv.succeeded start before first) c.step.ensures.told)
 
 pub returns-in_err-fall-clause-any_moment : goal.returns-in_err-fall-clause-any_moment
 returns-in_err-fall-clause-any_moment g c =
@@ -122,14 +139,17 @@ returns-in_err-fall-clause-any_moment g c =
 pub returns-in-Some-2-clause-told : goal.returns-in-Some-2-clause-told
 returns-in-Some-2-clause-told g c =
     let inv = c.loop-row.invariant in
-    let a = g.H.Host.state c.args.host.now in
     let b = g.H.Host.state c.loop-row.host in
     let d = g.H.Host.state c.step.new.host in
     let was = c.loop-row.told.items in
     let now = c.step.new.told.items in
-    let walk : c.args.rows.items ≡ c.loop-row.yielded ++ c.in-Some.row ∷ c.next.new.self.rest.items = search rules in
-    subst (λ (l : List Row). Begun (MayRun l) a d c.args.told.now.items now) (sym walk)
-    (c.what_is_broken_off_begins_a_run.ensures.step (g.A.Around.task c.args.around.now) c.loop-row.yielded c.next.new.self.rest.items c.in-Some.row a b d c.args.told.now.items was now inv.succeeded c.step.ensures.told)
+    let there = c.args.stack.now in
+    let xs = c.loop-row.yielded in
+    let row = c.in-Some.row in
+    let rest = c.next.new.self.rest.items in
+    let walk : c.args.rows.items ≡ xs ++ row ∷ rest = search rules in
+    λ start before first. subst (λ (l : List Row). Begun (MayRun l) start d before now) (sym (behind there c.args.rows.items xs (row ∷ rest) walk))
+    (c.what_is_broken_off_begins_a_run.ensures.step (g.A.Around.task c.args.around.now) (there ++ xs) rest row start b d before was now (inv.succeeded start before first) c.step.ensures.told)
 
 pub returns-in-Some-2-clause-any_moment : goal.returns-in-Some-2-clause-any_moment
 returns-in-Some-2-clause-any_moment g c =
@@ -139,11 +159,13 @@ returns-in-Some-2-clause-any_moment g c =
 pub returns-clause-told : goal.returns-clause-told
 returns-clause-told g c =
     let inv = c.loop-row.invariant in
-    let a = g.H.Host.state c.args.host.now in
     let b = g.H.Host.state c.loop-row.host in
     let was = c.loop-row.told.items in
-    subst (λ (l : List Row). Begun (MayRun l) a b c.args.told.now.items was) (sym {A = List Row} inv.left)
-    (c.what_is_broken_off_begins_a_run.ensures.beside (g.A.Around.task c.args.around.now) c.loop-row.yielded c.loop-row.row-iterator.rest.items a b b c.args.told.now.items was inv.succeeded (nothing_done b))
+    let there = c.args.stack.now in
+    let xs = c.loop-row.yielded in
+    let rest = c.loop-row.row-iterator.rest.items in
+    λ start before first. subst (λ (l : List Row). Begun (MayRun l) start b before was) (sym {A = List Row} (behind there c.args.rows.items xs rest inv.left))
+    (c.what_is_broken_off_begins_a_run.ensures.beside (g.A.Around.task c.args.around.now) (there ++ xs) rest start b b before was (inv.succeeded start before first) (nothing_done b))
 
 pub returns-in_err-forward-clause-apart : goal.returns-in_err-forward-clause-apart
 returns-in_err-forward-clause-apart g c =
@@ -164,3 +186,39 @@ returns-in-Some-2-clause-apart g c =
 
 pub returns-clause-apart : goal.returns-clause-apart
 returns-clause-apart g c = c.loop-row.invariant.apart.1
+
+pub returns-in-Some-2-clause-calls : goal.returns-in-Some-2-clause-calls
+returns-in-Some-2-clause-calls g c =
+    let A = g.A.Around in
+    let inv = c.loop-row.invariant in
+    let there = c.args.stack.now in
+    let xs = c.loop-row.yielded in
+    let row = c.in-Some.row in
+    let rest = c.next.new.self.rest.items in
+    let walk : c.args.rows.items ≡ xs ++ row ∷ rest = search rules in
+    let b = g.H.Host.state c.loop-row.host in
+    let d = g.H.Host.state c.step.new.host in
+    record {
+      before = there ++ xs;
+      row = row;
+      after = rest;
+      rows_are = behind there c.args.rows.items xs (row ∷ rest) walk;
+      stack_is = search rules;
+      fell_at = search rules;
+      forward_is = search rules;
+      between = b;
+      so_far = c.loop-row.told.items;
+      succeeded = inv.succeeded;
+      failed = search rules;
+    }
+
+pub returns-clause-calls : goal.returns-clause-calls
+returns-clause-calls g c =
+    let inv = c.loop-row.invariant in
+    let there = c.args.stack.now in
+    let xs = c.loop-row.yielded in
+    let rest = c.loop-row.row-iterator.rest in
+    let none : rest.items ≡ [] = nil_from_length rest.items (sym rest.ok.0 ∙ c.in-None.ensures.steps.0) in
+    let same : c.args.rows.items ≡ xs = inv.left ∙ ap (λ (l : List Row). xs ++ l) none ∙ append-nil xs in
+    λ start before first. subst (λ (l : List Row). HasSucceeded (g.A.Around.file_step_fault (g.A.Around.task c.args.around.now)) (there ++ l) start (g.H.Host.state c.loop-row.host) before c.loop-row.told.items) (sym same)
+    (inv.succeeded start before first)

@@ -12,6 +12,7 @@ returns-clause-planned c =
       «package» = p;
       records = c.args.database.now.records;
       lists = c.args.lists.now.lists;
+      begun = c.args.diversions.now.ways;
       ways = c.args.diversions.now.ways;
       stored = c.args.stored;
       others = c.args.others.packages.items;

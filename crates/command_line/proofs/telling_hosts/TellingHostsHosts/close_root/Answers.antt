@@ -1,4 +1,4 @@
-use Rattle.std.proofs.Common.{◌∙◌, ◌+◌, IsTrue, Result, Ok, Err, IfOk, List, ap, sym, subst}
+use Rattle.std.proofs.Common.{◌∙◌, IsTrue, Result, Ok, Err, IfOk, List, ap, sym, subst}
 use Rattle.host_core.specs.Events.{Event, follow_all}
 use Rattle.host_core.specs.Host.{State, faults}
 use Rattle.host_core.specs.World.{World}
@@ -19,8 +19,8 @@ returns-clause-given g c =
     let over = c.look_over-looked.new.host in
     let looked = c.look_over-looked.ensures in
     let into = c.into_below-below.ensures in
-    let below = g.S.Opened.Host.state c.into_below-below.result in
     let told = c.tell_changes.ensures in
+    let below = g.S.Opened.Host.state c.into_below-below.result in
     let end = g.S.Opened.Host.state c.tell_changes.new.host in
     let begun = begun_state over in
     let fell : IsTrue end.honest → IsTrue (overlay_state over).honest = λ h. subst (λ (s : State). IsTrue s.honest) into.below (told.reads.honest h) in
@@ -33,11 +33,7 @@ returns-clause-given g c =
       honest = λ h. looked.reads.honest (fell h);
       world = sym looked.reads.world ∙ ap (λ (es : List Event). follow_all es begun.world) looked.reads.events ∙ follow_all-append before.events looked.reads.added begun.world
           ∙ unmoved looked.reads.added (follow_all before.events begun.world) looked.reads.failed;
-      looked = overlay_state over;
-      looking = looked.reads;
-      returned = below;
-      returning = told.reads;
-      changes = subst (λ (w : World). Tells c.tell_changes.result end w before.world (faults before + faults below) (faults (overlay_state over) + faults end)) into.untouched.world
+      changes = subst (λ (w : World). Tells c.tell_changes.result end w before.world) into.untouched.world
           (told.told before.world (faults before) (faults (overlay_state over))
           (known c.look_over-looked.result (λ o. IsTrue (overlay_state over).honest → IsLookedOver begun.world before.world o) (λ o. IsTrue end.honest → IsLookedOver below.world before.world o)
           (λ o is h. subst (λ (w : World). IsLookedOver w before.world o) (sym into.untouched.world) (is (fell h))) looked.told) looked.few);

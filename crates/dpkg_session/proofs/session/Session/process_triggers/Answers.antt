@@ -4,7 +4,7 @@ use Rattle.trigger_run.specs.Run.{HasRun, IsAmidRun, IsTriggerRun}
 use Rattle.unit_reports.specs.Held.{Held, held_by}
 use Rattle.host_core.specs.Host.{State}
 use Rattle.unit_reports.proofs.Counting.{last_from}
-use Rattle.dpkg_session.proofs.Again.{behind, behind_answered, behind_moments, behind_told, behind_watched, unread_closes, unread_last, unread_moments, unread_told, unread_watched}
+use Rattle.dpkg_session.proofs.Again.{behind, behind_answered, behind_moments, behind_told, behind_watched, never_abandoned, unread_closes, unread_last, unread_moments, unread_told, unread_watched}
 use Rattle.dpkg_session.proofs.Outlasting.{answered_stands, loses_like}
 use Rattle.dpkg_session.proofs.session.Session.process_triggers.Goals as goal
 
@@ -208,3 +208,6 @@ returns-in-Some-clause-watched g c =
     let t = g.H.Host.state c.read_again.new.self.host in
     let unread = c.in-Some.ensures.unread in
     unread_watched g.W.Watcher.tells s t c.args.watcher.now c.in-Some.report.units.items c.in-Some.report.last unread
+
+pub returns-in-Some-clause-abandoned : goal.returns-in-Some-clause-abandoned
+returns-in-Some-clause-abandoned g c = λ open_before. never_abandoned c.in-Some.report.last _ c.in-Some.ensures.not_abandoned

@@ -1,7 +1,7 @@
-use Rattle.std.proofs.Common.{◌≡◌, ◌∷◌, ◌<◌, [], inl, inr, ap, arith, length, refl, subst, sym, ◌∙◌}
-use Rattle.std.proofs.lemmas.Bool.{true≢false}
+use Rattle.std.proofs.Common.{◌≡◌, ◌∷◌, ◌<◌, [], inl, inr, ap, arith, length, refl, subst, sym}
 use Rattle.std.proofs.lemmas.Option.{MatchOption-at_none, MatchOption-at_some}
 use Rattle.host_core.proofs.Moments.{since_start, since_weaker}
+use Rattle.unit_runs.proofs.Barred.{not_taken}
 use Rattle.dpkg_session.specs.Turns.{unread}
 use Rattle.dpkg_session.specs.declared.report.Candidate.{Candidate}
 use Rattle.unit_reports.specs.Held.{held_by}
@@ -67,8 +67,8 @@ returns-in-Ok-clause-fewer g c =
     let next = MatchOption-at_some ((words old ≡ []) × (new ≡ old)) (λ (x : Candidate). g.T.Trees.reads old x new × (words old ≡ x.label ∷ words new)) c.in-Some.candidate c.in-Some.is c.next.ensures in
     subst (λ ws. length (words new) < length ws) (sym next.1) (omega arith)
 
-pub returns-in-Ok-clause-room : goal.returns-in-Ok-clause-room
-returns-in-Ok-clause-room g c = λ none. absurd (true≢false (sym c.in-Ok.ensures.room ∙ none))
+pub returns-in-Ok-clause-barred : goal.returns-in-Ok-clause-barred
+returns-in-Ok-clause-barred g c = not_taken c.args.barred c.in-Ok.ensures.barred
 
 pub returns-in-Err-clause-told : goal.returns-in-Err-clause-told
 returns-in-Err-clause-told g c =

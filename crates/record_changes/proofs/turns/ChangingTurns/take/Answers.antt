@@ -1,6 +1,7 @@
 use Rattle.std.proofs.Common.{◌≡◌, ◌<◌, ◌+◌, List, drop, length, slice_index_or, subst}
 use Rattle.undo_rows.proofs.Makes.{tells_none}
 use Rattle.unit_reports.specs.Held.{held_by}
+use Rattle.unit_runs.proofs.Barred.{not_taken}
 use Rattle.record_changes.specs.declared.change.RecordChange.{RecordChange}
 use Rattle.record_changes.proofs.Turned.{left_next, silent_calls, since_next}
 use Rattle.record_changes.proofs.turns.ChangingTurns.take.Goals as goal
@@ -18,6 +19,9 @@ returns-in-Ok-clause-taken g c =
       moments = c.change_one.ensures.any_moment c.args.self.now.diversions.now;
       answered = c.in-Ok.ensures.ok.answered;
     }
+
+pub returns-in-Ok-clause-barred : goal.returns-in-Ok-clause-barred
+returns-in-Ok-clause-barred g c = not_taken c.args.barred c.in-Ok.ensures.barred
 
 pub returns-in-Ok-clause-told : goal.returns-in-Ok-clause-told
 returns-in-Ok-clause-told g c = tells_none (g.H.Host.state c.args.host.now) (g.H.Host.state c.change_one.new.host) _ _ (silent_calls _ _ c.change_one.ensures.silent) c.in-Ok.ensures.told

@@ -1,9 +1,9 @@
 use Rattle.std.proofs.Common.{refl, ◌∙◌}
-use Rattle.status_records.proofs.Merging.{writable_of}
+use Rattle.status_records.proofs.RecordedFields.{writable_of}
 use Rattle.status_records.proofs.record.Record.unpacked.Goals as goal
 
 pub invariant_of-result-3-clause-writable : goal.invariant_of-result-3-clause-writable
-invariant_of-result-3-clause-writable c = writable_of c.in_ok-copy.field-0 c.args.name.now c.in_ok-ordered_fields.field-0 c.args.control.now c.in_ok-copy.ensures c.requires.named c.in_ok-ordered_fields.ensures c.requires.written c.requires.readable
+invariant_of-result-3-clause-writable c = writable_of c.in_ok-copy.field-0 c.args.name.now c.in_ok-fields_of.field-0 c.args.control.now c.in_ok-copy.ensures c.requires.named c.in_ok-fields_of.ensures c.requires.written c.requires.readable
 
 pub returns : goal.returns
 returns c = record {
@@ -17,5 +17,5 @@ returns c = record {
   conffiles_are = c.conffiles.view_is;
   pending_are = c.pending.view_is;
   triggers_are = c.none.ensures;
-  fields_are = c.in_ok-ordered_fields.ensures;
+  fields_are = c.in_ok-fields_of.ensures;
 }
