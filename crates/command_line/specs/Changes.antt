@@ -1,8 +1,9 @@
 -- What is asked of the diversions of an administration, and what came of it.
-use Rattle.std.specs.Prelude.{◌≡◌, ℕ, Bool, not, IsNone, is_some, List, [], ◌∷◌, ◌++◌, Option, Some, None, Result, Ok, Err, codes, if◌then◌else◌}
-use Rattle.host_core.specs.Host.{AtEachMoment, Silent, State}
+use Rattle.std.specs.Prelude.{◌≡◌, ℕ, Bool, MatchBool, not, IsNone, is_some, List, [], ◌∷◌, ◌++◌, Option, Some, None, Result, Ok, Err, codes, if◌then◌else◌}
+use Rattle.host_core.specs.Host.{AtEachMoment, Needs, Reads, Silent, State}
 use Rattle.host_core.specs.Paths.{is_ship_text}
 use Rattle.host_core.specs.World.{World}
+use Rattle.administration.specs.declared.fault.AdministrationFault.{AdministrationFault}
 use Rattle.command_line.specs.declared.fault.NotOpened.{NotOpened}
 use Rattle.diversions.specs.Ways.{Ways}
 use Rattle.diversions.specs.declared.entry.Owner.{Owner}
@@ -10,12 +11,14 @@ use Rattle.diversions.specs.declared.entry.Owner.TheVariants.{Local, Package}
 use Rattle.file_lists.specs.declared.paths.PackageList.{PackageList}
 use Rattle.status_records.specs.declared.record.Record.{Record}
 use Rattle.dpkg_session.specs.Diversions.{HasBroken, HasDiverted, HasUndiverted, IsDiverting, IsOneUnit, IsUndiverting}
-use Rattle.unit_reports.specs.Units.{CountsLast, TellsCalls}
+use Rattle.diverting_beside.specs.Beside.{IsChangedBeside, IsUnreadBeside}
+use Rattle.unit_reports.specs.Units.{CountsLast, TellsCalls, calls_told}
 use Rattle.unit_reports.specs.declared.report.Report.{Report}
 use Rattle.unit_reports.specs.declared.report.Unit.{Unit as AUnit}
 use Rattle.command_words.specs.declared.diverting.Diverting.{Diverting}
 use Rattle.command_words.specs.declared.diverting.Undiverting.{Undiverting}
-use Rattle.command_line.specs.Roots.{Around, Given, IsOpenedOn, IsRootFault}
+use Rattle.dpkg_session.specs.Standing.{CountsRefusal}
+use Rattle.command_line.specs.Roots.{Around, Given, IsFaultUnder, IsOpenedOn, IsRootFault}
 use Rattle.command_line.specs.declared.changing.Change.{Change}
 use Rattle.command_line.specs.declared.changing.Change.TheVariants as change
 
@@ -95,6 +98,33 @@ abbrev pub HasChangedUnder : Around → List ℕ → Change → Report → Type 
 HasChangedUnder a word asked done = (begun : State) × a.root word begun × IsChangedOn a.left begun asked done
 
 -- what came of a change: its report, or why the root couldn't be opened
+abbrev pub HasEndedAlone : Around → List ℕ → Change → Result Report NotOpened → Type 0
+HasEndedAlone a word asked (Ok done) = HasChangedUnder a word asked done
+HasEndedAlone a word asked (Err fault) = IsRootFault a word fault
+
+-- A script's change is made beside the command that runs it: from what stands in the administration, which is only read, and nothing
+-- else changes.
+pub record HasChangedBeside (left : Given) (begun : State) (asked : Change) (done : Report) : Type 0 where
+  pub end : State
+  pub given : left end
+  pub changed : IsChangedBeside (IsChangedBy asked) (IsChanging asked) done begun end
+  pub broken : HasBroken done
+  pub calls : calls_told done ≡ []
+  pub silent : Silent begun end
+
+-- why it isn't made: something of the administration can't be read, or the table can't be written
+pub record IsRefusedBeside (left : Given) (begun : State) (fault : AdministrationFault) : Type 0 where
+  pub end : State
+  pub given : left end
+  pub reads : Reads begun end
+  pub silent : Silent begun end
+  pub unread : Needs end (λ w. IsUnreadBeside begun.world fault)
+  pub counts : CountsRefusal fault begun end
+
+abbrev pub HasEndedBeside : Around → List ℕ → Change → Result Report NotOpened → Type 0
+HasEndedBeside a word asked (Ok done) = (begun : State) × a.root word begun × HasChangedBeside a.left begun asked done
+HasEndedBeside a word asked (Err fault) = IsFaultUnder IsRefusedBeside a word fault
+
+-- what came of a change that a person or a script asks for
 abbrev pub HasEndedChange : Around → List ℕ → Change → Result Report NotOpened → Type 0
-HasEndedChange a word asked (Ok done) = HasChangedUnder a word asked done
-HasEndedChange a word asked (Err fault) = IsRootFault a word fault
+HasEndedChange a word asked ended = MatchBool a.beside (HasEndedBeside a word asked ended) (HasEndedAlone a word asked ended)

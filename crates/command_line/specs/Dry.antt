@@ -33,4 +33,5 @@ dry a = record {
   unopened = a.unopened;
   locked = λ word lock. ⊥;
   full = a.full;
+  beside = a.beside;
 }

@@ -1,11 +1,11 @@
 -- How the root of a command is opened, and what is known of its hosts.
-use Rattle.std.specs.Prelude.{◌≡◌, ◌<◌, ◌⊎◌, ℕ, false, List, [], ◌++◌, Option, Some, None, codes}
+use Rattle.std.specs.Prelude.{◌≡◌, ◌<◌, ◌⊎◌, ℕ, Bool, false, List, [], ◌++◌, Option, Some, None, codes}
 use Rattle.host_core.specs.Host.{AtEachMoment, Needs, Silent, State}
 use Rattle.host_core.specs.Paths.{Path}
 use Rattle.administration.specs.declared.fault.AdministrationFault.{AdministrationFault}
 use Rattle.command_line.specs.declared.hosts.Hosts.{Ghosts}
 use Rattle.command_line.specs.declared.fault.Lock.{Lock}
-use Rattle.command_line.specs.declared.fault.Lock.TheVariants.{Frontend, Administration}
+use Rattle.command_line.specs.declared.fault.Lock.TheVariants.{Frontend, Administration, Table}
 use Rattle.command_line.specs.declared.fault.NotOpened.{NotOpened}
 use Rattle.command_line.specs.declared.fault.NotOpened.TheVariants.{Locked, Opening}
 use Rattle.administration.specs.declared.fault.AdministrationFault.TheVariants as opening_faults
@@ -32,8 +32,8 @@ Given = State → Type 0
 
 -- What is known of the hosts of a command: the states behind words for the root and for trees before it, the states in
 -- which they were given back by its end, whether the device failed on opening one and no root was opened, whether another
--- program held a lock of the root behind a word before it, and at which paths there was no room for the archive behind a word by its
--- end.
+-- program held a lock of the root behind a word before it, at which paths there was no room for the archive behind a word by its
+-- end, and whether a script gives it, beside the command that runs this script.
 pub record Around : Type 1 where
   pub root : Behind
   pub tree : Behind
@@ -43,6 +43,7 @@ pub record Around : Type 1 where
   pub unopened : Type 0
   pub locked : List ℕ → Lock → Type 0
   pub full : List ℕ → Path → Type 0
+  pub beside : Bool
 
 -- the same of hosts between two moments
 abbrev pub around : {Hosts Opened : Type 0} → Ghosts Hosts Opened → Hosts → Hosts → Around
@@ -55,6 +56,7 @@ around of old new = record {
   unopened = of.unopened old new;
   locked = of.locked old;
   full = of.full new;
+  beside = of.beside old;
 }
 
 -- The administration on a host was opened: no script was called, and nothing but what opening changes has changed. These are
@@ -133,6 +135,7 @@ IsUnitsFault t a word fault = IsFaultUnder (IsNotBegunOn t) a word fault
 abbrev pub lock_path : Lock → List ℕ
 lock_path Frontend = codes "/var/lib/dpkg/lock-frontend"
 lock_path Administration = codes "/var/lib/dpkg/lock"
+lock_path Table = codes "/var/lib/dpkg/diversions.lock"
 
 -- the line that tells that another program holds a lock
 abbrev pub locked_line : Lock → List ℕ

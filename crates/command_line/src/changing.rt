@@ -1,14 +1,20 @@
 // Changes of the diversions: their paths are read, and the root is opened to carry them out.
-ghost use Rattle.std.specs.Prelude.{◌≡◌, ◌≤◌, false, true, IfOk, IfErr};
+ghost use Rattle.std.specs.Prelude.{◌≡◌, ◌≤◌, [], false, true, IfOk, IfErr, IsTrue, OnErr};
 ghost use Rattle.diversions.specs.Entries.{is_owner};
-ghost use Rattle.command_line.specs.Changes.{HasChanged, HasChangedUnder, IsChangedOn, IsDivertOf, IsRead, IsUndivertOf, bad_of_divert, bad_of_undivert, owner_in, target_in};
-ghost use Rattle.command_line.specs.Roots.{IsGivenUpOn, IsRootFault, around};
+ghost use Rattle.command_line.specs.Changes.{HasChanged, HasChangedBeside, HasEndedAlone, HasEndedBeside, HasEndedChange, IsChangedBy, IsChangedOn, IsChanging, IsRefusedBeside, IsDivertOf, IsRead, IsUndivertOf, bad_of_divert, bad_of_undivert, owner_in, target_in};
+ghost use Rattle.administration.specs.Fault.{CountsAdministration};
+ghost use Rattle.diverting_beside.specs.Beside.{IsChangedBeside, IsUnreadBeside};
+ghost use Rattle.dpkg_session.specs.Diversions.{HasBroken};
+ghost use Rattle.host_core.specs.Host.{Reads, Silent};
+ghost use Rattle.unit_reports.specs.Units.{calls_told};
+ghost use Rattle.command_line.specs.Roots.{IsGivenUpOn, around};
 
 use crate::fault::{NotOpened, RootFault};
 use crate::hosts::Hosts;
 use administration::AdministrationFault;
 use command_words::ScriptStreams;
 use diversions::Owner;
+use diverting_beside::{divert_beside, undivert_beside};
 use dpkg_session::{Diverting, Report, Session, Undiverting};
 use host_core::{Host, ShipPath};
 use std::alloc::{AllocError, Global};
@@ -122,17 +128,15 @@ fn change_on<S: Hosts>(
     }
 }
 
-/// Carries a change out under the root, or tells why this can't be opened.
-pub(crate) fn change_under<S: Hosts>(
+// The same, on the root's host that was opened for it.
+fn change_alone<S: Hosts>(
     alloc: Global,
     hosts: &mut S,
     root: &Text,
     wait: u32,
     asked: &Change,
 ) -> Result<Report, NotOpened>
-    ensures done { IfOk result (HasChangedUnder (around S.Hosts hosts.old hosts.new) root.now
-        asked.now) }
-    ensures refused { IfErr result (IsRootFault (around S.Hosts hosts.old hosts.new) root.now) }
+    ensures ended { HasEndedAlone (around S.Hosts hosts.old hosts.new) root.now asked.now result }
     ensures below { S.below hosts.new ≡ S.below hosts.old }
 {
     match hosts.open_root(root.as_str(), ScriptStreams::Own, wait) {
@@ -143,4 +147,82 @@ pub(crate) fn change_under<S: Hosts>(
         Err(RootFault::Locked(lock)) => Err(NotOpened::Locked(lock)),
         Err(RootFault::Host(fault)) => Err(NotOpened::Opening(AdministrationFault::from(fault))),
     }
+}
+
+// The report of a change that a script asks for.
+fn report_beside<H: Host>(
+    alloc: Global,
+    host: &mut H,
+    asked: &Change,
+) -> Result<Report, AdministrationFault>
+    ensures done { IfOk result
+        (λ done. IsChangedBeside (IsChangedBy asked.now) (IsChanging asked.now) done
+        (H.state host.old) (H.state host.new)) }
+    ensures broken { IfOk result HasBroken }
+    ensures calls { IfOk result (λ done. calls_told done ≡ []) }
+    ensures finds { IsTrue (H.state host.new).honest
+        → IfErr result (IsUnreadBeside (H.state host.old).world) }
+    ensures refused { OnErr result (Reads (H.state host.old) (H.state host.new)) }
+    ensures silent { Silent (H.state host.old) (H.state host.new) }
+    ensures counts { OnErr result (CountsAdministration (H.state host.old) (H.state host.new) result) }
+{
+    match asked {
+        Change::Divert(asked) => divert_beside(alloc, host, asked),
+        Change::Undivert(asked) => undivert_beside(alloc, host, asked),
+    }
+}
+
+// A script's change on the host of the root, which is given back.
+fn change_beside_on<S: Hosts>(
+    alloc: Global,
+    hosts: &mut S,
+    host: S::Opened,
+    asked: &Change,
+) -> Result<Report, AdministrationFault>
+    ensures done { IfOk result (HasChangedBeside (S.left hosts.new) (S.Opened.state host) asked.now) }
+    ensures refused { IfErr result (IsRefusedBeside (S.left hosts.new) (S.Opened.state host)) }
+    ensures faults { S.faults hosts.old ≤ S.faults hosts.new }
+    ensures below { S.below hosts.new ≡ S.below hosts.old }
+{
+    let mut host = host;
+    let done = report_beside(alloc, &mut host, asked);
+    hosts.close_root(host);
+    done
+}
+
+fn change_beside<S: Hosts>(
+    alloc: Global,
+    hosts: &mut S,
+    root: &Text,
+    wait: u32,
+    asked: &Change,
+) -> Result<Report, NotOpened>
+    ensures ended { HasEndedBeside (around S.Hosts hosts.old hosts.new) root.now asked.now result }
+    ensures below { S.below hosts.new ≡ S.below hosts.old }
+{
+    match hosts.open_beside(root.as_str(), wait) {
+        Ok(host) => match change_beside_on(alloc, hosts, host, asked) {
+            Ok(done) => Ok(done),
+            Err(fault) => Err(NotOpened::Opening(fault)),
+        },
+        Err(RootFault::Locked(lock)) => Err(NotOpened::Locked(lock)),
+        Err(RootFault::Host(fault)) => Err(NotOpened::Opening(AdministrationFault::from(fault))),
+    }
+}
+
+/// Carries a change out under the root, or tells why this can't be opened. A script's is made beside the command that runs it.
+pub(crate) fn change_under<S: Hosts>(
+    alloc: Global,
+    hosts: &mut S,
+    root: &Text,
+    wait: u32,
+    asked: &Change,
+) -> Result<Report, NotOpened>
+    ensures ended { HasEndedChange (around S.Hosts hosts.old hosts.new) root.now asked.now result }
+    ensures below { S.below hosts.new ≡ S.below hosts.old }
+{
+    if hosts.is_beside() {
+        return change_beside(alloc, hosts, root, wait, asked);
+    }
+    change_alone(alloc, hosts, root, wait, asked)
 }

@@ -54,7 +54,13 @@ impl<'a, S: Hosts> Hosts for DryHosts<'a, S> {
 
     ghost full = { λ d. S.full d.hosts.now };
 
+    ghost beside = { λ d. S.beside d.hosts.now };
+
     ghost below = { λ d. d.hosts.ghost_name };
+
+    fn is_beside(&self) -> bool {
+        self.hosts.is_beside()
+    }
 
     fn open_root(
         &mut self,
@@ -63,6 +69,14 @@ impl<'a, S: Hosts> Hosts for DryHosts<'a, S> {
         wait: u32,
     ) -> Result<Overlay<S::Opened>, RootFault> {
         let _ = (streams, wait);
+        match self.look_at_root(directory) {
+            Ok(host) => Ok(host),
+            Err(fault) => Err(RootFault::Host(fault)),
+        }
+    }
+
+    fn open_beside(&mut self, directory: &str, wait: u32) -> Result<Overlay<S::Opened>, RootFault> {
+        let _ = wait;
         match self.look_at_root(directory) {
             Ok(host) => Ok(host),
             Err(fault) => Err(RootFault::Host(fault)),

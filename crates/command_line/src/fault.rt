@@ -9,13 +9,15 @@ use administration::AdministrationFault;
 use host_core::{HostFault, RootPath};
 use std::alloc::AllocError;
 
-/// A lock that a program holds while it changes packages. Both are dpkg's.
+/// A lock that a program holds while it changes packages. The first two are dpkg's.
 #[derive(Clone, Copy)]
 pub enum Lock {
     /// That of the program that a person gave the command to, as apt, which may start others.
     Frontend,
     /// That of the program that changes the administration.
     Administration,
+    /// That of a script that changes the diversions beside this one.
+    Table,
 }
 
 impl Lock {
@@ -26,6 +28,7 @@ impl Lock {
         match self {
             Lock::Frontend => "/var/lib/dpkg/lock-frontend",
             Lock::Administration => "/var/lib/dpkg/lock",
+            Lock::Table => "/var/lib/dpkg/diversions.lock",
         }
     }
 }

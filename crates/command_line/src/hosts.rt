@@ -1,5 +1,5 @@
 // Where roots and trees are opened.
-ghost use Rattle.std.specs.Prelude.{◌≡◌, ◌≤◌, ◌<◌, ℕ, List, IfOk, IsErrOf, OnErr};
+ghost use Rattle.std.specs.Prelude.{◌≡◌, ◌≤◌, ◌<◌, ℕ, Bool, List, IfOk, IsErrOf, OnErr};
 ghost use Rattle.host_core.specs.Host.{State};
 ghost use Rattle.host_core.specs.Paths.{Path};
 ghost use Rattle.host_core.specs.declared.fault.HostFault.TheVariants.{Declined, Device};
@@ -39,8 +39,15 @@ pub trait Hosts {
     /// Whether there was no room at a path for the archive behind a word when it was to be opened.
     ghost full: { Self → List ℕ → Path → Type 0 };
 
+    /// Whether a script gives the command, beside the one that runs it.
+    ghost beside: { Self → Bool };
+
     /// Of hosts that are put over others the name of the reference to these: they stay over the same.
     ghost below: { Self → ℕ };
+
+    /// Whether a script gives the command, beside the one that runs it and holds the root's locks.
+    fn is_beside(&self) -> bool
+        ensures { result ≡ beside self.now };
 
     /// The host for the directory of `--root`, whose locks are held from now on, so that no other program opens it; where another
     /// holds one, it is waited for as many seconds. What its scripts write goes to these streams.
@@ -57,6 +64,19 @@ pub trait Hosts {
         ensures seen { (s : State) → seen self.old s → seen self.new s }
         ensures full { (word : List ℕ) (path : Path) → full self.old word path
             → full self.new word path }
+        ensures below { below self.new ≡ below self.old }
+        ensures faults { faults self.old ≤ faults self.new }
+        ensures cause { IsErrOf result (OfHost Device) → faults self.old < faults self.new }
+        ensures undeclined { IsErrOf result (OfHost Declined) → ⊥ }
+        ensures locked { (lock : Lock) → IsErrOf result (Locked lock) → locked self.old directory.now
+            lock };
+
+    /// The same host, for a script that changes the diversions beside the command that runs it. Other scripts do so before or behind
+    /// that: where one is at it, it is waited for as many seconds.
+    fn open_beside(&mut self, directory: &str, wait: u32) -> Result<Self::Opened, RootFault>
+        ensures opened { IfOk result (λ host. root self.old directory.now
+            (Self.Opened.state host)) }
+        ensures unopened { OnErr result (unopened self.old self.new) }
         ensures below { below self.new ≡ below self.old }
         ensures faults { faults self.old ≤ faults self.new }
         ensures cause { IsErrOf result (OfHost Device) → faults self.old < faults self.new }

@@ -76,7 +76,13 @@ impl<'a, S: Hosts> Hosts for TellingHosts<'a, S> {
 
     ghost full = { λ t. S.full t.dry.hosts.now };
 
+    ghost beside = { λ t. S.beside t.dry.hosts.now };
+
     ghost below = { λ t. t.dry.hosts.ghost_name };
+
+    fn is_beside(&self) -> bool {
+        self.dry.is_beside()
+    }
 
     fn open_root(
         &mut self,
@@ -85,6 +91,10 @@ impl<'a, S: Hosts> Hosts for TellingHosts<'a, S> {
         wait: u32,
     ) -> Result<Overlay<S::Opened>, RootFault> {
         self.dry.open_root(directory, streams, wait)
+    }
+
+    fn open_beside(&mut self, directory: &str, wait: u32) -> Result<Overlay<S::Opened>, RootFault> {
+        self.dry.open_beside(directory, wait)
     }
 
     fn look_at_root(&mut self, directory: &str) -> Result<Overlay<S::Opened>, HostFault> {

@@ -17,7 +17,7 @@ named_dpkg model words status e is = subst (λ (b : Bool). IsNamedAnswerBy b mod
 
 -- want of memory is an answer to all words
 pub want_answer : (model : Model) (come : Translated) → IsDpkgAnswer model come 2
-want_answer model (Ours words) = (0, 0, (memory_answer, _, none_told (rehearsal_of words) (asked_of words), inr (inl refl), inl refl))
+want_answer model (Ours words) = (0, 0, false, (memory_answer, _, none_told (rehearsal_of words) (asked_of words), inr (inl refl), inl refl))
 want_answer model (Gathers gathered) = inr (inr refl)
 want_answer model (Prints printed) = inr refl
 want_answer model (Selects front) = inr refl

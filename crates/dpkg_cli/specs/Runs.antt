@@ -18,9 +18,10 @@ use Rattle.command_line.specs.Rehearsed.{IsEndOf}
 use Rattle.command_line.specs.Roots.{Around}
 
 -- Of real directories: a root is as an account has it when it is opened, and a host for a tree has done nothing by then. Of what
--- they hold when they are given back, of openings, of other programs and of room for archives nothing is claimed.
-abbrev pub around_real : Model → Type 0 → Around
-around_real model failed = record {
+-- they hold when they are given back, of openings, of other programs and of room for archives nothing is claimed. A script may give the
+-- command, or not.
+abbrev pub around_real : Model → Type 0 → Bool → Around
+around_real model failed beside = record {
   root = λ word state. state ≡ replay model [];
   tree = λ word state. state.events ≡ [];
   left = λ state. ⊤;
@@ -29,13 +30,14 @@ around_real model failed = record {
   unopened = ⊤;
   locked = λ word lock. ⊤;
   full = λ word path. ⊤;
+  beside = beside;
 }
 
 -- The status that a program ends with is that of the reply to its words, or of want of memory; it is 2 where not all of that
--- could be written. So often had the device failed on opening before and after it.
+-- could be written. So often had the device failed on opening before and after it, and a script gave the words, or not.
 abbrev pub IsAnswered : Model → List (List ℕ) → ℕ → Type 0
-IsAnswered model words status = (before after : ℕ)
-    × IsEndOf (around_real model (before < after)) (rehearsal_of words) (named_in words) (asked_of words) status
+IsAnswered model words status = (before after : ℕ) × (beside : Bool)
+    × IsEndOf (around_real model (before < after) beside) (rehearsal_of words) (named_in words) (asked_of words) status
 
 -- Words are answered that have some files behind them, unless none can be had. Nothing is done where all are passed over.
 abbrev pub IsGatheredAnswer : Model → Gathered → ℕ → Type 0

@@ -5,7 +5,7 @@ ghost use Rattle.command_line.specs.declared.fault.RootFault.TheVariants.{Host a
 ghost use Rattle.command_line.specs.declared.fault.TreeOpening.TheVariants.{Host as OfTreeHost};
 
 use crate::archives::{Archives, Missing};
-use crate::locks::{Held, locks_of};
+use crate::locks::{Held, is_in_script, locks_of, table_lock_of};
 use crate::progress::Line;
 use crate::records::Records;
 use crate::watched::Watched;
@@ -28,6 +28,8 @@ pub(crate) struct Directories<'a, D: Disk> {
     faults: u64,
     /// What is held of the root, so that one program at a time changes it.
     lock: Option<Held>,
+    /// Whether a script started the program.
+    beside: bool,
     line: Line<'a>,
     /// How many trees were opened.
     trees: usize,
@@ -99,6 +101,7 @@ impl<'a, D: Disk> Directories<'a, D> {
             rt,
             faults: 0,
             lock: None,
+            beside: is_in_script(&rt),
             line,
             trees: 0,
             failure: None,
@@ -163,7 +166,7 @@ impl<'a, D: Disk> Directories<'a, D> {
         ensures undeclined { IsErrOf result Declined → ⊥ }
         ensures lock { self.new.lock ≡ self.old.lock }
     {
-        if matches!(self.lock, None | Some(Held::Nothing)) {
+        if matches!(self.lock, None | Some(Held::Table(_) | Held::Nothing)) {
             return Ok(());
         }
         match self.archives.hold(&self.rt, directory) {
@@ -223,14 +226,14 @@ impl<'a, D: Disk> Directories<'a, D> {
         HostFault::Device
     }
 
-    // Takes the root's locks, and counts a fault of the device.
-    fn lock(&mut self, directory: &str, wait: u32) -> Result<(), RootFault>
+    // Holds the root's locks that were taken, or counts a fault of the device.
+    fn hold(&mut self, taken: Result<Held, RootFault>) -> Result<(), RootFault>
         ensures locked { OnOk result (is_some self.new.lock ≡ true) }
         ensures faults { self.old.faults ≤ self.new.faults }
         ensures cause { IsErrOf result (OfHost Device) → self.old.faults < self.new.faults }
         ensures undeclined { IsErrOf result (OfHost Declined) → ⊥ }
     {
-        match locks_of(&self.rt, directory, wait) {
+        match taken {
             Ok(held) => {
                 self.lock = Some(held);
                 Ok(())
@@ -294,7 +297,13 @@ impl<'a, D: Disk> Hosts for Directories<'a, D> {
     // nor of what room there is
     ghost full = { λ _ _ _. ⊤ };
 
+    ghost beside = { λ d. d.beside };
+
     ghost below = { λ _. 0 };
+
+    fn is_beside(&self) -> bool {
+        self.beside
+    }
 
     fn open_root(
         &mut self,
@@ -303,10 +312,18 @@ impl<'a, D: Disk> Hosts for Directories<'a, D> {
         wait: u32,
     ) -> Result<Watched<'a, D>, RootFault> {
         let host = self.open(directory)?;
-        self.lock(directory, wait)?;
+        let taken = locks_of(&self.rt, directory, wait);
+        self.hold(taken)?;
         self.hold_archives(directory)?;
         let mut host = self.locked(directory, host)?;
         host.set_script_streams(streams_of(streams));
+        Ok(self.watched(host))
+    }
+
+    fn open_beside(&mut self, directory: &str, wait: u32) -> Result<Watched<'a, D>, RootFault> {
+        let host = self.open(directory)?;
+        let taken = table_lock_of(&self.rt, directory, wait);
+        self.hold(taken)?;
         Ok(self.watched(host))
     }
 

@@ -1,5 +1,5 @@
 // The locks of an administration: two files of it, which dpkg and the programs that start dpkg lock too, so that all exclude each
-// other. A lock is that of the open file: the system frees it when the programs that have it open have ended, however they end.
+// other, and one that scripts take, each as long as it changes the diversions. A lock is that of the open file: the system frees it when the programs that have it open have ended, however they end.
 ghost use Rattle.std.specs.Prelude.{◌≡◌, IfOk, IsErrOf, not, true};
 ghost use Rattle.command_line.specs.declared.fault.Lock.{Lock};
 ghost use Rattle.command_line.specs.declared.fault.RootFault.TheVariants.{Locked};
@@ -21,6 +21,11 @@ use std::{env, fs, io};
 // The program that starts this one sets it, where it holds the frontend's lock.
 const CLAIM: &str = "DPKG_FRONTEND_LOCKED";
 
+// The program that calls a script sets it, and holds the locks meanwhile.
+const SCRIPT: &str = "DPKG_MAINTSCRIPT_PACKAGE";
+
+const HOME: &str = "/var/lib/dpkg";
+
 const DIRECTORIES: [&str; 3] = ["/var", "/var/lib", "/var/lib/dpkg"];
 
 // all bytes that a file can have
@@ -40,6 +45,8 @@ pub(crate) enum Held {
     },
     /// The frontend's is held by the program that started this one.
     Administration(File),
+    /// The diversions are changed beside the program that holds the others.
+    Table(File),
     /// Something else stands in the place of a directory, which the opening finds.
     Nothing,
 }
@@ -50,7 +57,7 @@ impl Held {
         match self {
             Held::Both { administration, .. } => Ok(Some(administration.try_clone()?)),
             Held::Administration(administration) => Ok(Some(administration.try_clone()?)),
-            Held::Nothing => Ok(None),
+            Held::Table(_) | Held::Nothing => Ok(None),
         }
     }
 }
@@ -176,8 +183,38 @@ fn take_all(rt: &HostRuntime, front: &str, is_claimed: bool, wait: u32) -> Resul
     })
 }
 
-fn is_claimed(rt: &HostRuntime) -> bool {
-    !matches!(env::var(rt, CLAIM), Err(VarError::NotPresent))
+fn is_set(rt: &HostRuntime, name: &str) -> bool {
+    !matches!(env::var(rt, name), Err(VarError::NotPresent))
+}
+
+/// Whether a script started this program.
+pub(crate) fn is_in_script(rt: &HostRuntime) -> bool {
+    is_set(rt, SCRIPT)
+}
+
+// Whether the directory of the administration stands. Nothing is made.
+fn has_home(rt: &HostRuntime, front: &str) -> Result<bool, HostFault> {
+    let home = format!(in rt.alloc(); "{front}{HOME}")?;
+    match fs::symlink_metadata(rt, home.as_str()) {
+        Ok(found) => Ok(found.is_dir()),
+        Err(error) if error.kind() == ErrorKind::NotFound => Ok(false),
+        Err(error) => Err(fault_of(rt, home.as_str(), &error)),
+    }
+}
+
+/// Takes the lock under which scripts change the diversions. One that another script holds is waited for so many seconds.
+pub(crate) fn table_lock_of(
+    rt: &HostRuntime,
+    directory: &str,
+    wait: u32,
+) -> Result<Held, RootFault> {
+    let front = directory.trim_end_matches('/');
+    if !has_home(rt, front)? {
+        return Ok(Held::Nothing);
+    }
+    let mut left = u64::from(wait) * TRIES_A_SECOND;
+    let table = take(rt, front, Lock::Table, &mut left)?;
+    Ok(Held::Table(table))
 }
 
 /// Takes the locks of the administration under a directory. Those that another program holds are waited for so many seconds.
@@ -186,5 +223,5 @@ pub(crate) fn locks_of(rt: &HostRuntime, directory: &str, wait: u32) -> Result<H
     if !have_directories(rt, front)? {
         return Ok(Held::Nothing);
     }
-    take_all(rt, front, is_claimed(rt), wait)
+    take_all(rt, front, is_set(rt, CLAIM), wait)
 }

@@ -151,8 +151,8 @@ fn paths_of(alloc: Global, asked: &Diverting) -> Result<Vec<RootPath>, AllocErro
     Ok(paths)
 }
 
-// The same, once what is missing of the aliases above its path and its target was read.
-fn divert_followed<H: Host>(
+/// Adds a diversion, by the administration that these hold, once what is missing of the aliases above its path and its target was read.
+pub fn divert_followed<H: Host>(
     alloc: Global,
     host: &mut H,
     database: &NotedDatabase,

@@ -79,7 +79,8 @@
 //! At each moment the file has the table of before or after, and the node stands whole at one of
 //! its two names (`any_moment`), also where power was lost (`loss`). A unit that was broken off
 //! closes the session, tells no call and no package, and is all that is reported (`broken`,
-//! `closes`); no script is called (`silent`, `told`), records and lists stay.
+//! `closes`); no script is called (`silent`, `told`), records and lists stay. `divert_followed` and
+//! `undivert_followed` do so for an administration that no session holds.
 //!
 //! `checkpoint` ends a command: the notes are merged into the status file, and that is on the disk
 //! (`merged`, `written`, `answered`); where none stand the host is as it was (`none`). At each
@@ -127,6 +128,7 @@ mod yields;
 
 pub use asked::{Diverting, Undiverting};
 pub use configure_run::ConfigureOptions;
+pub use diverting::divert_followed;
 pub use installing::Installed;
 pub use laws::history_stands;
 pub use record_changes::{Change, PendingTrigger, RecordChange};
@@ -136,6 +138,7 @@ pub use session::Session;
 pub use trees::Trees;
 pub use trigger_journal::Request;
 pub use trigger_watch::{Hits, Touch, TriggerWatch};
+pub use undiverting::undivert_followed;
 pub use unit_reports::{
     Breakage, Cycle, Failure, Refusal, Reply, Report, Rule, Touched, Unit, Unwatched, Watcher,
 };

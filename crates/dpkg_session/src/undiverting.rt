@@ -133,8 +133,8 @@ fn paths_of(alloc: Global, asked: &Undiverting) -> Result<Vec<RootPath>, AllocEr
     Ok(paths)
 }
 
-// The same, once what is missing of the aliases above its path was read.
-fn undivert_followed<H: Host>(
+/// Takes a diversion away, by the administration that these hold, once what is missing of the aliases above its path was read.
+pub fn undivert_followed<H: Host>(
     alloc: Global,
     host: &mut H,
     lists: &FileLists,

@@ -145,6 +145,7 @@ fn read_behind<H: Host>(
         (HasAll all.opened.database.records all.opened.lists.lists
         all.opened.diversions.ways.entries (seen all.shown))) }
     ensures bare { IfOk result (λ all. all.opened.diversions.ways.aliases ≡ []) }
+    ensures writable { IfOk result (λ all. all.opened.diversions.closed ≡ false) }
     ensures reads { Reads (H.state host.old) (H.state host.new) }
     ensures silent { Silent (H.state host.old) (H.state host.new) }
     ensures counts { CountsAdministration (H.state host.old) (H.state host.new) result }
@@ -175,6 +176,7 @@ fn read_rest<H: Host>(
         (HasAll all.opened.database.records all.opened.lists.lists
         all.opened.diversions.ways.entries (seen all.shown))) }
     ensures bare { IfOk result (λ all. all.opened.diversions.ways.aliases ≡ []) }
+    ensures writable { IfOk result (λ all. all.opened.diversions.closed ≡ false) }
     ensures reads { Reads (H.state host.old) (H.state host.new) }
     ensures silent { Silent (H.state host.old) (H.state host.new) }
     ensures counts { CountsAdministration (H.state host.old) (H.state host.new) result }
@@ -193,6 +195,7 @@ pub fn read_all<H: Host>(alloc: Global, host: &mut H) -> Result<SeenAll, Adminis
         (HasAll all.opened.database.records all.opened.lists.lists
         all.opened.diversions.ways.entries (seen all.shown))) }
     ensures bare { IfOk result (λ all. all.opened.diversions.ways.aliases ≡ []) }
+    ensures writable { IfOk result (λ all. all.opened.diversions.closed ≡ false) }
     ensures reads { Reads (H.state host.old) (H.state host.new) }
     ensures silent { Silent (H.state host.old) (H.state host.new) }
     ensures counts { CountsAdministration (H.state host.old) (H.state host.new) result }
@@ -216,6 +219,8 @@ fn follow_seen<H: Host>(
     ensures held { IfOk result (λ all. Needs (H.state host.new)
         (HasFollowed all.opened.database.records all.opened.lists.lists
         all.opened.diversions.ways (seen all.shown))) }
+    ensures writable { IfOk result
+        (λ kept. kept.opened.diversions.closed ≡ all.opened.diversions.closed) }
     ensures sound { IsDamaged (fault_in result) → ⊥ }
     ensures reads { Reads (H.state host.old) (H.state host.new) }
     ensures silent { Silent (H.state host.old) (H.state host.new) }
@@ -235,6 +240,7 @@ pub fn read_followed<H: Host>(alloc: Global, host: &mut H) -> Result<SeenAll, Ad
     ensures held { IfOk result (λ all. Needs (H.state host.new)
         (HasFollowed all.opened.database.records all.opened.lists.lists
         all.opened.diversions.ways (seen all.shown))) }
+    ensures writable { IfOk result (λ all. all.opened.diversions.closed ≡ false) }
     ensures reads { Reads (H.state host.old) (H.state host.new) }
     ensures silent { Silent (H.state host.old) (H.state host.new) }
     ensures counts { CountsAdministration (H.state host.old) (H.state host.new) result }

@@ -15,6 +15,7 @@ returns-clause-answered g c =
     let told = c.run_words-status.ensures.answered in (
       c.new-hosts.result.faults,
       c.run_words-status.new.hosts.faults,
+      c.new-hosts.result.beside,
       (
         told.0,
         told.1,

@@ -261,7 +261,14 @@ impl Hosts for Machine {
     // no word is one of an archive
     ghost full = { λ _ _ _. ⊥ };
 
+    // no script gives a command
+    ghost beside = { λ _. false };
+
     ghost below = { λ _. 0 };
+
+    fn is_beside(&self) -> bool {
+        false
+    }
 
     fn open_root(
         &mut self,
@@ -273,6 +280,10 @@ impl Hosts for Machine {
             Some(host) => Ok(host),
             None => Err(RootFault::Host(HostFault::NoMemory)),
         }
+    }
+
+    fn open_beside(&mut self, directory: &str, wait: u32) -> Result<MemoryHost, RootFault> {
+        self.open_root(directory, ScriptStreams::Own, wait)
     }
 
     fn look_at_root(&mut self, _directory: &str) -> Result<MemoryHost, HostFault> {

@@ -52,6 +52,8 @@ struct MemoryHosts {
     root: Option<MemoryHost>,
     trees: &'static [TreeFile],
     faults: u64,
+    // a script gives the words
+    beside: bool,
 }
 
 fn file_with(alloc: Global, text: &str, access: Access) -> Result<Node, AllocError> {
@@ -122,6 +124,7 @@ fn hosts(
         root: Some(host),
         trees,
         faults: 0,
+        beside: false,
     })
 }
 
@@ -249,7 +252,16 @@ impl MemoryHosts {
         text.push('\n')
     }
 
-    // Adds the answer to a line of words; one that begins with `write`, `link` or `read` is the administrator's.
+    // Adds the answer to a line of words that a script gives, beside a command that has noted what it notes.
+    fn script(&mut self, line: &str, text: &mut String) -> Result<(), AllocError> {
+        self.beside = true;
+        let answer = answer(self.alloc, self, line)?;
+        self.beside = false;
+        text.push_str(answer.as_str())
+    }
+
+    // Adds the answer to a line of words; one that begins with `write`, `link` or `read` is the administrator's, one with `script` a
+    // script's.
     fn step(&mut self, line: &str, text: &mut String) -> Result<(), AllocError> {
         if let Some(words) = line.strip_prefix("write ") {
             return self.write(words);
@@ -259,6 +271,9 @@ impl MemoryHosts {
         }
         if let Some(path) = line.strip_prefix("read ") {
             return self.read(path, text);
+        }
+        if let Some(words) = line.strip_prefix("script ") {
+            return self.script(words, text);
         }
         let answer = answer(self.alloc, self, line)?;
         text.push_str(answer.as_str())?;
@@ -368,7 +383,13 @@ impl Hosts for MemoryHosts {
 
     ghost full = { λ _ word _. word ≡ codes "full.deb" };
 
+    ghost beside = { λ h. h.beside };
+
     ghost below = { λ _. 0 };
+
+    fn is_beside(&self) -> bool {
+        self.beside
+    }
 
     fn open_root(
         &mut self,
@@ -380,6 +401,10 @@ impl Hosts for MemoryHosts {
             Some(host) => Ok(host),
             None => Err(RootFault::Host(HostFault::NoMemory)),
         }
+    }
+
+    fn open_beside(&mut self, directory: &str, wait: u32) -> Result<MemoryHost, RootFault> {
+        self.open_root(directory, ScriptStreams::Own, wait)
     }
 
     fn look_at_root(&mut self, _directory: &str) -> Result<MemoryHost, HostFault> {

@@ -80,7 +80,14 @@ impl Hosts for RealHosts {
     // no word is one of an archive
     ghost full = { λ _ _ _. ⊥ };
 
+    // no script gives a command
+    ghost beside = { λ _. false };
+
     ghost below = { λ _. 0 };
+
+    fn is_beside(&self) -> bool {
+        false
+    }
 
     fn open_root(
         &mut self,
@@ -89,6 +96,10 @@ impl Hosts for RealHosts {
         _wait: u32,
     ) -> Result<RealHost, RootFault> {
         Ok(self.open(directory)?)
+    }
+
+    fn open_beside(&mut self, directory: &str, wait: u32) -> Result<RealHost, RootFault> {
+        self.open_root(directory, ScriptStreams::Own, wait)
     }
 
     fn look_at_root(&mut self, directory: &str) -> Result<RealHost, HostFault> {

@@ -1,5 +1,6 @@
 // Diversions that are added and taken away: the answers, and what is left.
-use super::check;
+use super::{answers, check};
+use crate::answers::expect;
 use std::test::Fail;
 
 const CHANGES: &[&str] = &[
@@ -115,4 +116,72 @@ refused /usr/bin/v NotDiverted
 |2
 ||||||";
     check(&rt, &[], &[], REFUSALS, row)
+}
+
+const BESIDE: &[&str] = &[
+    "write /var/lib/dpkg/status Package: victor\nStatus: install ok installed\nVersion: 1\n",
+    "write /var/lib/dpkg/updates/0000 Package: whisky\nStatus: install ok half-installed\nVersion: 1\n",
+    "write /var/lib/dpkg/tmp.ci/control Package: whisky\nVersion: 1\n",
+    "write /var/lib/dpkg/info/victor.list /.\n/usr\n/usr/bin\n/usr/bin/v\n",
+    "write /usr/bin/v a\n",
+    "script dpkg_cli divert --package whisky --rename --divert /usr/bin/v.victor /usr/bin/v",
+    "read /usr/bin/v",
+    "read /usr/bin/v.victor",
+    "read /var/lib/dpkg/diversions",
+    "script dpkg_cli divert --package whisky --rename --divert /usr/bin/v.victor /usr/bin/v",
+    "script dpkg_cli divert --local /usr",
+    "script dpkg_cli undivert --package whisky --rename /usr/bin/v",
+    "read /usr/bin/v",
+    "read /var/lib/dpkg/diversions",
+    "read /var/lib/dpkg/updates",
+    "read /var/lib/dpkg/tmp.ci",
+];
+
+// A script's changes merge no note, and take nothing of the command away that runs it.
+#[test]
+fn scripts_divert_beside_a_command(rt: HostRuntime) -> Result<(), Fail> {
+    let row = "done
+||0
+
+a
+
+/usr/bin/v
+/usr/bin/v.victor
+whisky
+
+done
+||0
+refused /usr Directory
+||1
+done
+||0
+a
+
+
+directory: 0000
+directory: control
+";
+    expect(&rt, answers(rt.alloc(), &[], &[], BESIDE, &[]), row)
+}
+
+const DAMAGED: &[&str] = &[
+    "script dpkg_cli divert --local /usr/bin/v",
+    "write /var/lib/dpkg/status Package: victor\n",
+    "script dpkg_cli divert --local /usr/bin/v",
+    "write /var/lib/dpkg/status \n",
+    "write /var/lib/dpkg/diversions.dpkg-inst/x x\n",
+    "script dpkg_cli undivert --local /usr/bin/v",
+];
+
+// What a script's change can't read, or can't write, is told, and nothing is made.
+#[test]
+fn damage_is_told_beside_a_command(rt: HostRuntime) -> Result<(), Fail> {
+    let row = "|damaged /var/lib/dpkg 0
+|2
+|damaged /var/lib/dpkg/status 1
+|2
+|damaged /var/lib/dpkg/diversions.dpkg-inst 0
+|2
+";
+    expect(&rt, answers(rt.alloc(), &[], &[], DAMAGED, &[]), row)
 }
