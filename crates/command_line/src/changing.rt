@@ -205,7 +205,7 @@ fn change_beside<S: Hosts>(
             Ok(done) => Ok(done),
             Err(fault) => Err(NotOpened::Opening(fault)),
         },
-        Err(RootFault::Locked(lock)) => Err(NotOpened::Locked(lock)),
+        Err(RootFault::Locked(held)) => Err(NotOpened::Locked(held)),
         Err(RootFault::Host(fault)) => Err(NotOpened::Opening(AdministrationFault::from(fault))),
     }
 }

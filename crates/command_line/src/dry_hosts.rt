@@ -76,11 +76,7 @@ impl<'a, S: Hosts> Hosts for DryHosts<'a, S> {
     }
 
     fn open_beside(&mut self, directory: &str, wait: u32) -> Result<Overlay<S::Opened>, RootFault> {
-        let _ = wait;
-        match self.look_at_root(directory) {
-            Ok(host) => Ok(host),
-            Err(fault) => Err(RootFault::Host(fault)),
-        }
+        self.open_root(directory, ScriptStreams::Own, wait)
     }
 
     fn look_at_root(&mut self, directory: &str) -> Result<Overlay<S::Opened>, HostFault> {

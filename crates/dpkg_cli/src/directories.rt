@@ -322,8 +322,8 @@ impl<'a, D: Disk> Hosts for Directories<'a, D> {
 
     fn open_beside(&mut self, directory: &str, wait: u32) -> Result<Watched<'a, D>, RootFault> {
         let host = self.open(directory)?;
-        let taken = table_lock_of(&self.rt, directory, wait);
-        self.hold(taken)?;
+        let table = table_lock_of(&self.rt, directory, wait);
+        self.hold(table)?;
         Ok(self.watched(host))
     }
 

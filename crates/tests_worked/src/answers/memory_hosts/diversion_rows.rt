@@ -177,10 +177,13 @@ const DAMAGED: &[&str] = &[
 #[test]
 fn damage_is_told_beside_a_command(rt: HostRuntime) -> Result<(), Fail> {
     let row = "|damaged /var/lib/dpkg 0
+expected: a file or directory as dpkg has it there
 |2
 |damaged /var/lib/dpkg/status 1
+expected: a field of a package's record, \"Name: value\", once and with a value that can be read; packages of one architecture
 |2
 |damaged /var/lib/dpkg/diversions.dpkg-inst 0
+expected: a file or directory as dpkg has it there
 |2
 ";
     expect(&rt, answers(rt.alloc(), &[], &[], DAMAGED, &[]), row)
