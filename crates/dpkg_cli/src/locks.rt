@@ -1,7 +1,8 @@
 // The locks of an administration: two files of it, which dpkg and the programs that start dpkg lock too, so that all exclude each
 // other, and one that scripts take, each as long as it changes the diversions. A lock is that of the open file: the system frees it when the programs that have it open have ended, however they end.
-ghost use Rattle.std.specs.Prelude.{◌≡◌, IfOk, IsErrOf, not, true};
+ghost use Rattle.std.specs.Prelude.{◌≡◌, IfOk, IsErrOf, false, not, true};
 ghost use Rattle.command_line.specs.declared.fault.Lock.{Lock};
+ghost use Rattle.command_line.specs.declared.fault.Lock.TheVariants.{Table};
 ghost use Rattle.command_line.specs.declared.fault.RootFault.TheVariants.{Locked};
 ghost use Rattle.dpkg_cli.specs.Locks.{has_administration, has_frontend};
 
@@ -203,11 +204,11 @@ fn has_home(rt: &HostRuntime, front: &str) -> Result<bool, HostFault> {
 }
 
 /// Takes the lock under which scripts change the diversions. One that another script holds is waited for so many seconds.
-pub(crate) fn table_lock_of(
-    rt: &HostRuntime,
-    directory: &str,
-    wait: u32,
-) -> Result<Held, RootFault> {
+pub(crate) fn table_lock_of(rt: &HostRuntime, directory: &str, wait: u32) -> Result<Held, RootFault>
+    ensures frontend { IfOk result (λ held. has_frontend held ≡ false) }
+    ensures administration { IfOk result (λ held. has_administration held ≡ false) }
+    ensures locked { (told : Lock) → IsErrOf result (Locked told) → told ≡ Table }
+{
     let front = directory.trim_end_matches('/');
     if !has_home(rt, front)? {
         return Ok(Held::Nothing);
