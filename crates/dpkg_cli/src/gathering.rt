@@ -8,14 +8,20 @@ use texts::{Text, Texts};
 // How many nodes are looked at.
 const MOST: usize = 1_048_576;
 
-// Adds what stands in a directory to the places that are to be looked at, the first of its names last.
-fn push_entries(rt: &HostRuntime, directory: &str, places: &mut Vec<String>) -> io::Result<()> {
+/// The names in a directory, in their order.
+pub(crate) fn names_in(rt: &HostRuntime, directory: &str) -> io::Result<Vec<String>> {
     let mut names = Vec::new(rt.alloc());
     for entry in fs::read_dir(rt, directory)? {
         let entry: DirEntry = entry?;
         names.push(String::from_str(rt.alloc(), entry.file_name())?)?;
     }
     names.sort_unstable();
+    Ok(names)
+}
+
+// Adds what stands in a directory to the places that are to be looked at, the first of its names last.
+fn push_entries(rt: &HostRuntime, directory: &str, places: &mut Vec<String>) -> io::Result<()> {
+    let names = names_in(rt, directory)?;
     for name in names.as_slice().iter().rev() {
         let name = name.as_str();
         places.push(format!(in rt.alloc(); "{directory}/{name}")?)?;

@@ -11,7 +11,7 @@
 //! ends with that status; that `main` calls these is read. What a unit begins with (`begun_stage`), the
 //! lines of `--status-fd` and `--log`, and which archives are passed over (`pick_of`) are their
 //! definitions in specs/; that they are told of what is noted is read, and so is that the lines of
-//! `idle_warnings` are written.
+//! `idle_warnings` are written, and that the options of dpkg's files stand before its words.
 #![tactic(auto)]
 
 ghost use Rattle.std.specs.Prelude.{◌≡◌, ◌≤◌, ◌⊎◌, [], IfSome, map, string_bytes, true};
@@ -21,6 +21,7 @@ ghost use Rattle.dpkg_words.specs.Translated.{translated};
 ghost use Rattle.dpkg_cli.specs.Runs.{IsAnswered, IsClearingAnswer, IsDpkgAnswer, IsGatheredAnswer, IsNamedAnswer, IsSelectedAnswer, IsSelectingAnswer, IsTextAnswer, are_dpkgs};
 
 mod archives;
+mod configured;
 mod directories;
 mod fixed_lines;
 mod frontends;
@@ -39,6 +40,7 @@ mod terminal;
 mod watched;
 
 use command_line::{FAILED, run_words};
+use configured::configured;
 use directories::Directories;
 use dpkg_words::{
     Clearing, Gathered, OwnWords, Printed, Selected, Translated, idle_warnings, selecting_words,
@@ -351,10 +353,16 @@ fn warn(rt: &HostRuntime, words: &[String]) {
     }
 }
 
-fn run_dpkg<D: Disk>(rt: HostRuntime, going: Option<Going>, words: &[String]) -> u8
+// What a person forces is told, and not what files do.
+fn run_dpkg<D: Disk>(
+    rt: HostRuntime,
+    going: Option<Going>,
+    given: &[String],
+    words: &[String],
+) -> u8
     ensures { IsDpkgAnswer D.Disk.model (translated (map string_bytes words.now)) result }
 {
-    warn(&rt, words);
+    warn(&rt, given);
     match translate(rt.alloc(), words) {
         Ok(translated) => run_translated::<D>(rt, going, &translated),
         Err(_) => refuse(rt, "broken memory\n"),
@@ -362,11 +370,16 @@ fn run_dpkg<D: Disk>(rt: HostRuntime, going: Option<Going>, words: &[String]) ->
 }
 
 // What the words come to by the program's name: dpkg's are translated.
-fn run_named<D: Disk>(rt: HostRuntime, going: Option<Going>, words: &[String]) -> u8
+fn run_named<D: Disk>(
+    rt: HostRuntime,
+    going: Option<Going>,
+    given: &[String],
+    words: &[String],
+) -> u8
     ensures { IsNamedAnswer D.Disk.model (map string_bytes words.now) result }
 {
     if are_dpkgs(words) {
-        run_dpkg::<D>(rt, going, words)
+        run_dpkg::<D>(rt, going, given, words)
     } else {
         run::<D>(rt, going, words)
     }
@@ -394,22 +407,33 @@ fn begin_gathered(
     }
 }
 
-fn begin_named(rt: &HostRuntime, words: &[String]) -> (Option<Going>, Masked) {
+fn begin_named(rt: &HostRuntime, given: &[String], words: &[String]) -> (Option<Going>, Masked) {
     if !are_dpkgs(words) {
-        return begin(rt, words, words);
+        return begin(rt, given, words);
     }
     match translate(rt.alloc(), words) {
-        Ok(Translated::Ours(own)) => begin(rt, words, own.as_slice()),
-        Ok(Translated::Gathers(gathered)) => begin_gathered(rt, words, &gathered),
+        Ok(Translated::Ours(own)) => begin(rt, given, own.as_slice()),
+        Ok(Translated::Gathers(gathered)) => begin_gathered(rt, given, &gathered),
         _ => (None, Masked::Here),
     }
 }
 
 // Carries out the words, with the mask that scripts are to have where they may be run.
-fn carry_out(rt: HostRuntime, words: &[String]) -> u8 {
-    match begin_named(&rt, words) {
+fn carry_out_read(rt: HostRuntime, given: &[String], words: &[String]) -> u8 {
+    match begin_named(&rt, given, words) {
         (_, Masked::There(code)) => status_of(code),
-        (going, Masked::Here) => run_named::<Unknown>(rt, going, words),
+        (going, Masked::Here) => run_named::<Unknown>(rt, going, given, words),
+    }
+}
+
+// Carries out what was given; before dpkg's words stand the options of its files.
+fn carry_out(rt: HostRuntime, given: &[String]) -> u8 {
+    if !are_dpkgs(given) {
+        return carry_out_read(rt, given, given);
+    }
+    match configured(&rt, given) {
+        Ok(words) => carry_out_read(rt, given, words.as_slice()),
+        Err(_) => refuse(rt, "broken memory\n"),
     }
 }
 

@@ -1,4 +1,5 @@
 pub mod Arguments
+pub mod Configured
 pub mod Cutting
 pub mod Forces
 pub mod Names

@@ -6,11 +6,13 @@
 //! dpkg's terms: the program's own words, also with files behind them that are still to be found or
 //! picked, a text with a status, or a refusal that names the option that isn't taken. `selecting_words` gives
 //! of a text the words by which what it selects is recorded, or tells the first line that can't be
-//! read. `idle_warnings` gives a line for each thing that is forced and changes nothing, of words
+//! read. `options_in` gives the options that stand in a text, and `with_options` puts options in front
+//! of words. `idle_warnings` gives a line for each thing that is forced and changes nothing, of words
 //! that are carried out. `speaks_dpkg` tells by which names of the program its words are dpkg's.
 #![tactic(auto)]
 
 mod arguments;
+mod configured;
 mod forces;
 mod names;
 mod numbers;
@@ -25,6 +27,7 @@ mod translation;
 mod warnings;
 mod words;
 
+pub use configured::{options_in, with_options};
 pub use names::speaks_dpkg;
 pub use own_words::OwnWords;
 pub use picking::Picking;

@@ -20,7 +20,7 @@ pub enum Selected {
     Refused(Text),
 }
 
-fn between_newlines(alloc: Global, text: &str) -> Result<Vec<&str>, AllocError>
+pub(crate) fn between_newlines(alloc: Global, text: &str) -> Result<Vec<&str>, AllocError>
     ensures { IfOk result (λ pieces. map (λ t. t.now) pieces.items ≡ between 10 text.now) }
 {
     text.split('\n').collect(alloc)
@@ -68,7 +68,7 @@ fn words_between(alloc: Global, pieces: &[&str]) -> Result<Texts, AllocError>
     Ok(words)
 }
 
-fn words_of(alloc: Global, line: &str) -> Result<Texts, AllocError>
+pub(crate) fn words_of(alloc: Global, line: &str) -> Result<Texts, AllocError>
     ensures { IfOk result (λ words. words ≡ words_of line.now) }
 {
     let pieces = between_spaces(alloc, line)?;
@@ -87,7 +87,7 @@ fn is_want(word: &str) -> bool
     }
 }
 
-fn is_remark(words: &[Text]) -> bool
+pub(crate) fn is_remark(words: &[Text]) -> bool
     ensures { result ≡ is_remark words.now }
 {
     match words.first() {
