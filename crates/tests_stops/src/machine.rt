@@ -1,5 +1,5 @@
 // A root in memory that goes from one command to the next, and trees that are made each time they are opened.
-ghost use Rattle.std.specs.Prelude.{◌≡◌, ⊤, IsTrue, Some, option_map};
+ghost use Rattle.std.specs.Prelude.{◌≡◌, ⊤, false, IsTrue, Some, option_map};
 ghost use Rattle.host_memory.specs.Memory.{memory_state};
 
 use command_line::{Hosts, RootFault, ScriptStreams, TreeOpening, TreeOwners, run_words};

@@ -1,5 +1,5 @@
 // A root in memory that begins as told, and the tree of alpha's version 2.0.
-ghost use Rattle.std.specs.Prelude.{◌≡◌, ⊤, IsTrue, Some, option_map};
+ghost use Rattle.std.specs.Prelude.{◌≡◌, ⊤, false, IsTrue, Some, option_map};
 ghost use Rattle.host_memory.specs.Memory.{memory_state};
 
 mod prediction;

@@ -1,6 +1,6 @@
 // Unpacks on real files, with real scripts. scripts/refused_memory refuses each allocation of the rows that stand here in
 // turn: then a want of memory may stand in place of an answer, and ends the row.
-ghost use Rattle.std.specs.Prelude.{◌≤◌, ◌<◌, ⊤, IsErrOf};
+ghost use Rattle.std.specs.Prelude.{◌≤◌, ◌<◌, ⊤, false, IsErrOf};
 ghost use Rattle.host_core.specs.declared.fault.HostFault.TheVariants.{Declined, Device};
 
 mod device_rows;
