@@ -1,6 +1,9 @@
 // What a file holds.
-ghost use Rattle.std.specs.Prelude.{◌≡◌, ℕ, List, IfOk};
+ghost use Rattle.std.specs.Prelude.{◌≡◌, ℕ, List, IfOk, IfSome, length, option_map, unwrap_or};
+ghost use Rattle.md5.specs.Md5.{md5};
 
+use crate::lent::Lent;
+use md5::{Digest, Md5};
 use std::alloc::{AllocError, Global};
 use std::marker::Model;
 use texts::Bytes;
@@ -12,17 +15,19 @@ pub struct Modified {
     pub nanoseconds: u32,
 }
 
-/// The bytes of a file, and when it was last modified, where that is to be kept. Nothing compares times.
+/// The bytes of a file, in memory or lent, and when it was last modified, where that is to be kept. Nothing compares times.
 #[derive(Drop)]
 pub struct Content {
+    // none where the file is lent
     bytes: Bytes,
+    lent: Option<Lent>,
     modified: Option<Modified>,
 }
 
 impl Model for Content {
     ghost Value = { List ℕ };
 
-    ghost view = { λ c. c.bytes };
+    ghost view = { λ c. unwrap_or c.lent c.bytes };
 }
 
 impl Content {
@@ -32,6 +37,7 @@ impl Content {
     {
         Content {
             bytes: Bytes::new(items),
+            lent: None,
             modified: None,
         }
     }
@@ -42,6 +48,18 @@ impl Content {
     {
         Content {
             bytes: Bytes::new(items),
+            lent: None,
+            modified: Some(modified),
+        }
+    }
+
+    /// The same of a file that isn't in memory.
+    pub fn lent(alloc: Global, lent: Lent, modified: Modified) -> Content
+        ensures { result ≡ lent }
+    {
+        Content {
+            bytes: Bytes::new(Vec::new(alloc)),
+            lent: Some(lent),
             modified: Some(modified),
         }
     }
@@ -52,10 +70,41 @@ impl Content {
         Ok(Content::new(Vec::from_slice(alloc, bytes)?))
     }
 
-    pub fn as_slice(&self) -> &[u8]
-        ensures { result.now ≡ self.now }
+    /// The bytes, where they are in memory; else it counts as want of memory for them.
+    pub fn held(&self) -> Result<&[u8], AllocError>
+        ensures { IfOk result (λ bytes. bytes.now ≡ self.now) }
     {
-        self.bytes.as_slice()
+        match self.lent {
+            None => Ok(self.bytes.as_slice()),
+            Some(_) => Err(AllocError),
+        }
+    }
+
+    /// The file that has the bytes, where they aren't in memory.
+    pub fn source(&self) -> Option<&Lent>
+        ensures { IfSome result (λ lent. lent.now ≡ self.now) }
+    {
+        self.lent.as_ref()
+    }
+
+    /// How many bytes they are.
+    pub fn length(&self) -> u64
+        ensures { result ≡ length self.now }
+    {
+        match &self.lent {
+            Some(lent) => lent.length(),
+            None => self.bytes.as_slice().len() as u64,
+        }
+    }
+
+    /// Their digest (RFC 1321).
+    pub fn digest(&self) -> [u8; 16]
+        ensures { result ≡ md5 self.now }
+    {
+        match &self.lent {
+            Some(lent) => lent.digest(),
+            None => <Md5 as Digest>::digest(self.bytes.as_slice()),
+        }
     }
 
     /// When it was last modified, where a file that is written with it is to keep that.
@@ -66,8 +115,13 @@ impl Content {
     pub fn copy(&self) -> Result<Content, AllocError>
         ensures { IfOk result (λ c. c ≡ self.now) }
     {
+        let lent = match &self.lent {
+            Some(lent) => Some(lent.copy()?),
+            None => None,
+        };
         Ok(Content {
             bytes: self.bytes.copy()?,
+            lent,
             modified: self.modified,
         })
     }
