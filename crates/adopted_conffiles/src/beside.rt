@@ -17,7 +17,7 @@ fn digest_of(node: &Option<Node>) -> Option<Digest>
     ensures { result ≡ digest_at node.now }
 {
     match node {
-        Some(Node::File { bytes, .. }) => Some(Digest::of(bytes.as_slice())),
+        Some(Node::File { bytes, .. }) => Some(Digest::of_content(bytes)),
         Some(Node::Dir { .. }) => None,
         Some(Node::Link { .. }) => None,
         None => None,

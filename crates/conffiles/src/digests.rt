@@ -6,6 +6,7 @@ ghost use Rattle.hex.specs.Hex.{encode_lower};
 ghost use Rattle.conffiles.specs.Digests.{IsDigest, is_lower_digit, is_digest_text};
 
 use hex::FromHex;
+use host_core::Content;
 use md5::Md5;
 use std::alloc::{AllocError, Global};
 use std::marker::Model;
@@ -46,6 +47,15 @@ impl Digest {
     {
         Digest {
             bytes: <Md5 as md5::Digest>::digest(bytes),
+        }
+    }
+
+    /// That of what a file holds.
+    pub fn of_content(content: &Content) -> Digest
+        ensures { result ≡ md5 content.now }
+    {
+        Digest {
+            bytes: content.digest(),
         }
     }
 

@@ -88,7 +88,7 @@ fn read_node(
 {
     match node {
         None => Ok(Table::new(alloc)),
-        Some(Node::File { bytes, .. }) => read_file(alloc, path, bytes.as_slice()),
+        Some(Node::File { bytes, .. }) => read_file(alloc, path, bytes.held()?),
         Some(_) => Err(AdministrationFault::Damaged {
             file: path,
             line: 0,

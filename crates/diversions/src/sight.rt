@@ -44,8 +44,9 @@ fn same_access(one: Access, other: Access) -> bool
     one.mode == other.mode && (one.user == other.user && one.group == other.group)
 }
 
-fn same_loose(one: &Node, other: &Node) -> bool
-    ensures { result ≡ spec.same_loose one.now other.now }
+fn same_loose<H: Host>(host: &mut H, one: &Node, other: &Node) -> Result<bool, HostFault>
+    ensures looks { Looks result (λ same w. same ≡ spec.same_loose one.now other.now)
+        (H.state host.old) (H.state host.new) }
 {
     match (one, other) {
         (

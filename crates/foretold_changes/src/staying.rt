@@ -11,7 +11,7 @@ ghost use Rattle.foretold_changes.specs.declared.staying.Stay.TheVariants.{Unrea
 
 use crate::keeping::Conffile;
 use conffiles::Digest;
-use host_core::{Host, HostFault, Node};
+use host_core::{Content, Host, HostFault, Node};
 use std::alloc::Global;
 
 /// What is told of a conffile that would stay.
@@ -28,17 +28,17 @@ pub struct LookedConffile {
     pub stay: Option<Stay>,
 }
 
-fn has_digest(bytes: &[u8], digest: Digest) -> bool
-    ensures { result ≡ bytes_eq (md5 bytes.now) digest }
+fn has_digest(content: &Content, digest: Digest) -> bool
+    ensures { result ≡ bytes_eq (md5 content.now) digest }
 {
-    Digest::of(bytes) == digest
+    Digest::of_content(content) == digest
 }
 
 fn is_edited(node: &Option<Node>, digest: Option<Digest>) -> bool
     ensures { result ≡ is_edited node.now digest }
 {
     match (node, digest) {
-        (Some(Node::File { bytes, .. }), Some(digest)) => !has_digest(bytes.as_slice(), digest),
+        (Some(Node::File { bytes, .. }), Some(digest)) => !has_digest(bytes, digest),
         (Some(Node::File { .. }), None) => false,
         (Some(Node::Dir { .. }), _) => false,
         (Some(Node::Link { .. }), _) => false,

@@ -61,12 +61,6 @@ impl Reading {
     pub fn at(self, alloc: Global, place: String) -> Lent
         ensures { result ≡ self }
     {
-        Lent::new(
-            alloc,
-            place,
-            self.count,
-            self.hasher.finalize(),
-            self.heard,
-        )
+        Lent::new(alloc, place, self.count, self.hasher.finalize(), self.heard)
     }
 }

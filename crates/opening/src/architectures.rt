@@ -65,7 +65,7 @@ fn line_at(alloc: Global, name: &Text, node: &Option<Node>) -> Result<u64, Alloc
     ensures { IfOk result (IsLineAt node.now name.now) }
 {
     match node {
-        Some(Node::File { bytes, .. }) => line_in(alloc, name, bytes.as_slice()),
+        Some(Node::File { bytes, .. }) => line_in(alloc, name, bytes.held()?),
         Some(Node::Dir { .. }) => Ok(0),
         Some(Node::Link { .. }) => Ok(0),
         None => Ok(0),

@@ -14,13 +14,13 @@ use std::alloc::{AllocError, Global};
 const MOST_PATHS: usize = 65_536;
 
 // The most bytes of a shipped file: 1 GiB.
-const MOST_BYTES: usize = 1_073_741_824;
+const MOST_BYTES: u64 = 1_073_741_824;
 
 fn is_large(node: &Option<Node>) -> bool
     ensures { MatchBool result (IsLarge node.now) (IsLarge node.now → ⊥) }
 {
     match node {
-        Some(Node::File { bytes, .. }) => bytes.as_slice().len() > MOST_BYTES,
+        Some(Node::File { bytes, .. }) => bytes.length() > MOST_BYTES,
         Some(Node::Dir { .. }) => false,
         Some(Node::Link { .. }) => false,
         None => false,

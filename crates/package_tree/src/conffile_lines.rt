@@ -98,7 +98,7 @@ pub(crate) fn entries_at(alloc: Global, node: &Option<Node>) -> Result<Vec<Entry
     ensures { IfOk result (λ entries. entries.items ≡ entries_at node.now) }
 {
     match node {
-        Some(Node::File { bytes, .. }) => entries_of(alloc, bytes.as_slice()),
+        Some(Node::File { bytes, .. }) => entries_of(alloc, bytes.held()?),
         Some(Node::Dir { .. }) => Ok(Vec::new(alloc)),
         Some(Node::Link { .. }) => Ok(Vec::new(alloc)),
         None => Ok(Vec::new(alloc)),

@@ -25,7 +25,7 @@ fn text_at(alloc: Global, node: &Option<Node>) -> Result<Bytes, AllocError>
     ensures { IfOk result (λ text. text ≡ text_at node.now) }
 {
     match node {
-        Some(Node::File { bytes, .. }) => Bytes::from_slice(alloc, bytes.as_slice()),
+        Some(Node::File { bytes, .. }) => Bytes::from_slice(alloc, bytes.held()?),
         Some(Node::Dir { .. }) => Ok(Bytes::new(Vec::new(alloc))),
         Some(Node::Link { .. }) => Ok(Bytes::new(Vec::new(alloc))),
         None => Ok(Bytes::new(Vec::new(alloc))),
@@ -60,7 +60,7 @@ fn table_at(
 {
     match node {
         None => Ok(Ok(NameTable::new(alloc))),
-        Some(Node::File { bytes, .. }) => table_in(alloc, bytes.as_slice()),
+        Some(Node::File { bytes, .. }) => table_in(alloc, bytes.held()?),
         Some(Node::Dir { .. }) => Ok(Err(0)),
         Some(Node::Link { .. }) => Ok(Err(0)),
     }

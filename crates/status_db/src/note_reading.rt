@@ -100,7 +100,7 @@ pub(crate) fn take_note(
 {
     match node {
         None => Ok(()),
-        Some(Node::File { bytes, .. }) => match read_note(alloc, bytes.as_slice()) {
+        Some(Node::File { bytes, .. }) => match read_note(alloc, bytes.held()?) {
             Ok(entry) => Ok(enter(table, entry)?),
             Err(StatusFault::Line(line)) => Err(AdministrationFault::Damaged { file: path, line }),
             Err(StatusFault::NoMemory) => Err(AdministrationFault::NoMemory),

@@ -41,7 +41,7 @@ fn read_node(
 {
     match node {
         None => read_file(alloc, path, &[]),
-        Some(Node::File { bytes, .. }) => read_file(alloc, path, bytes.as_slice()),
+        Some(Node::File { bytes, .. }) => read_file(alloc, path, bytes.held()?),
         Some(_) => Err(AdministrationFault::Damaged {
             file: path,
             line: 0,

@@ -187,7 +187,7 @@ pub(crate) fn is_settled(
     ensures { IfOk result (λ is. is ≡ is_settled lines.now node.now) }
 {
     match node {
-        Some(Node::File { bytes, .. }) => has_lines(alloc, lines, bytes.as_slice()),
+        Some(Node::File { bytes, .. }) => has_lines(alloc, lines, bytes.held()?),
         Some(Node::Dir { .. }) | Some(Node::Link { .. }) => Ok(false),
         None => has_lines(alloc, lines, b""),
     }

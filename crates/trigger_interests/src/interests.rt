@@ -65,7 +65,7 @@ fn declared_at(alloc: Global, node: &Option<Node>) -> Result<Vec<Declaration>, A
     ensures { IfOk result (λ found. found.items ≡ declared_at node.now) }
 {
     match node {
-        Some(Node::File { bytes, .. }) => declared_in(alloc, bytes.as_slice()),
+        Some(Node::File { bytes, .. }) => declared_in(alloc, bytes.held()?),
         Some(Node::Dir { .. }) => Ok(Vec::new(alloc)),
         Some(Node::Link { .. }) => Ok(Vec::new(alloc)),
         None => Ok(Vec::new(alloc)),

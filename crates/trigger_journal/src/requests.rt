@@ -115,7 +115,7 @@ fn text_at(alloc: Global, node: &Option<Node>) -> Result<Vec<u8>, AllocError>
     ensures { IfOk result (λ text. text.items ≡ text_at node.now) }
 {
     match node {
-        Some(Node::File { bytes, .. }) => Vec::from_slice(alloc, bytes.as_slice()),
+        Some(Node::File { bytes, .. }) => Vec::from_slice(alloc, bytes.held()?),
         Some(Node::Dir { .. }) | Some(Node::Link { .. }) | None => Ok(Vec::new(alloc)),
     }
 }

@@ -28,7 +28,7 @@ fn add_digest(path: &ShipPath, node: &Node, pending: &mut PendingDigests) -> Res
 {
     match node {
         Node::File { bytes, .. } => {
-            let digest = Digest::of(bytes.as_slice());
+            let digest = Digest::of_content(bytes);
             pending.put(PendingDigest::new(path.copy()?, digest))?;
             Ok(())
         }

@@ -11,13 +11,13 @@ ghost use Rattle.verification.specs.Told.{IsTold};
 
 use crate::difference::Difference;
 use conffiles::Digest;
-use host_core::{Host, HostFault, Kind, Node, RootPath};
+use host_core::{Content, Host, HostFault, Kind, Node, RootPath};
 
-fn has_digest(bytes: &[u8], digest: Digest) -> bool
-    ensures { result ≡ bytes_eq (encode_lower (md5 bytes.now)) (encode_lower digest) }
+fn has_digest(content: &Content, digest: Digest) -> bool
+    ensures { result ≡ bytes_eq (encode_lower (md5 content.now)) (encode_lower digest) }
 {
     digest.law();
-    let own = Digest::of(bytes);
+    let own = Digest::of_content(content);
     own.law();
     own == digest
 }
@@ -28,7 +28,7 @@ fn difference_of(node: &Option<Node>, digest: Digest) -> Option<Difference>
     match node {
         None => Some(Difference::Missing),
         Some(Node::File { bytes, .. }) => {
-            if has_digest(bytes.as_slice(), digest) {
+            if has_digest(bytes, digest) {
                 return None;
             }
             Some(Difference::Bytes)

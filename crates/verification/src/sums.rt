@@ -138,7 +138,7 @@ fn sums_at(alloc: Global, node: &Option<Node>) -> Result<Sums, AllocError>
     ensures { IfOk result (AreSums (sums_at node.now)) }
 {
     match node {
-        Some(Node::File { bytes, .. }) => Sums::of_text(alloc, bytes.as_slice()),
+        Some(Node::File { bytes, .. }) => Sums::of_text(alloc, bytes.held()?),
         Some(Node::Dir { .. }) => Ok(Sums::new(alloc)),
         Some(Node::Link { .. }) => Ok(Sums::new(alloc)),
         None => Ok(Sums::new(alloc)),
