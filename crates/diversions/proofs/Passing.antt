@@ -277,6 +277,21 @@ looked_around rename from to there taken above result a b c d e first second thi
   counts = counts_behind a d e result (no_fault_then a c d (no_fault_then a b c first.counts second.counts) third.counts) last.counts;
 }
 
+-- whether the same stands at both, where that was asked
+pub seen_same : (asked : Bool) (from to : Path) (there taken : Option Node) (result : Result Bool HostFault) (a b c d : State) → asked ≡ true
+    → Looks {T = Option Node} (Ok there) (λ node w. node ≡ w from) a b → Looks {T = Option Node} (Ok taken) (λ node w. node ≡ w to) b c
+    → Looks result (λ same w. same ≡ same_node there taken) c d → Looks result (λ same w. same ≡ (asked && same_node (w from) (w to))) a d
+seen_same asked from to there taken result a b c d is_asked first second last = record {
+  found = λ h.
+      let hc = last.reads.honest h in
+      let hb = second.reads.honest hc in
+      if_ok result (λ x is. is ∙ ap (λ n. same_node n taken) (first.found hb) ∙ ap (λ n. same_node (a.world from) n) (second.found hc ∙ ap (λ w. w to) first.reads.world)
+      ∙ ap (λ y. y && same_node (a.world from) (a.world to)) (sym is_asked)) (last.found h);
+  reads = reads_then a c d (reads_then a b c first.reads second.reads) last.reads;
+  silent = silent_then a c d (silent_then a b c first.silent second.silent) last.silent;
+  counts = counts_behind a c d result (no_fault_then a b c first.counts second.counts) last.counts;
+}
+
 -- the entry that is asked for
 pub brought_of : (ways : Ways) (rename listed : Bool) (result : Result Answer HostFault) (a b : State) (p p2 t t2 : Path) (o o2 : Owner) → p ≡ p2 → t ≡ t2 → o ≡ o2
     → (has_same ways.entries (diversion_of p t o) ≡ false → OnDone result (IsBroughtFirst rename listed (resolved ways.aliases p) (resolved ways.aliases t) a b))

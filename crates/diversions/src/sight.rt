@@ -55,23 +55,28 @@ fn same_loose<H: Host>(host: &mut H, one: &Node, other: &Node) -> Result<bool, H
                 bytes: others,
                 access: owned,
             },
-        ) => bytes.as_slice() == others.as_slice() && same_access(*access, *owned),
-        (Node::File { .. }, Node::Dir { .. }) => false,
-        (Node::File { .. }, Node::Link { .. }) => false,
-        (Node::Dir { .. }, _) => false,
-        (Node::Link { .. }, Node::File { .. }) => false,
-        (Node::Link { .. }, Node::Dir { .. }) => false,
-        (Node::Link { target }, Node::Link { target: aimed }) => target.is(aimed),
+        ) => Ok(host.same(bytes, others)? && same_access(*access, *owned)),
+        (Node::File { .. }, Node::Dir { .. }) => Ok(false),
+        (Node::File { .. }, Node::Link { .. }) => Ok(false),
+        (Node::Dir { .. }, _) => Ok(false),
+        (Node::Link { .. }, Node::File { .. }) => Ok(false),
+        (Node::Link { .. }, Node::Dir { .. }) => Ok(false),
+        (Node::Link { target }, Node::Link { target: aimed }) => Ok(target.is(aimed)),
     }
 }
 
-fn same_node(one: &Option<Node>, other: &Option<Node>) -> bool
-    ensures { result ≡ spec.same_node one.now other.now }
+fn same_node<H: Host>(
+    host: &mut H,
+    one: &Option<Node>,
+    other: &Option<Node>,
+) -> Result<bool, HostFault>
+    ensures looks { Looks result (λ same w. same ≡ spec.same_node one.now other.now)
+        (H.state host.old) (H.state host.new) }
 {
     match (one, other) {
-        (None, _) => false,
-        (Some(_), None) => false,
-        (Some(node), Some(there)) => same_loose(node, there),
+        (None, _) => Ok(false),
+        (Some(_), None) => Ok(false),
+        (Some(node), Some(there)) => same_loose(host, node, there),
     }
 }
 
@@ -138,7 +143,7 @@ fn same_at<H: Host>(
     }
     let there = node_at(host, from)?;
     let taken = node_at(host, to)?;
-    Ok(same_node(&there, &taken))
+    same_node(host, &there, &taken)
 }
 
 // With what is seen of kinds, whether the same file or link stands at both.

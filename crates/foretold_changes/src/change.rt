@@ -21,8 +21,9 @@ fn same_access(one: Access, other: Access) -> bool
     one.mode == other.mode && (one.user == other.user && one.group == other.group)
 }
 
-fn same_node(one: &Node, other: &Node) -> bool
-    ensures { result ≡ glances.same_node one.now other.now }
+fn same_node<H: Host>(host: &mut H, one: &Node, other: &Node) -> Result<bool, HostFault>
+    ensures looks { Looks result (λ same w. same ≡ glances.same_node one.now other.now)
+        (H.state host.old) (H.state host.new) }
 {
     match (one, other) {
         (
@@ -31,15 +32,17 @@ fn same_node(one: &Node, other: &Node) -> bool
                 bytes: others,
                 access: owned,
             },
-        ) => bytes.as_slice() == others.as_slice() && same_access(*access, *owned),
-        (Node::File { .. }, Node::Dir { .. }) => false,
-        (Node::File { .. }, Node::Link { .. }) => false,
-        (Node::Dir { .. }, Node::File { .. }) => false,
-        (Node::Dir { access }, Node::Dir { access: owned }) => same_access(*access, *owned),
-        (Node::Dir { .. }, Node::Link { .. }) => false,
-        (Node::Link { .. }, Node::File { .. }) => false,
-        (Node::Link { .. }, Node::Dir { .. }) => false,
-        (Node::Link { target }, Node::Link { target: aimed }) => target.as_str() == aimed.as_str(),
+        ) => Ok(host.same(bytes, others)? && same_access(*access, *owned)),
+        (Node::File { .. }, Node::Dir { .. }) => Ok(false),
+        (Node::File { .. }, Node::Link { .. }) => Ok(false),
+        (Node::Dir { .. }, Node::File { .. }) => Ok(false),
+        (Node::Dir { access }, Node::Dir { access: owned }) => Ok(same_access(*access, *owned)),
+        (Node::Dir { .. }, Node::Link { .. }) => Ok(false),
+        (Node::Link { .. }, Node::File { .. }) => Ok(false),
+        (Node::Link { .. }, Node::Dir { .. }) => Ok(false),
+        (Node::Link { target }, Node::Link { target: aimed }) => {
+            Ok(target.as_str() == aimed.as_str())
+        }
     }
 }
 

@@ -30,7 +30,7 @@ fn check<H: Host>(host: &mut H, one: bool, pair: &Pair) -> Result<(), Administra
 {
     let long = host.node(&pair.long)?;
     let short = host.node(&pair.short)?;
-    if fits(one, &long, &short) {
+    if fits(one, &long, &short)? {
         return Ok(());
     }
     Err(AdministrationFault::Damaged {

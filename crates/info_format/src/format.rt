@@ -1,5 +1,5 @@
 // The format of `info/`, and what stands at the two names of a control file.
-ghost use Rattle.std.specs.Prelude.{◌≡◌, Option, is_some};
+ghost use Rattle.std.specs.Prelude.{◌≡◌, IfOk, Option, is_some};
 ghost use Rattle.host_core.specs.World.{kind_of};
 ghost use Rattle.host_core.specs.declared.node.Node.{Node as ANode};
 ghost use Rattle.host_core.specs.Looks.{Looks};
@@ -7,6 +7,7 @@ ghost use Rattle.info_format.specs.Format.{IsSaid};
 ghost use Rattle.info_format.specs.Tests as spec;
 
 use host_core::{Access, Host, HostFault, Kind, Node, RootPath};
+use std::alloc::AllocError;
 
 /// Which names control files have.
 #[derive(Clone, Copy)]
@@ -20,19 +21,19 @@ pub(crate) enum Format {
 }
 
 // What the file says.
-fn said(node: &Option<Node>) -> Format
-    ensures { IsSaid node.now result }
+fn said(node: &Option<Node>) -> Result<Format, AllocError>
+    ensures { IfOk result (IsSaid node.now) }
 {
     match node {
-        None => Format::Short,
+        None => Ok(Format::Short),
         Some(Node::File { bytes, .. }) => {
-            if bytes.as_slice() == b"1\n".as_slice() {
-                return Format::Long;
+            if bytes.held()? == b"1\n".as_slice() {
+                return Ok(Format::Long);
             }
-            Format::Unknown
+            Ok(Format::Unknown)
         }
-        Some(Node::Dir { .. }) => Format::Unknown,
-        Some(Node::Link { .. }) => Format::Unknown,
+        Some(Node::Dir { .. }) => Ok(Format::Unknown),
+        Some(Node::Link { .. }) => Ok(Format::Unknown),
     }
 }
 
@@ -42,7 +43,7 @@ pub(crate) fn read_format<H: Host>(host: &mut H, path: &RootPath) -> Result<Form
         (H.state host.new) }
 {
     let node = host.node(path)?;
-    Ok(said(&node))
+    Ok(said(&node)?)
 }
 
 fn same_access(one: Access, other: Access) -> bool
@@ -51,8 +52,8 @@ fn same_access(one: Access, other: Access) -> bool
     one.mode == other.mode && (one.user == other.user && one.group == other.group)
 }
 
-fn same_node(one: &Node, other: &Node) -> bool
-    ensures { result ≡ spec.same_node one.now other.now }
+fn same_node(one: &Node, other: &Node) -> Result<bool, AllocError>
+    ensures { IfOk result (λ same. same ≡ spec.same_node one.now other.now) }
 {
     match (one, other) {
         (
@@ -61,63 +62,63 @@ fn same_node(one: &Node, other: &Node) -> bool
                 bytes: others,
                 access: owned,
             },
-        ) => bytes.as_slice() == others.as_slice() && same_access(*access, *owned),
-        (Node::File { .. }, Node::Dir { .. }) => false,
-        (Node::File { .. }, Node::Link { .. }) => false,
-        (Node::Dir { .. }, Node::File { .. }) => false,
-        (Node::Dir { .. }, Node::Dir { .. }) => false,
-        (Node::Dir { .. }, Node::Link { .. }) => false,
-        (Node::Link { .. }, Node::File { .. }) => false,
-        (Node::Link { .. }, Node::Dir { .. }) => false,
-        (Node::Link { target }, Node::Link { target: aimed }) => target.is(aimed),
+        ) => Ok(bytes.held()? == others.held()? && same_access(*access, *owned)),
+        (Node::File { .. }, Node::Dir { .. }) => Ok(false),
+        (Node::File { .. }, Node::Link { .. }) => Ok(false),
+        (Node::Dir { .. }, Node::File { .. }) => Ok(false),
+        (Node::Dir { .. }, Node::Dir { .. }) => Ok(false),
+        (Node::Dir { .. }, Node::Link { .. }) => Ok(false),
+        (Node::Link { .. }, Node::File { .. }) => Ok(false),
+        (Node::Link { .. }, Node::Dir { .. }) => Ok(false),
+        (Node::Link { target }, Node::Link { target: aimed }) => Ok(target.is(aimed)),
     }
 }
 
 // Whether at the name without the architecture nothing stands, or the same.
-fn is_fit(long: &Option<Node>, short: &Option<Node>) -> bool
-    ensures { result ≡ spec.is_fit long.now short.now }
+fn is_fit(long: &Option<Node>, short: &Option<Node>) -> Result<bool, AllocError>
+    ensures { IfOk result (λ same. same ≡ spec.is_fit long.now short.now) }
 {
     match (long, short) {
-        (None, None) => true,
-        (None, Some(_)) => true,
-        (Some(node), None) => !node.is_dir(),
+        (None, None) => Ok(true),
+        (None, Some(_)) => Ok(true),
+        (Some(node), None) => Ok(!node.is_dir()),
         (Some(node), Some(there)) => same_node(node, there),
     }
 }
 
-fn same_content(one: &Node, other: &Node) -> bool
-    ensures { result ≡ spec.same_content one.now other.now }
+fn same_content(one: &Node, other: &Node) -> Result<bool, AllocError>
+    ensures { IfOk result (λ same. same ≡ spec.same_content one.now other.now) }
 {
     match (one, other) {
         (Node::File { bytes, .. }, Node::File { bytes: others, .. }) => {
-            bytes.as_slice() == others.as_slice()
+            Ok(bytes.held()? == others.held()?)
         }
-        (Node::File { .. }, Node::Dir { .. }) => false,
-        (Node::File { .. }, Node::Link { .. }) => false,
-        (Node::Dir { .. }, Node::File { .. }) => false,
-        (Node::Dir { .. }, Node::Dir { .. }) => false,
-        (Node::Dir { .. }, Node::Link { .. }) => false,
-        (Node::Link { .. }, Node::File { .. }) => false,
-        (Node::Link { .. }, Node::Dir { .. }) => false,
-        (Node::Link { target }, Node::Link { target: aimed }) => target.is(aimed),
+        (Node::File { .. }, Node::Dir { .. }) => Ok(false),
+        (Node::File { .. }, Node::Link { .. }) => Ok(false),
+        (Node::Dir { .. }, Node::File { .. }) => Ok(false),
+        (Node::Dir { .. }, Node::Dir { .. }) => Ok(false),
+        (Node::Dir { .. }, Node::Link { .. }) => Ok(false),
+        (Node::Link { .. }, Node::File { .. }) => Ok(false),
+        (Node::Link { .. }, Node::Dir { .. }) => Ok(false),
+        (Node::Link { target }, Node::Link { target: aimed }) => Ok(target.is(aimed)),
     }
 }
 
 // Whether both names have the same bytes or target, where both stand.
-fn is_double(long: &Option<Node>, short: &Option<Node>) -> bool
-    ensures { result ≡ spec.is_double long.now short.now }
+fn is_double(long: &Option<Node>, short: &Option<Node>) -> Result<bool, AllocError>
+    ensures { IfOk result (λ same. same ≡ spec.is_double long.now short.now) }
 {
     match (long, short) {
-        (None, None) => true,
-        (None, Some(_)) => true,
-        (Some(_), None) => true,
+        (None, None) => Ok(true),
+        (None, Some(_)) => Ok(true),
+        (Some(_), None) => Ok(true),
         (Some(node), Some(there)) => same_content(node, there),
     }
 }
 
 /// Whether the two names fit in format 1, or in format 0.
-pub(crate) fn fits(one: bool, long: &Option<Node>, short: &Option<Node>) -> bool
-    ensures { result ≡ spec.fits one long.now short.now }
+pub(crate) fn fits(one: bool, long: &Option<Node>, short: &Option<Node>) -> Result<bool, AllocError>
+    ensures { IfOk result (λ same. same ≡ spec.fits one long.now short.now) }
 {
     if one {
         return is_fit(long, short);

@@ -33,8 +33,8 @@ fn same_access(one: Access, other: Access) -> bool
     one.mode == other.mode && (one.user == other.user && one.group == other.group)
 }
 
-fn same_node(one: &Node, other: &Node) -> bool
-    ensures { result ≡ spec.same_node one.now other.now }
+fn same_node(one: &Node, other: &Node) -> Result<bool, AllocError>
+    ensures { IfOk result (λ same. same ≡ spec.same_node one.now other.now) }
 {
     match (one, other) {
         (
@@ -43,25 +43,25 @@ fn same_node(one: &Node, other: &Node) -> bool
                 bytes: others,
                 access: owned,
             },
-        ) => bytes.as_slice() == others.as_slice() && same_access(*access, *owned),
-        (Node::File { .. }, Node::Dir { .. }) => false,
-        (Node::File { .. }, Node::Link { .. }) => false,
-        (Node::Dir { .. }, Node::File { .. }) => false,
-        (Node::Dir { access }, Node::Dir { access: owned }) => same_access(*access, *owned),
-        (Node::Dir { .. }, Node::Link { .. }) => false,
-        (Node::Link { .. }, Node::File { .. }) => false,
-        (Node::Link { .. }, Node::Dir { .. }) => false,
-        (Node::Link { target }, Node::Link { target: aimed }) => target.is(aimed),
+        ) => Ok(bytes.held()? == others.held()? && same_access(*access, *owned)),
+        (Node::File { .. }, Node::Dir { .. }) => Ok(false),
+        (Node::File { .. }, Node::Link { .. }) => Ok(false),
+        (Node::Dir { .. }, Node::File { .. }) => Ok(false),
+        (Node::Dir { access }, Node::Dir { access: owned }) => Ok(same_access(*access, *owned)),
+        (Node::Dir { .. }, Node::Link { .. }) => Ok(false),
+        (Node::Link { .. }, Node::File { .. }) => Ok(false),
+        (Node::Link { .. }, Node::Dir { .. }) => Ok(false),
+        (Node::Link { target }, Node::Link { target: aimed }) => Ok(target.is(aimed)),
     }
 }
 
-fn same_standing(one: &Option<Node>, other: &Option<Node>) -> bool
-    ensures { result ≡ spec.same_standing one.now other.now }
+fn same_standing(one: &Option<Node>, other: &Option<Node>) -> Result<bool, AllocError>
+    ensures { IfOk result (λ same. same ≡ spec.same_standing one.now other.now) }
 {
     match (one, other) {
-        (None, None) => true,
-        (None, Some(_)) => false,
-        (Some(_), None) => false,
+        (None, None) => Ok(true),
+        (None, Some(_)) => Ok(false),
+        (Some(_), None) => Ok(false),
         (Some(node), Some(there)) => same_node(node, there),
     }
 }
@@ -171,7 +171,7 @@ impl Glance {
         ensures same { (info : Bool) (w : World) → IsGlance info w self.now → IsGlance info w
             other.now → IfOk result (λ same. same ≡ true) }
     {
-        if !same_standing(&self.status, &other.status) {
+        if !same_standing(&self.status, &other.status)? {
             return Ok(false);
         }
         Ok(

@@ -31,14 +31,14 @@ is_file_in P file = is_file file.node && P file.path
 abbrev pub HasFileAt : List Shipped → Path → Type 0
 HasFileAt files q = (file : Shipped) × Contains files file × (file.path ≡ q) × IsFile file.node
 
--- a file of more than 1 GiB
+-- a file of more than 16 GiB
 abbrev pub IsLarge : Option Node → Type 0
-IsLarge node = (bytes : List ℕ) × (access : Access) × (node ≡ Some (File bytes access)) × (1073741824 < length bytes)
+IsLarge node = (bytes : List ℕ) × (access : Access) × (node ≡ Some (File bytes access)) × (17179869184 < length bytes)
 
 -- the package ships so many paths before this one
 abbrev pub HasBefore : ℕ → World → Path → Type 0
 HasBefore count w q = (paths : List Path) × (length paths ≡ count) × AreInOrder paths × ((p : Path) → Contains paths p → IsShipped w p × IsBefore p q)
 
--- a shipped path is more than a tree may hold: a file of more than 1 GiB, or a path behind 65,536 others
+-- a shipped path is more than a tree may hold: a file of more than 16 GiB, or a path behind 65,536 others
 abbrev pub IsTooLarge : World → Path → Type 0
 IsTooLarge w q = IsShipped w q × (IsLarge (w q) ⊎ HasBefore 65536 w q)

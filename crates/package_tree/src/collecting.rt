@@ -13,8 +13,8 @@ use std::alloc::{AllocError, Global};
 // The most paths that a tree may ship.
 const MOST_PATHS: usize = 65_536;
 
-// The most bytes of a shipped file: 1 GiB.
-const MOST_BYTES: u64 = 1_073_741_824;
+// The most bytes of a shipped file: 16 GiB.
+const MOST_BYTES: u64 = 17_179_869_184;
 
 fn is_large(node: &Option<Node>) -> bool
     ensures { MatchBool result (IsLarge node.now) (IsLarge node.now → ⊥) }

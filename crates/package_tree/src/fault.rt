@@ -79,7 +79,7 @@ pub enum TreeFault {
     /// A line of `DEBIAN/conffiles` is neither a path nor a flagged one.
     #[error("ConffileFlag {0}")]
     ConffileFlag(u64),
-    /// A shipped file has more than 1 GiB, or this is the path after the first 65,536.
+    /// A shipped file has more than 16 GiB, or this is the path after the first 65,536.
     #[error("TooLarge {0}")]
     TooLarge(RootPath),
     #[error("Device")]

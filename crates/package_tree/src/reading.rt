@@ -148,14 +148,14 @@ fn has_entry(text: &[u8]) -> bool
 }
 
 // Whether a line of the file `conffiles` isn't blank.
-fn lists_conffiles(node: &Option<Node>) -> bool
-    ensures { result ≡ lists_conffiles node.now }
+fn lists_conffiles(node: &Option<Node>) -> Result<bool, AllocError>
+    ensures { IfOk result (λ lists. lists ≡ lists_conffiles node.now) }
 {
     match node {
-        Some(Node::File { bytes, .. }) => has_entry(bytes.as_slice()),
-        Some(Node::Dir { .. }) => false,
-        Some(Node::Link { .. }) => false,
-        None => false,
+        Some(Node::File { bytes, .. }) => Ok(has_entry(bytes.held()?)),
+        Some(Node::Dir { .. }) => Ok(false),
+        Some(Node::Link { .. }) => Ok(false),
+        None => Ok(false),
     }
 }
 
@@ -538,15 +538,16 @@ fn assemble(
     contents: Contents,
     lines: Lines,
     found: Found,
+    has_conffiles: bool,
 ) -> Package
     requires whole { IsWhole lines found }
     requires trimmed { AreTrimmedLines lines }
+    requires listed { has_conffiles ≡ lists_conffiles contents.conffiles }
     ensures { (w : World) (text : List ℕ) → HasControl w text
         → IsControlText text control.paragraph control.name control.version → AreContents w contents
         → HasGoodPaths w → AreLinesOf (entries_at (w conffiles_path)) lines → IsFound w found
         → IsTreeOf w result }
 {
-    let has_conffiles = lists_conffiles(&contents.conffiles);
     let ships = contents.ships;
     Package {
         name: control.name,
@@ -579,7 +580,8 @@ pub fn read_tree<H: Host>(alloc: Global, host: &mut H) -> Result<Package, TreeFa
     let mut paths = Vec::new(alloc);
     read_contents(alloc, host, &mut contents, &mut paths)?;
     let lines = lines_at(alloc, &contents.conffiles)?;
+    let has_conffiles = lists_conffiles(&contents.conffiles)?;
     let mut found = Found::none(alloc);
     read_found(alloc, host, paths.as_slice(), &lines, &mut found)?;
-    Ok(assemble(alloc, control, contents, lines, found))
+    Ok(assemble(alloc, control, contents, lines, found, has_conffiles))
 }

@@ -59,6 +59,6 @@ returns c = λ w text there control contents paths lines found.
       conffiles = subst (AreNamed Plain all) (sym c.new-3.ensures) plain;
       flagged = subst (AreNamed Flagged all) (sym c.new-4.ensures) flagged;
       others = subst (AreOthers w) (sym c.new.ensures) found.others;
-      has_conffiles = c.lists_conffiles-has_conffiles.ensures ∙ ap lists_conffiles contents.conffiles;
+      has_conffiles = c.requires.listed ∙ ap lists_conffiles contents.conffiles;
       ships = contents.ships;
     }

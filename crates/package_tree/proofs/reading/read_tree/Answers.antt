@@ -41,6 +41,14 @@ pub returns-in_err-lines-clause-counts : goal.returns-in_err-lines-clause-counts
 returns-in_err-lines-clause-counts g c =
     passed_counts (Unit {0}) Package (g.H.Host.state c.args.host.now) (g.H.Host.state c.read_control_file.new.host) (g.H.Host.state c.read_contents.new.host) NoMemory c.from_residual-in_err-lines.result c.from_residual-in_err-lines.ensures.1 c.in_ok-control.ensures.counts c.in_ok-read_contents.ensures.counts
 
+pub returns-in_err-has_conffiles-clause-fault : goal.returns-in_err-has_conffiles-clause-fault
+returns-in_err-has_conffiles-clause-fault g c = λ h.
+    passed_fault (IsReadingFault (g.H.Host.state c.args.host.now).world) c.from_residual-in_err-has_conffiles.result NoMemory c.from_residual-in_err-has_conffiles.ensures.1 (inr tt)
+
+pub returns-in_err-has_conffiles-clause-counts : goal.returns-in_err-has_conffiles-clause-counts
+returns-in_err-has_conffiles-clause-counts g c =
+    passed_counts (Unit {0}) Package (g.H.Host.state c.args.host.now) (g.H.Host.state c.read_control_file.new.host) (g.H.Host.state c.read_contents.new.host) NoMemory c.from_residual-in_err-has_conffiles.result c.from_residual-in_err-has_conffiles.ensures.1 c.in_ok-control.ensures.counts c.in_ok-read_contents.ensures.counts
+
 pub returns-in_err-read_found-clause-reads : goal.returns-in_err-read_found-clause-reads
 returns-in_err-read_found-clause-reads g c = c.read_control_file.ensures.reads ⨾ c.read_contents.ensures.reads ⨾ c.read_found.ensures.reads
 
