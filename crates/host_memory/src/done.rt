@@ -67,7 +67,7 @@ fn front_of(alloc: Global, node: &Node, count: usize) -> Result<Node, AllocError
 {
     match node {
         Node::File { bytes, access } => {
-            let bytes = bytes.as_slice();
+            let bytes = bytes.held()?;
             let front = bytes.get(..count).unwrap_or(bytes);
             Ok(Node::File {
                 bytes: Content::from_slice(alloc, front)?,

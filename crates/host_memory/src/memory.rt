@@ -7,7 +7,9 @@ use crate::denial_plan::{is_denied, pass_step};
 use crate::done::{DeviceStep, Done, count_denied, part_of, place_of};
 use crate::fault_plan::{Effect, Fate, FaultPlan, StepFault};
 use crate::history::History;
-use host_core::{Access, Call, Host, HostFault, Keep, Kind, Listing, Node, Outcome, RootPath};
+use host_core::{
+    Access, Call, Content, Host, HostFault, Keep, Kind, Listing, Node, Outcome, RootPath,
+};
 use std::alloc::{AllocError, Global};
 use std::collections::VecDeque;
 use texts::Text;
@@ -335,8 +337,10 @@ impl MemoryHost {
 }
 
 impl Host for MemoryHost {
-    ghost use Rattle.std.specs.Prelude.{◌≡◌, ◌≤◌, None, true, false, IfOk, OnOk};
+    ghost use Rattle.std.specs.Prelude.{◌≡◌, ◌≤◌, None, true, false, IfErr, IfOk, OnOk};
+    ghost use Rattle.std.specs.Str.{bytes_eq};
     ghost use Rattle.host_core.specs.Paths.{Path};
+    ghost use Rattle.host_core.specs.declared.fault.HostFault.TheVariants.{NoMemory};
     ghost use Rattle.host_core.specs.World.{Write, Move, Take, MakeDir, RemoveDir, HardLink, MakeLink, Sync, Barrier, SyncAll, SyncRoot, Lower, kind_of, HasParent, IsBare, IsDirectory, IsFile, IsLoose, is_kept};
     ghost use Rattle.host_core.specs.Host.{Runs, Counts, Falls};
     ghost use Rattle.host_core.specs.Tree.{IsListing};
@@ -356,6 +360,15 @@ impl Host for MemoryHost {
         let node = self.history.files().copy_at(path)?;
         self.look()?;
         Ok(node)
+    }
+
+    /// All files are in memory. No fault is due for it.
+    fn same(&mut self, one: &Content, other: &Content) -> Result<bool, HostFault>
+        ensures same { IfOk result (λ same. same ≡ bytes_eq one.now other.now) }
+        ensures err { IfErr result (λ fault. fault ≡ NoMemory) }
+        ensures unchanged { self.new ≡ self.old }
+    {
+        Ok(one.held()? == other.held()?)
     }
 
     fn kind(&mut self, path: &RootPath) -> Result<Option<Kind>, HostFault>

@@ -116,7 +116,7 @@ fn fill_node(alloc: Global, node: &Node, fill: u8) -> Result<Node, AllocError>
 {
     match node {
         Node::File { bytes, access } => {
-            let bytes = vec![in alloc; fill; bytes.as_slice().len()]?;
+            let bytes = vec![in alloc; fill; bytes.held()?.len()]?;
             Ok(Node::File {
                 bytes: Content::new(bytes),
                 access: *access,

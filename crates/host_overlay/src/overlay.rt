@@ -15,7 +15,9 @@ use crate::failing::{AssumedFailure, end_call};
 use crate::layer::Layer;
 use crate::looking::{kind_over, node_over};
 use crate::stored::Stored;
-use host_core::{Access, Call, Host, HostFault, Keep, Kind, Listing, Node, Outcome, RootPath};
+use host_core::{
+    Access, Call, Content, Host, HostFault, Keep, Kind, Listing, Node, Outcome, RootPath,
+};
 use std::alloc::{AllocError, Global};
 use std::snapshot::Snapshot;
 use texts::Text;
@@ -116,6 +118,7 @@ impl<H: Host> Overlay<H> {
 
 impl<H: Host> Host for Overlay<H> {
     ghost use Rattle.std.specs.Prelude.{◌≡◌, None, true, false, OnOk};
+    ghost use Rattle.std.specs.Str.{bytes_eq};
     ghost use Rattle.host_core.specs.Paths.{Path};
     ghost use Rattle.host_core.specs.World.{Write, Move, Take, MakeDir, RemoveDir, HardLink, MakeLink, Sync, Barrier, SyncAll, SyncRoot, Lower, kind_of, HasParent, IsBare, IsDirectory, IsFile, IsLoose, is_kept};
     ghost use Rattle.host_core.specs.Host.{Counts, Falls, Needs, Runs};
@@ -134,6 +137,15 @@ impl<H: Host> Host for Overlay<H> {
     {
         self.layer.make_room()?;
         let told = node_over(&mut self.below, &self.layer.changes, path);
+        self.layer.tell(&told);
+        told
+    }
+
+    fn same(&mut self, one: &Content, other: &Content) -> Result<bool, HostFault>
+        ensures { LooksOver result (λ same w. same ≡ bytes_eq one.now other.now) self.old self.new }
+    {
+        self.layer.make_room()?;
+        let told = self.below.same(one, other);
         self.layer.tell(&told);
         told
     }
