@@ -1,10 +1,12 @@
 // How what would stand at a path differs from what stands there.
-ghost use Rattle.std.specs.Prelude.{◌≡◌, ◌≢◌, Some};
+ghost use Rattle.std.specs.Prelude.{◌≡◌, ◌≢◌, IfOk, Some};
+ghost use Rattle.host_overlay.specs.Overlays.{LooksOver};
 ghost use Rattle.inquiries.specs.Glances as glances;
 ghost use Rattle.foretold_changes.specs.Changes.{change_of, change_word};
 ghost use Rattle.foretold_changes.specs.declared.change.Change.TheVariants.{Unread};
 
-use host_core::{Access, Node};
+use host_core::{Access, Host, HostFault, Node};
+use host_overlay::Overlay;
 
 /// What is told of a path; that it can't be read, where the device fails at a look.
 #[derive(Clone, Copy)]
@@ -21,9 +23,9 @@ fn same_access(one: Access, other: Access) -> bool
     one.mode == other.mode && (one.user == other.user && one.group == other.group)
 }
 
-fn same_node<H: Host>(host: &mut H, one: &Node, other: &Node) -> Result<bool, HostFault>
-    ensures looks { Looks result (λ same w. same ≡ glances.same_node one.now other.now)
-        (H.state host.old) (H.state host.new) }
+fn same_node<H: Host>(host: &mut Overlay<H>, one: &Node, other: &Node) -> Result<bool, HostFault>
+    ensures { LooksOver result (λ same w. same ≡ glances.same_node one.now other.now) host.old
+        host.new }
 {
     match (one, other) {
         (
@@ -47,19 +49,24 @@ fn same_node<H: Host>(host: &mut H, one: &Node, other: &Node) -> Result<bool, Ho
 }
 
 /// How two nodes differ.
-pub(crate) fn change_of(before: &Option<Node>, now: &Option<Node>) -> Option<Change>
-    ensures value { result ≡ change_of before.now now.now }
-    ensures known { result ≢ Some Unread }
+pub(crate) fn change_of<H: Host>(
+    host: &mut Overlay<H>,
+    before: &Option<Node>,
+    now: &Option<Node>,
+) -> Result<Option<Change>, HostFault>
+    ensures looks { LooksOver result (λ change w. change ≡ change_of before.now now.now) host.old
+        host.new }
+    ensures known { IfOk result (λ change. change ≢ Some Unread) }
 {
     match (before, now) {
-        (None, None) => None,
-        (None, Some(_)) => Some(Change::Write),
-        (Some(_), None) => Some(Change::Remove),
+        (None, None) => Ok(None),
+        (None, Some(_)) => Ok(Some(Change::Write)),
+        (Some(_), None) => Ok(Some(Change::Remove)),
         (Some(old), Some(new)) => {
-            if same_node(old, new) {
-                return None;
+            if same_node(host, old, new)? {
+                return Ok(None);
             }
-            Some(Change::Replace)
+            Ok(Some(Change::Replace))
         }
     }
 }

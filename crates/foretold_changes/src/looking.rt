@@ -52,7 +52,7 @@ fn compare<H: Host>(host: &mut Overlay<H>, path: &RootPath) -> Result<Option<Cha
 {
     let before = host.node_below(path)?;
     let now = host.node(path)?;
-    Ok(change_of(&before, &now))
+    change_of(host, &before, &now)
 }
 
 // That the device failed is told too.

@@ -171,7 +171,8 @@ impl Glance {
         ensures same { (info : Bool) (w : World) → IsGlance info w self.now → IsGlance info w
             other.now → IfOk result (λ same. same ≡ true) }
     {
-        if !same_standing(&self.status, &other.status)? {
+        let same = same_standing(&self.status, &other.status)?;
+        if !same {
             return Ok(false);
         }
         Ok(

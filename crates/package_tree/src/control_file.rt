@@ -8,6 +8,7 @@ ghost use Rattle.package_tree.specs.ControlFile.{relation_order, IsGoodField, Ha
 
 use crate::fault::{FieldName, TreeFault};
 use control_fields::{ControlFault, Field, Paragraph, read_one};
+use host_core::Content;
 use relation_fields::RelationField;
 use stated_relations::{StatedRelations, stated_relations};
 use std::alloc::{AllocError, Global};
@@ -183,8 +184,8 @@ fn read_fields(alloc: Global, paragraph: &Paragraph) -> Result<(Text, Version), 
     Ok((Text::from_str(alloc, name)?, version))
 }
 
-/// Reads the text of a control file.
-pub(crate) fn read_control(alloc: Global, text: &[u8]) -> Result<ControlFile, TreeFault>
+// Reads the text of a control file.
+fn read_text(alloc: Global, text: &[u8]) -> Result<ControlFile, TreeFault>
     ensures control { IfOk result
         (λ file. IsControlText text.now file.paragraph file.name file.version) }
     ensures fault { IfErr result (IsTextFault text.now) }
@@ -198,4 +199,13 @@ pub(crate) fn read_control(alloc: Global, text: &[u8]) -> Result<ControlFile, Tr
         paragraph,
         relations,
     })
+}
+
+/// Reads what a control file holds.
+pub(crate) fn read_control(alloc: Global, content: &Content) -> Result<ControlFile, TreeFault>
+    ensures control { IfOk result
+        (λ file. IsControlText content.now file.paragraph file.name file.version) }
+    ensures fault { IfErr result (IsTextFault content.now) }
+{
+    read_text(alloc, content.held()?)
 }

@@ -301,7 +301,7 @@ pub fn read_control_file<H: Host>(alloc: Global, host: &mut H) -> Result<Control
     ensures counts { CountsTree (H.state host.old) (H.state host.new) result }
 {
     let text = control_text(alloc, host)?;
-    read_control(alloc, text.as_slice())
+    read_control(alloc, &text)
 }
 
 // The first bad path; where none is bad, the paths that are shipped.

@@ -10,7 +10,7 @@ ghost use Rattle.verification.specs.Told.{IsToldBeside};
 
 use crate::difference::{Difference, add_difference};
 use diversions::Diversions;
-use host_core::{Access, Host, HostFault, Node, RootPath};
+use host_core::{Access, Content, Host, HostFault, Node, RootPath};
 use package_tree::Shipped;
 use std::alloc::{AllocError, Global};
 use texts::Text;
@@ -27,17 +27,29 @@ fn unless(same: bool, difference: Difference) -> Option<Difference>
     if same { None } else { Some(difference) }
 }
 
-fn file_difference(bytes: &[u8], access: Access, others: &[u8], owned: Access) -> Option<Difference>
-    ensures { result ≡ file_difference bytes.now access others.now owned }
+fn file_difference<H: Host>(
+    host: &mut H,
+    bytes: &Content,
+    access: Access,
+    others: &Content,
+    owned: Access,
+) -> Result<Option<Difference>, HostFault>
+    ensures looks { Looks result (λ d w. d ≡ file_difference bytes.now access others.now owned)
+        (H.state host.old) (H.state host.new) }
 {
-    if bytes == others {
-        return unless(same_access(access, owned), Difference::Access);
+    if host.same(bytes, others)? {
+        return Ok(unless(same_access(access, owned), Difference::Access));
     }
-    Some(Difference::Bytes)
+    Ok(Some(Difference::Bytes))
 }
 
-fn difference_of(node: &Node, shipped: &Node) -> Option<Difference>
-    ensures { result ≡ difference_between (Some node.now) shipped.now }
+fn difference_of<H: Host>(
+    host: &mut H,
+    node: &Node,
+    shipped: &Node,
+) -> Result<Option<Difference>, HostFault>
+    ensures looks { Looks result (λ d w. d ≡ difference_between (Some node.now) shipped.now)
+        (H.state host.old) (H.state host.new) }
 {
     match (node, shipped) {
         (
@@ -46,31 +58,37 @@ fn difference_of(node: &Node, shipped: &Node) -> Option<Difference>
                 bytes: others,
                 access: owned,
             },
-        ) => file_difference(bytes.as_slice(), *access, others.as_slice(), *owned),
-        (Node::File { .. }, Node::Dir { .. }) => Some(Difference::Kind),
-        (Node::File { .. }, Node::Link { .. }) => Some(Difference::Kind),
-        (Node::Dir { .. }, Node::File { .. }) => Some(Difference::Kind),
+        ) => file_difference(host, bytes, *access, others, *owned),
+        (Node::File { .. }, Node::Dir { .. }) => Ok(Some(Difference::Kind)),
+        (Node::File { .. }, Node::Link { .. }) => Ok(Some(Difference::Kind)),
+        (Node::Dir { .. }, Node::File { .. }) => Ok(Some(Difference::Kind)),
         (Node::Dir { access }, Node::Dir { access: owned }) => {
-            unless(same_access(*access, *owned), Difference::Access)
+            Ok(unless(same_access(*access, *owned), Difference::Access))
         }
-        (Node::Dir { .. }, Node::Link { .. }) => Some(Difference::Kind),
-        (Node::Link { .. }, Node::File { .. }) => Some(Difference::Kind),
-        (Node::Link { .. }, Node::Dir { .. }) => Some(Difference::Kind),
+        (Node::Dir { .. }, Node::Link { .. }) => Ok(Some(Difference::Kind)),
+        (Node::Link { .. }, Node::File { .. }) => Ok(Some(Difference::Kind)),
+        (Node::Link { .. }, Node::Dir { .. }) => Ok(Some(Difference::Kind)),
         (Node::Link { target }, Node::Link { target: aimed }) => {
-            unless(target.is(aimed), Difference::Target)
+            Ok(unless(target.is(aimed), Difference::Target))
         }
     }
 }
 
-fn difference_between(node: &Option<Node>, shipped: &Node) -> Option<Difference>
-    ensures { result ≡ difference_between node.now shipped.now }
+fn difference_between<H: Host>(
+    host: &mut H,
+    node: &Option<Node>,
+    shipped: &Node,
+) -> Result<Option<Difference>, HostFault>
+    ensures looks { Looks result (λ d w. d ≡ difference_between node.now shipped.now)
+        (H.state host.old) (H.state host.new) }
 {
     match node {
-        None => Some(Difference::Missing),
-        Some(node) => difference_of(node, shipped),
+        None => Ok(Some(Difference::Missing)),
+        Some(node) => difference_of(host, node, shipped),
     }
 }
 
+#[tactic(auto, using(host_core::proofs::Moments::reads_then))]
 fn compare<H: Host>(
     host: &mut H,
     place: &RootPath,
@@ -80,7 +98,7 @@ fn compare<H: Host>(
         (H.state host.old) (H.state host.new) }
 {
     let node = host.node(place)?;
-    Ok(difference_between(&node, shipped))
+    difference_between(host, &node, shipped)
 }
 
 // That the device failed is told too.

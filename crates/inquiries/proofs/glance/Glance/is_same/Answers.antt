@@ -5,7 +5,7 @@ use Rattle.inquiries.proofs.glance.Glance.is_same.Goals as goal
 pub returns-in_ok-same_names-2-clause-exact : goal.returns-in_ok-same_names-2-clause-exact
 returns-in_ok-same_names-2-clause-exact c = (
   λ t. record {
-    status = standing_is c.args.self.now.status c.args.other.now.status (sym c.same_standing.ensures ∙ c.if-not-same_standing.false);
+    status = standing_is c.args.self.now.status c.args.other.now.status (sym c.in_ok-same.ensures ∙ c.if-not-same.false);
     updates = c.in_ok-same_names.ensures.0 c.if-branch.true;
     info = c.in_ok-same_names-2.ensures.0 t;
   },

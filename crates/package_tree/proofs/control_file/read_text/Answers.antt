@@ -2,7 +2,7 @@ use Rattle.std.proofs.Common.{◌≡◌, true, subst}
 use Rattle.texts.specs.PackageNames.{is_package_name}
 use Rattle.package_tree.proofs.Passing.{passed_fault, told_fields}
 use Rattle.package_tree.proofs.RelationsInOrder.{all_readable}
-use Rattle.package_tree.proofs.control_file.read_control.Goals as goal
+use Rattle.package_tree.proofs.control_file.read_text.Goals as goal
 
 pub returns-in_err-paragraph-clause-fault : goal.returns-in_err-paragraph-clause-fault
 returns-in_err-paragraph-clause-fault c = passed_fault _ c.from_residual.result c.in_err-paragraph.field-0.0 c.from_residual.ensures.1 c.in_err-paragraph.ensures.fault
