@@ -196,6 +196,10 @@ called_mid : (text : List ℕ) (xs : List Field) (f : Field) (ys : List Field) �
 called_mid text [] f ys named = ap (λ y. y || is_called text ys) (told_same (lower f.name) text named)
 called_mid text (g ∷ xs) f ys named = ap (λ y. bytes_eq (lower g.name) text || y) (called_mid text xs f ys named) ∙ or_right (bytes_eq (lower g.name) text) true refl
 
+-- a field that was found by a name stands
+pub called_there : (text : List ℕ) (fs : List Field) (f : Field) → IsFieldCalled text fs f → true ≡ is_called text fs
+called_there text fs f found = sym (ap (is_called text) found.is ∙ called_mid text found.front f found.rest found.named)
+
 pub called_at : (text : List ℕ) (all left next : List Field) (ys : List (Bor Field)) (x : Bor Field) → all ≡ map (λ b. b.now) ys ++ left → left ≡ x.now ∷ next → lower x.now.name ≡ text → true ≡ is_called text all
 called_at text all left next ys x e f named = sym (ap (is_called text) (e ∙ ap (λ (l : List Field). map (λ b. b.now) ys ++ l) f) ∙ called_mid text (map (λ b. b.now) ys) x.now next named)
 

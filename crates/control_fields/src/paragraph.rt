@@ -92,6 +92,20 @@ impl Paragraph {
         false
     }
 
+    /// The same, but many fields are not gone through one by one.
+    pub(crate) fn finds(&self, name: &[u8]) -> Result<bool, AllocError>
+        ensures { IfOk result (λ found. found ≡ stands name.now self.now) }
+    {
+        if self.fields.len() < 32 {
+            return Ok(self.has(name));
+        }
+        let key = key_of(self.alloc, name)?;
+        match self.get(key.as_slice()) {
+            Some(_) => Ok(true),
+            None => Ok(false),
+        }
+    }
+
     /// Adds a field at the end; `has` tells whether its name already stands.
     pub fn push(&mut self, field: Field) -> Result<(), AllocError>
         requires { stands field.name self.old ≡ false }

@@ -167,7 +167,7 @@ fn take_line(
             if !is_name(name) {
                 return Err(LineFault::Faulty(Kind::BadName));
             }
-            if begun.paragraph.has(name) {
+            if begun.paragraph.finds(name)? {
                 return Err(LineFault::Faulty(Kind::Twice));
             }
             add_field(alloc, number, name, value, begun)?;

@@ -1,5 +1,5 @@
 -- Fields put among others, and in dpkg's order.
-use Rattle.std.proofs.Common.{◌≡◌, ℕ, suc, ◌+◌, ◌<◌, Bool, true, false, cond, ◌||◌, Option, Some, List, [], ◌∷◌, ◌++◌, take, drop, get_or, length, Bor, map, refl, sym, ap, subst, ◌∙◌, append_assoc, arith}
+use Rattle.std.proofs.Common.{◌≡◌, ℕ, suc, ◌+◌, ◌<◌, ◌≤◌, Bool, true, false, not, cond, ◌||◌, Option, Some, List, [], ◌∷◌, ◌++◌, take, drop, get_or, length, Bor, map, refl, sym, ap, subst, ◌∙◌, append_assoc, arith}
 use Rattle.std.specs.Prelude.{filter, fold, nat_lt}
 use Rattle.std.specs.Str.{bytes_eq}
 use Rattle.std.specs.List.{AllByRecursion, insert, prefix_len}
@@ -8,10 +8,11 @@ use Rattle.std.proofs.Math.Logic.{∥∥₁_elim, ∥∥₁_map}
 use Rattle.std.proofs.lemmas.Bool.{or_from, or_parts, ltb-true, ltb-false, lt-ltb, le-ltb}
 use Rattle.std.proofs.lemmas.List.{map-append, drop_more, take-append-drop}
 use Rattle.std.proofs.lemmas.List.Folds.{list_any-append}
+use Rattle.std.proofs.lemmas.List.Sums.{prefix_len-le-length}
 use Rattle.control_fields.specs.Names.{lower, is_called, stands}
 use Rattle.control_fields.specs.Spelling.{AreFields}
 use Rattle.control_fields.specs.declared.field.Field.{Field}
-use Rattle.status_records.specs.Order.{rank, before_first, merged, in_dpkgs_order}
+use Rattle.status_records.specs.Order.{dpkgs_names, rank, before_first, merged, in_dpkgs_order}
 use Rattle.texts.specs.PackageNames.{is_package_name}
 use Rattle.status_records.specs.Fields.{own_names, is_one_of, recorded_fields}
 use Rattle.status_records.specs.Values.{IsReadable, IsReadableControl}
@@ -227,6 +228,16 @@ put_at f (x ∷ xs) = by (nat_lt (rank x) (rank f + 1)) refl (put_at f xs)
         let on : suc count ≡ 1 + count = omega arith in
         ap (λ b. cond b (f ∷ x ∷ xs) (x ∷ merged (f ∷ []) xs)) (not_behind (rank x) (rank f) e) ∙ ap (λ (l : List Field). x ∷ l) rest ∙ ap (λ n. insert (x ∷ xs) n f) on
     by false e rest = ap (λ b. cond b (f ∷ x ∷ xs) (x ∷ merged (f ∷ []) xs)) (is_behind (rank x) (rank f) e)
+
+-- behind the place of each
+pub none_behind : (place : ℕ) → 33 ≤ place → (fs : List Field) → length fs ≡ prefix_len (λ f. nat_lt (rank f) (place + 1)) fs
+none_behind place end [] = refl
+none_behind place end (f ∷ fs) =
+    let rest = prefix_len (λ h. nat_lt (rank h) (place + 1)) fs in
+    let within : rank f ≤ 33 = prefix_len-le-length (λ n. not (bytes_eq (lower f.name) n)) dpkgs_names in
+    let so_far : length fs ≡ rest = none_behind place end fs in
+    let on : suc (length fs) ≡ 1 + rest = omega (arith, so_far) in
+    on ∙ ap (λ b. cond b (1 + rest) 0) (sym (lt-ltb (rank f) (place + 1) (omega (arith, within, end))))
 
 -- the steps of loops that write them
 

@@ -1,5 +1,5 @@
 // The order in which dpkg writes the fields of a record.
-ghost use Rattle.std.specs.Prelude.{◌≡◌, ◌≤◌, ◌++◌, [], IfOk, OnOk, length, nat_lt};
+ghost use Rattle.std.specs.Prelude.{◌≡◌, ◌≤◌, ◌+◌, ◌++◌, [], IfOk, OnOk, length, nat_lt};
 ghost use Rattle.std.specs.List.{AllByRecursion, position_or_len, prefix_len};
 ghost use Rattle.std.specs.Str.{bytes_eq};
 ghost use Rattle.control_fields.specs.Names.{lower};
@@ -86,6 +86,18 @@ fn count_before(fields: &[Field], place: usize) -> usize
     fields.len()
 }
 
+// How many of the fields, from the first on, don't come behind a place in dpkg's order: all, at the place behind its
+// names, without a look at any of them.
+fn place_among(fields: &[Field], place: usize) -> usize
+    ensures within { result ≤ length fields.now }
+    ensures value { result ≡ prefix_len (λ f. nat_lt (rank f) (place + 1)) fields.now }
+{
+    if place >= NAMES.len() {
+        return fields.len();
+    }
+    count_before(fields, place + 1)
+}
+
 // Adds fields behind all others.
 fn add_all(fields: &[Field], paragraph: &mut Paragraph) -> Result<(), AllocError>
     requires { ∥ AreFields [] (paragraph.old ++ fields.now) ∥₁ }
@@ -125,7 +137,7 @@ pub(crate) fn in_dpkgs_order(alloc: Global, fields: &Paragraph) -> Result<Paragr
 {
     let mut sorted = Vec::new(alloc);
     for field in fields.fields() {
-        let place = count_before(sorted.as_slice(), rank(field) + 1);
+        let place = place_among(sorted.as_slice(), rank(field));
         sorted.insert(place, field.copy()?)?;
     }
     let mut paragraph = Paragraph::new(alloc);

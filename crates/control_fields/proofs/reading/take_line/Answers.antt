@@ -41,13 +41,13 @@ returns-then-not-is_name-clause-fault c =
       refl,
     )
 
-pub returns-then-has-clause-fault : goal.returns-then-has-clause-fault
-returns-then-has-clause-fault c =
+pub returns-then-branch-clause-fault : goal.returns-then-branch-clause-fault
+returns-then-branch-clause-fault c =
     let utf8 : IsUtf8 c.args.line.now = search rules in
     let good : IsName c.in-Some.name.now = search rules in (
       twice c.args.line.now (at c.args.done.now.items c.args.begun.now.line c.args.begun.now.paragraph) c.in-Some.name.now c.in-Some.value.now utf8
           (record { parts = c.in-Some.ensures.some.0; first = c.in-Some.ensures.some.1 })
-          (unblank c.args.line.now c.trim_end.result.now c.trim_end.ensures (sym c.is_blank.ensures ∙ c.if-is_blank.false)) good (sym c.has.ensures ∙ c.if-has.true),
+          (unblank c.args.line.now c.trim_end.result.now c.trim_end.ensures (sym c.is_blank.ensures ∙ c.if-is_blank.false)) good (sym c.in_ok-finds-in_default.ensures ∙ c.if-branch.true),
       refl,
     )
 
@@ -56,4 +56,4 @@ returns-in_default-clause-takes c =
     let utf8 : IsUtf8 c.args.line.now = search rules in
     let good : IsName c.in-Some.name.now = search rules in
     takes_field c.args.number c.args.line.now c.args.done.now.items c.args.done.now.items c.args.begun.now.line c.add_field.new.begun.line c.args.begun.now.paragraph c.add_field.new.begun.paragraph c.in-Some.name.now c.in-Some.value.now utf8
-    c.in-Some.ensures.some.0 c.in-Some.ensures.some.1 good (sym c.has.ensures ∙ c.if-has.false) refl c.in_ok-add_field-in_default.ensures.line c.in_ok-add_field-in_default.ensures.paragraph
+    c.in-Some.ensures.some.0 c.in-Some.ensures.some.1 good (sym c.in_ok-finds-in_default.ensures ∙ c.if-branch.false) refl c.in_ok-add_field-in_default.ensures.line c.in_ok-add_field-in_default.ensures.paragraph

@@ -13,9 +13,9 @@ use Rattle.status_records.proofs.order.in_dpkgs_order.Goals as goal
 pub loop-field-preserved : goal.loop-field-preserved
 loop-field-preserved c =
     let sorted = c.loop-field.sorted.items in
-    let place : c.count_before-place.result ≡ prefix_len (λ g. nat_lt (rank g) (c.rank.result + 1)) c.as_slice.result.now = c.count_before-place.ensures.value in
-    let at : c.count_before-place.result ≡ prefix_len (λ g. nat_lt (rank g) (rank c.in-Some.field.now + 1)) sorted = place ∙ (λ i. prefix_len (λ g. nat_lt (rank g) (c.rank.ensures i + 1)) (c.as_slice.ensures.value i)) in (
-      put_more sorted c.insert.new.self.items c.loop-field.yielded c.in-Some.field c.in_ok-copy.field-0 c.count_before-place.result c.loop-field.invariant.0 c.in_ok-insert.ensures.items c.in_ok-copy.ensures at,
+    let place : c.place_among-place.result ≡ prefix_len (λ g. nat_lt (rank g) (c.rank.result + 1)) c.as_slice.result.now = c.place_among-place.ensures.value in
+    let at : c.place_among-place.result ≡ prefix_len (λ g. nat_lt (rank g) (rank c.in-Some.field.now + 1)) sorted = place ∙ (λ i. prefix_len (λ g. nat_lt (rank g) (c.rank.ensures i + 1)) (c.as_slice.ensures.value i)) in (
+      put_more sorted c.insert.new.self.items c.loop-field.yielded c.in-Some.field c.in_ok-copy.field-0 c.place_among-place.result c.loop-field.invariant.0 c.in_ok-insert.ensures.items c.in_ok-copy.ensures at,
       walk_more c.args.fields.now c.loop-field.field-iterator c.next.new.self c.loop-field.yielded c.in-Some.field c.loop-field.invariant.1 c.in-Some.ensures.steps,
     )
 
