@@ -49,6 +49,19 @@ first_too_large w front rest path count are small few why =
     earlier : (p : Path) → Contains front p → Contains (front ++ path ∷ rest) p
     earlier p has = Contains-append_left front (path ∷ rest) p has
 
+-- the path behind so many
+pub many_before : (w : World) (paths : List Path) (i : ℕ) (path : Path) (count : ℕ) → AreShipped w paths → i < length paths → path ≡ get_or paths i path → i ≡ count → HasBefore count w path
+many_before w paths i path count are lt is same =
+    let front = take i paths in
+    let rest = drop (suc i) paths in
+    let whole : paths ≡ front ++ path ∷ rest = split_at paths i path lt ∙ ap (λ (p : Path). take i paths ++ p ∷ drop (suc i) paths) (sym is) in
+    let split = subst (AreShipped w) whole are in (
+      front,
+      length-take-le i paths (omega (arith, lt)) ∙ same,
+      order_front front (path ∷ rest) split.order,
+      λ p has. (split.only p (Contains-append_left front (path ∷ rest) p has), ahead front rest path p split.order has),
+    )
+
 -- none is
 pub none_too_large : (w : World) (paths : List Path) (count : ℕ) → AreShipped w paths → AllByRecursion (λ q. IsLarge (w q) → ⊥) paths → length paths ≤ count → HasNoPath (λ q. IsShipped w q × (IsLarge (w q) ⊎ HasBefore count w q))
 none_too_large w paths count are small few q is = elim is.1 [

@@ -8,10 +8,11 @@ use Rattle.package_tree.specs.ConffileFaults.{IsAstray, IsFirstAstray, IsFlagged
 use Rattle.package_tree.specs.Debian.{conffiles_path}
 use Rattle.package_tree.specs.PathFaults.{AreGoodPaths}
 use Rattle.package_tree.specs.Reading.{AreLinesOf}
-use Rattle.package_tree.specs.ShipMap.{AreFiles, IsTooLarge}
+use Rattle.package_tree.specs.ShipMap.{AreFiles, IsExcess, IsTooLarge}
 use Rattle.package_tree.specs.Shipped.{ArePathTexts, HasNoPath, IsFirstPath}
 use Rattle.package_tree.specs.declared.conffile_lines.Entry.{Entry}
 use Rattle.package_tree.specs.declared.fault.LineName.{LineName}
+use Rattle.package_tree.specs.declared.collecting.Excess.{Excess}
 use Rattle.package_tree.specs.declared.reading.Lines.{Lines}
 use Rattle.package_tree.specs.declared.shipped.Shipped.{Shipped}
 use Rattle.package_tree.proofs.Firsts.{ship_line}
@@ -23,8 +24,8 @@ Astray w entries found = MatchOption found (HasNoEntry (IsAstray w) entries) (Is
 abbrev pub Shared : List Path → List Path → Option Path → Type 0
 Shared flagged paths found = MatchOption found (HasNoPath (IsOfBoth flagged paths)) (IsFirstPath (IsOfBoth flagged paths))
 
-abbrev pub Large : World → List Shipped → Option Path → Type 0
-Large w files found = MatchOption found (AreFiles w files × HasNoPath (IsTooLarge w)) (IsFirstPath (IsTooLarge w))
+abbrev pub Large : World → List Shipped → Option Excess → Type 0
+Large w files found = MatchOption found (AreFiles w files × HasNoPath (IsTooLarge w)) (IsExcess w)
 
 pub flagged_shipped : (w : World) (paths : List Path) (lines : Lines) → AreGoodPaths w paths → ArePathTexts paths → AreLinesOf (entries_at (w conffiles_path)) lines → (q : Path) → IsFlaggedAndShipped w q → IsOfBoth lines.flagged.items paths q
 flagged_shipped w paths lines good texts are q is = (are.whole q (ship_line w paths good.0 good.1 texts q is.1) (flagged_line q (entries_at (w conffiles_path)) is.0), good.1.whole q is.1)

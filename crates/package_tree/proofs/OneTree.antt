@@ -38,7 +38,7 @@ use Rattle.package_tree.specs.declared.fault.FieldName.{FieldName}
 use Rattle.package_tree.specs.declared.fault.FieldName.TheVariants as field
 use Rattle.relation_fields.specs.declared.relation_field.RelationField.{RelationField}
 use Rattle.package_tree.specs.declared.fault.TreeFault.{TreeFault}
-use Rattle.package_tree.specs.declared.fault.TreeFault.TheVariants.{Twice, NoRoom, NoControl, Control, FieldMissing, FieldBad, PathBad, Reserved, ConffileNotShipped, ConffileShipped, ConffileFlag, TooLarge, Device, NoMemory, Declined}
+use Rattle.package_tree.specs.declared.fault.TreeFault.TheVariants.{Twice, NoRoom, NoControl, Control, FieldMissing, FieldBad, PathBad, Reserved, ConffileNotShipped, ConffileShipped, ConffileFlag, TooLarge, TooMany, Device, NoMemory, Declined}
 use Rattle.package_tree.proofs.Ordered.{none_in, first_or_later, same_list}
 use Rattle.package_tree.proofs.FieldsOnce.{lacked, one_value, not_bad, not_lacked}
 use Rattle.package_tree.proofs.OneStated.{stated_once}
@@ -99,6 +99,7 @@ no_fault w p (ConffileNotShipped name) t wrong = first_of_none (IsAstray w) _ wr
 no_fault w p (ConffileShipped path) t wrong = t.lines.flagged path wrong.3.holds
 no_fault w p (ConffileFlag line) t wrong = first_of_none IsOdd _ line wrong.4.0 t.lines.words wrong.4.1
 no_fault w p (TooLarge path) t wrong = t.room path wrong.3.holds
+no_fault w p TooMany t wrong = t.room wrong.3 wrong.4.holds
 no_fault w p Device t wrong = wrong
 no_fault w p NoMemory t wrong = wrong
 no_fault w p Declined t wrong = wrong

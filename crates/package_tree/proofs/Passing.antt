@@ -8,7 +8,7 @@ use Rattle.host_core.proofs.Counted.{declined_then, no_fault_then}
 use Rattle.package_tree.specs.Fault.{CountsTree}
 use Rattle.package_tree.specs.ControlFile.{IsFieldFault, IsTextFault}
 use Rattle.package_tree.specs.declared.fault.TreeFault.{TreeFault}
-use Rattle.package_tree.specs.declared.fault.TreeFault.TheVariants.{Twice, NoRoom, NoControl, Control, FieldMissing, FieldBad, PathBad, Reserved, ConffileNotShipped, ConffileShipped, ConffileFlag, TooLarge, Device, NoMemory, Declined}
+use Rattle.package_tree.specs.declared.fault.TreeFault.TheVariants.{Twice, NoRoom, NoControl, Control, FieldMissing, FieldBad, PathBad, Reserved, ConffileNotShipped, ConffileShipped, ConffileFlag, TooLarge, TooMany, Device, NoMemory, Declined}
 
 -- it is that of the call
 pub passed_fault : {T : Type 0} (P : TreeFault → Type 0) (r : Result T TreeFault) (fault : TreeFault) → IsErrAnd r (λ e. e ≡ fault) → P fault → IfErr r P
@@ -29,6 +29,7 @@ told_fields text paragraph (ConffileNotShipped name) reads is = absurd is
 told_fields text paragraph (ConffileShipped path) reads is = absurd is
 told_fields text paragraph (ConffileFlag line) reads is = absurd is
 told_fields text paragraph (TooLarge path) reads is = absurd is
+told_fields text paragraph TooMany reads is = absurd is
 told_fields text paragraph Device reads is = absurd is
 told_fields text paragraph NoMemory reads is = tt
 told_fields text paragraph Declined reads is = absurd is
@@ -47,6 +48,7 @@ counts_since T U a b c (ConffileNotShipped name) same told = no_fault_then a b c
 counts_since T U a b c (ConffileShipped path) same told = no_fault_then a b c same told
 counts_since T U a b c (ConffileFlag line) same told = no_fault_then a b c same told
 counts_since T U a b c (TooLarge path) same told = no_fault_then a b c same told
+counts_since T U a b c TooMany same told = no_fault_then a b c same told
 counts_since T U a b c Device same told = record { once = told.once ∙ ap (λ n. n + 1) same.faults; last = told.last }
 counts_since T U a b c NoMemory same told = no_fault_then a b c same told
 counts_since T U a b c Declined same told = declined_then a b c same told

@@ -4,7 +4,7 @@ use Rattle.host_core.specs.Host.{State, faults, HasFailed, NoFault, HasDeclined}
 use Rattle.host_core.specs.declared.fault.HostFault.{HostFault}
 use Rattle.host_core.specs.declared.fault.HostFault.TheVariants as host
 use Rattle.package_tree.specs.declared.fault.TreeFault.{TreeFault}
-use Rattle.package_tree.specs.declared.fault.TreeFault.TheVariants.{Twice, NoRoom, NoControl, Control, FieldMissing, FieldBad, PathBad, Reserved, ConffileNotShipped, ConffileShipped, ConffileFlag, TooLarge, Device, NoMemory, Declined}
+use Rattle.package_tree.specs.declared.fault.TreeFault.TheVariants.{Twice, NoRoom, NoControl, Control, FieldMissing, FieldBad, PathBad, Reserved, ConffileNotShipped, ConffileShipped, ConffileFlag, TooLarge, TooMany, Device, NoMemory, Declined}
 
 abbrev pub fault_of : HostFault → TreeFault
 fault_of host.Device = Device
@@ -26,6 +26,7 @@ CountsTree old new (Err (ConffileNotShipped name)) = NoFault old new
 CountsTree old new (Err (ConffileShipped path)) = NoFault old new
 CountsTree old new (Err (ConffileFlag line)) = NoFault old new
 CountsTree old new (Err (TooLarge path)) = NoFault old new
+CountsTree old new (Err TooMany) = NoFault old new
 CountsTree old new (Err Device) = HasFailed old new
 CountsTree old new (Err NoMemory) = NoFault old new
 CountsTree old new (Err Declined) = HasDeclined old new
@@ -44,6 +45,7 @@ IsHostFault (ConffileNotShipped name) = ⊥
 IsHostFault (ConffileShipped path) = ⊥
 IsHostFault (ConffileFlag line) = ⊥
 IsHostFault (TooLarge path) = ⊥
+IsHostFault TooMany = ⊥
 IsHostFault Device = Unit {0}
 IsHostFault NoMemory = Unit {0}
 IsHostFault Declined = Unit {0}

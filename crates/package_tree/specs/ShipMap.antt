@@ -7,7 +7,9 @@ use Rattle.host_core.specs.declared.node.Access.{Access}
 use Rattle.host_core.specs.declared.node.Kind.TheVariants as kind
 use Rattle.host_core.specs.declared.node.Node.{Node}
 use Rattle.host_core.specs.declared.node.Node.TheVariants.{File}
-use Rattle.package_tree.specs.Shipped.{AreInOrder, AreShipped, IsBefore, IsShipped}
+use Rattle.package_tree.specs.Shipped.{AreInOrder, AreShipped, IsBefore, IsFirstPath, IsShipped}
+use Rattle.package_tree.specs.declared.collecting.Excess.{Excess}
+use Rattle.package_tree.specs.declared.collecting.Excess.TheVariants.{Large, Many}
 use Rattle.package_tree.specs.declared.shipped.Shipped.{Shipped}
 
 abbrev pub paths_of : List Shipped → List Path
@@ -42,3 +44,8 @@ HasBefore count w q = (paths : List Path) × (length paths ≡ count) × AreInOr
 -- a shipped path is more than a tree may hold: a file of more than 16 GiB, or a path behind 65,536 others
 abbrev pub IsTooLarge : World → Path → Type 0
 IsTooLarge w q = IsShipped w q × (IsLarge (w q) ⊎ HasBefore 65536 w q)
+
+-- the first path that is more than a tree may hold, and why it is
+abbrev pub IsExcess : World → Excess → Type 0
+IsExcess w (Large path) = IsFirstPath (IsTooLarge w) path × IsLarge (w path)
+IsExcess w (Many path) = IsFirstPath (IsTooLarge w) path × HasBefore 65536 w path

@@ -1,5 +1,6 @@
 -- The reading of a package's tree (Policy 5.6, 6.1).
 use Rattle.std.specs.Prelude.{◌≡◌, ◌⊎◌, ◌↔◌, ℕ, List, IsTrue}
+use Rattle.host_core.specs.Paths.{Path}
 use Rattle.host_core.specs.World.{World}
 use Rattle.host_core.specs.declared.call.Script.{Script}
 use Rattle.control_fields.specs.declared.field.Field.{Field}
@@ -13,12 +14,13 @@ use Rattle.package_tree.specs.Fault.{IsHostFault}
 use Rattle.package_tree.specs.PathFaults.{HasGoodPaths, IsBadPath}
 use Rattle.package_tree.specs.OtherFiles.{AreOthers}
 use Rattle.package_tree.specs.Owners.{root_at}
-use Rattle.package_tree.specs.ShipMap.{AreFiles, IsTooLarge}
+use Rattle.package_tree.specs.ShipMap.{AreFiles, IsExcess, IsTooLarge}
 use Rattle.package_tree.specs.Shipped.{HasNoPath, IsFirstPath, IsReserved}
+use Rattle.package_tree.specs.declared.collecting.Excess.TheVariants.{Large, Many}
 use Rattle.package_tree.specs.declared.conffile_lines.Entry.TheVariants.{Plain, Flagged}
 use Rattle.package_tree.specs.declared.package.Package.{Package}
 use Rattle.package_tree.specs.declared.fault.TreeFault.{TreeFault}
-use Rattle.package_tree.specs.declared.fault.TreeFault.TheVariants.{Twice, NoRoom, NoControl, Control, FieldMissing, FieldBad, PathBad, Reserved, ConffileNotShipped, ConffileShipped, ConffileFlag, TooLarge, Device, NoMemory, Declined}
+use Rattle.package_tree.specs.declared.fault.TreeFault.TheVariants.{Twice, NoRoom, NoControl, Control, FieldMissing, FieldBad, PathBad, Reserved, ConffileNotShipped, ConffileShipped, ConffileFlag, TooLarge, TooMany, Device, NoMemory, Declined}
 
 -- the tree's control file has this text
 abbrev pub HasControl : World → List ℕ → Type 0
@@ -70,7 +72,8 @@ IsTreeFault w (ConffileShipped path) =
 IsTreeFault w (ConffileFlag line) =
     HasGoodControl w × HasGoodPaths w × HasNoEntry (IsAstray w) (entries_at (w conffiles_path)) × HasNoPath (IsFlaggedAndShipped w)
     × IsFirstOdd (entries_at (w conffiles_path)) line
-IsTreeFault w (TooLarge path) = HasGoodControl w × HasGoodPaths w × HasGoodLines w × IsFirstPath (IsTooLarge w) path
+IsTreeFault w (TooLarge path) = HasGoodControl w × HasGoodPaths w × HasGoodLines w × IsExcess w (Large path)
+IsTreeFault w TooMany = HasGoodControl w × HasGoodPaths w × HasGoodLines w × ((path : Path) × IsExcess w (Many path))
 IsTreeFault w Device = ⊥
 IsTreeFault w NoMemory = ⊥
 IsTreeFault w Declined = ⊥

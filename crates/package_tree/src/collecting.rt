@@ -3,8 +3,8 @@ ghost use Rattle.std.specs.Prelude.{◌≡◌, ◌≤◌, ◌++◌, ◌∷◌, [
 ghost use Rattle.host_core.specs.Host.{Needs};
 ghost use Rattle.host_core.specs.Looks.{Looks};
 ghost use Rattle.host_core.specs.declared.node.Node.{Node as ANode};
-ghost use Rattle.package_tree.specs.ShipMap.{paths_of, AreFiles, IsLarge, IsTooLarge};
-ghost use Rattle.package_tree.specs.Shipped.{AreShipped, HasNoPath, IsFirstPath};
+ghost use Rattle.package_tree.specs.ShipMap.{paths_of, AreFiles, IsExcess, IsLarge, IsTooLarge};
+ghost use Rattle.package_tree.specs.Shipped.{AreShipped, HasNoPath};
 
 use crate::shipped::Shipped;
 use host_core::{Host, HostFault, Node, RootPath, ShipPath};
@@ -15,6 +15,13 @@ const MOST_PATHS: usize = 65_536;
 
 // The most bytes of a shipped file: 16 GiB.
 const MOST_BYTES: u64 = 17_179_869_184;
+
+/// Why a shipped path is more than a tree may hold: its file is too large, or as many paths as may be come before it.
+#[derive(Drop)]
+pub(crate) enum Excess {
+    Large(RootPath),
+    Many(RootPath),
+}
 
 fn is_large(node: &Option<Node>) -> bool
     ensures { MatchBool result (IsLarge node.now) (IsLarge node.now → ⊥) }
@@ -83,23 +90,23 @@ pub(crate) fn collect<H: Host>(
     host: &mut H,
     paths: &[RootPath],
     files: &mut Vec<Shipped>,
-) -> Result<Option<RootPath>, HostFault>
+) -> Result<Option<Excess>, HostFault>
     requires empty { files.old.items ≡ [] }
     requires shipped { Needs (H.state host.old) (λ w. AreShipped w paths.now) }
     ensures looks { Looks result
-        (λ large w. MatchOption large (AreFiles w files.new.items × HasNoPath (IsTooLarge w))
-        (IsFirstPath (IsTooLarge w)))
+        (λ excess w. MatchOption excess (AreFiles w files.new.items × HasNoPath (IsTooLarge w))
+        (IsExcess w))
         (H.state host.old) (H.state host.new) }
     ensures whole { IfOk result
-        (λ large.
-        IfNone large ((paths_of files.new.items ≡ paths.now) × (length files.new.items ≤ 65536))) }
+        (λ excess.
+        IfNone excess ((paths_of files.new.items ≡ paths.now) × (length files.new.items ≤ 65536))) }
 {
     for (index, path) in paths.iter().enumerate() {
         if index >= MOST_PATHS {
-            return Ok(Some(path.copy()?));
+            return Ok(Some(Excess::Many(path.copy()?)));
         }
         if add(alloc, host, path, files)? {
-            return Ok(Some(path.copy()?));
+            return Ok(Some(Excess::Large(path.copy()?)));
         }
     }
     Ok(None)

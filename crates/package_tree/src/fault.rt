@@ -79,9 +79,12 @@ pub enum TreeFault {
     /// A line of `DEBIAN/conffiles` is neither a path nor a flagged one.
     #[error("ConffileFlag {0}")]
     ConffileFlag(u64),
-    /// A shipped file has more than 16 GiB, or this is the path after the first 65,536.
+    /// A shipped file has more than 16 GiB.
     #[error("TooLarge {0}")]
     TooLarge(RootPath),
+    /// More than 65,536 paths are shipped.
+    #[error("TooMany 65536")]
+    TooMany,
     #[error("Device")]
     Device,
     #[error("NoMemory")]
@@ -110,6 +113,7 @@ impl TreeFault {
             TreeFault::ConffileShipped(path) => Ok(TreeFault::ConffileShipped(path.copy()?)),
             TreeFault::ConffileFlag(line) => Ok(TreeFault::ConffileFlag(*line)),
             TreeFault::TooLarge(path) => Ok(TreeFault::TooLarge(path.copy()?)),
+            TreeFault::TooMany => Ok(TreeFault::TooMany),
             TreeFault::Device => Ok(TreeFault::Device),
             TreeFault::NoMemory => Ok(TreeFault::NoMemory),
             TreeFault::Declined => Ok(TreeFault::Declined),

@@ -21,7 +21,7 @@ ghost use Rattle.package_tree.specs.ShipMap.{paths_of, AreFiles, IsTooLarge};
 ghost use Rattle.package_tree.specs.Shipped.{AreInOrder, ArePathTexts, AreShipped, HasNoPath, IsBadBeside, IsFirstPath};
 ghost use Rattle.package_tree.specs.Tree.{HasControl, HasGoodControl, IsTreeOf, IsReadingFault};
 
-use crate::collecting::collect;
+use crate::collecting::{Excess, collect};
 use crate::conffile_lines::{Entry, entries_at, first_odd, is_white};
 use crate::control_file::{ControlFile, read_control};
 use crate::fault::TreeFault;
@@ -472,7 +472,8 @@ fn collect_files<H: Host>(
     ensures counts { CountsTree (H.state host.old) (H.state host.new) result }
 {
     match collect(alloc, host, paths, files)? {
-        Some(path) => Err(TreeFault::TooLarge(path)),
+        Some(Excess::Large(path)) => Err(TreeFault::TooLarge(path)),
+        Some(Excess::Many(_)) => Err(TreeFault::TooMany),
         None => Ok(()),
     }
 }

@@ -9,7 +9,7 @@ use Rattle.package_tree.specs.declared.fault.FieldName.TheVariants as field
 use Rattle.package_tree.specs.declared.fault.LineName.{LineName}
 use Rattle.package_tree.specs.declared.fault.LineName.TheVariants as named
 use Rattle.package_tree.specs.declared.fault.TreeFault.{TreeFault}
-use Rattle.package_tree.specs.declared.fault.TreeFault.TheVariants.{Twice, NoRoom, NoControl, Control, FieldMissing, FieldBad, PathBad, Reserved, ConffileNotShipped, ConffileShipped, ConffileFlag, TooLarge, Device, NoMemory, Declined}
+use Rattle.package_tree.specs.declared.fault.TreeFault.TheVariants.{Twice, NoRoom, NoControl, Control, FieldMissing, FieldBad, PathBad, Reserved, ConffileNotShipped, ConffileShipped, ConffileFlag, TooLarge, TooMany, Device, NoMemory, Declined}
 use Rattle.relation_fields.specs.Printing.{print_clause}
 use Rattle.relation_fields.specs.RelationFields.{relation_name}
 use Rattle.diversions.specs.declared.refusal.Refusal.{Refusal as ItsRefusal}
@@ -59,6 +59,7 @@ tree_text (ConffileNotShipped name) = codes "ConffileNotShipped " ++ line_text n
 tree_text (ConffileShipped path) = codes "ConffileShipped " ++ path_text path
 tree_text (ConffileFlag line) = codes "ConffileFlag " ++ decimal line
 tree_text (TooLarge path) = codes "TooLarge " ++ path_text path
+tree_text TooMany = codes "TooMany 65536"
 tree_text Device = codes "Device"
 tree_text NoMemory = codes "NoMemory"
 tree_text Declined = codes "Declined"

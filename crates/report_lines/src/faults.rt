@@ -116,6 +116,7 @@ fn tree_text(alloc: Global, fault: &TreeFault) -> Result<String, AllocError>
             format!(in alloc; "ConffileFlag {line}")
         }
         TreeFault::TooLarge(path) => at_path(alloc, "TooLarge", path),
+        TreeFault::TooMany => String::from_str(alloc, "TooMany 65536"),
         TreeFault::Device => String::from_str(alloc, "Device"),
         TreeFault::NoMemory => String::from_str(alloc, "NoMemory"),
         TreeFault::Declined => String::from_str(alloc, "Declined"),

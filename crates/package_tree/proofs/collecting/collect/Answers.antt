@@ -1,8 +1,9 @@
-use Rattle.std.proofs.Common.{sym, subst, inl, inr, rules, arith}
+use Rattle.std.proofs.Common.{◌≡◌, sym, subst, inl, inr, rules, arith}
 use Rattle.host_core.proofs.Moments.{reads_then}
-use Rattle.package_tree.specs.ShipMap.{IsTooLarge}
+use Rattle.host_core.specs.Paths.{Path}
+use Rattle.package_tree.specs.ShipMap.{HasBefore, IsLarge, IsTooLarge}
 use Rattle.package_tree.specs.Shipped.{IsFirstPath}
-use Rattle.package_tree.proofs.Collected.{first_at_index, large_told, small_told, pushed_told, paths_more, nodes_more, small_more, all_collected}
+use Rattle.package_tree.proofs.Collected.{first_at_index, large_told, many_before, small_told, pushed_told, paths_more, nodes_more, small_more, all_collected}
 use Rattle.package_tree.proofs.collecting.collect.Goals as goal
 
 pub returns-then-index-ge-MOST_PATHS-clause-looks : goal.returns-then-index-ge-MOST_PATHS-clause-looks
@@ -10,9 +11,12 @@ returns-then-index-ge-MOST_PATHS-clause-looks g c = record {
   found = λ h.
       let w = (g.H.Host.state c.args.host.now).world in
       let so_far = c.loop-index.invariant in
-      subst (IsFirstPath (IsTooLarge w)) (sym c.in_ok-copy.ensures)
-      (first_at_index w c.args.paths.now c.loop-index.index c.index-paths-index.result 65536 (c.requires.shipped (so_far.silent.honest h)) c.loop-index-test.true c.index-paths-index.is (so_far.small h) so_far.few
-      (inr (omega (arith, so_far.few, c.if-index-ge-MOST_PATHS.true))));
+      let are = c.requires.shipped (so_far.silent.honest h) in
+      let same : c.loop-index.index ≡ 65536 = omega (arith, so_far.few, c.if-index-ge-MOST_PATHS.true) in
+      subst (λ (p : Path). IsFirstPath (IsTooLarge w) p × HasBefore 65536 w p) (sym c.in_ok-copy.ensures) (
+        first_at_index w c.args.paths.now c.loop-index.index c.index-paths-index.result 65536 are c.loop-index-test.true c.index-paths-index.is (so_far.small h) so_far.few (inr same),
+        many_before w c.args.paths.now c.loop-index.index c.index-paths-index.result 65536 are c.loop-index-test.true c.index-paths-index.is same,
+      );
   reads = search (rules, reads_then);
   silent = search rules;
   counts = search rules;
@@ -25,9 +29,11 @@ returns-then-branch-clause-looks g c = record {
       let so_far = c.loop-index.invariant in
       let mid = c.add.ensures.looks.silent.honest h in
       let path = c.index-paths-index.result in
-      subst (IsFirstPath (IsTooLarge w)) (sym c.in_ok-copy-2.ensures)
-      (first_at_index w c.args.paths.now c.loop-index.index path 65536 (c.requires.shipped (so_far.silent.honest mid)) c.loop-index-test.true c.index-paths-index.is (so_far.small mid) so_far.few
-      (inl (large_told w (g.H.Host.state c.loop-index.host).world path c.in_ok-add.field-0 c.loop-index.files.items c.add.new.files.items so_far.reads.world c.if-branch.true (c.in_ok-add.ensures.looks.found h))));
+      let large = large_told w (g.H.Host.state c.loop-index.host).world path c.in_ok-add.field-0 c.loop-index.files.items c.add.new.files.items so_far.reads.world c.if-branch.true (c.in_ok-add.ensures.looks.found h) in
+      subst (λ (p : Path). IsFirstPath (IsTooLarge w) p × IsLarge (w p)) (sym c.in_ok-copy-2.ensures) (
+        first_at_index w c.args.paths.now c.loop-index.index path 65536 (c.requires.shipped (so_far.silent.honest mid)) c.loop-index-test.true c.index-paths-index.is (so_far.small mid) so_far.few (inl large),
+        large,
+      );
   reads = search (rules, reads_then);
   silent = search rules;
   counts = search rules;
