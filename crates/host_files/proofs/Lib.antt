@@ -1,4 +1,3 @@
-pub mod Walks
 pub mod Answered
 pub mod DirectoryLaws
 pub mod OnDisk

@@ -50,6 +50,7 @@ known_more d (was.Looked p found) A B f (inr k) = ∥∥₁_map (f k) (λ b. inr
 known_more d (was.Seen p found) A B f (inl seen) = ∣ inl seen ∣₁
 known_more d (was.Seen p found) A B f (inr k) = ∥∥₁_map (f k) (λ b. inr b)
 known_more d (was.Listed p listing) A B f k = f k
+known_more d (was.Compared one other same) A B f k = f k
 known_more d (was.Done a) A B f k = known_step_more d a A B f k
 known_more d (was.Undone a) A B f k = absurd k
 known_more d (was.Declined a) A B f k = absurd k
@@ -75,6 +76,7 @@ new_more : (g : Path) (n : Noted) (A B : Type 0) → (A → ∥ B ∥₁) → Is
 new_more g (was.Looked p found) A B f k = f k
 new_more g (was.Seen p found) A B f k = f k
 new_more g (was.Listed p listing) A B f k = f k
+new_more g (was.Compared one other same) A B f k = f k
 new_more g (was.Done a) A B f k = new_step_more g a A B f k
 new_more g (was.Undone a) A B f k = absurd k
 new_more g (was.Declined a) A B f k = absurd k
@@ -141,6 +143,7 @@ module _ (m : Model) (sound : IsSound m) where
       subst (λ q. IsDirectory ((replay m h).world q)) (sym is) (is_dir ((replay m h).world p) (sym (sound.answers (was.Seen p found) h honest) ∙ directory))
   known_stands d (was.Seen p found ∷ h) (inr known) honest = known_stands d h known (before (was.Seen p found) h honest)
   known_stands d (was.Listed p listing ∷ h) known honest = known_stands d h known (before (was.Listed p listing) h honest)
+  known_stands d (was.Compared one two same ∷ h) known honest = known_stands d h known (before (was.Compared one two same) h honest)
   known_stands d (was.Done (asked.Write p node) ∷ h) (inl below) honest =
       above (put (replay m h).world p (Some node)) d p (sound.tree (was.Done (asked.Write p node) ∷ h) honest) below
       (ap (λ o. is_some o) (put_same (replay m h).world p p (Some node) refl))
@@ -178,6 +181,7 @@ module _ (m : Model) (sound : IsSound m) where
   new_stands g (was.Looked p node ∷ h) new honest = new_stands g h new (before (was.Looked p node) h honest)
   new_stands g (was.Seen p found ∷ h) new honest = new_stands g h new (before (was.Seen p found) h honest)
   new_stands g (was.Listed p listing ∷ h) new honest = new_stands g h new (before (was.Listed p listing) h honest)
+  new_stands g (was.Compared one two same ∷ h) new honest = new_stands g h new (before (was.Compared one two same) h honest)
   new_stands g (was.Done (asked.Write p node) ∷ h) is honest = ap (λ o. is_some o) (put_same (replay m h).world p g (Some node) is)
   new_stands g (was.Done (asked.Move a b) ∷ h) (from, to, new) honest =
       other IsSome (put (replay m h).world a None) b g ((replay m h).world a) to

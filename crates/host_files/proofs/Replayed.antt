@@ -16,7 +16,7 @@ use Rattle.host_core.specs.declared.fault.HostFault.TheVariants as fault
 use Rattle.host_files.specs.Faults.{IsUndeclined}
 use Rattle.host_files.specs.declared.record.Asked.{Asked}
 use Rattle.host_files.specs.declared.record.Noted.{Noted}
-use Rattle.host_files.specs.declared.record.Noted.TheVariants.{Looked, Seen, Listed, Done, Undone, Declined, Ended, Broke, Missed}
+use Rattle.host_files.specs.declared.record.Noted.TheVariants.{Looked, Seen, Listed, Compared, Done, Undone, Declined, Ended, Broke, Missed}
 use Rattle.host_files.specs.Replay.{Model, IsSound, IsLeftOf, IsTakenBack, IsOwed, replay, events_of, failing, declining, step_of}
 use Rattle.host_core.specs.Host.{ran_of}
 
@@ -131,6 +131,7 @@ module _ (m : Model) where
     settled_more (Looked p o) old owed settled h = unmoved_events (replay m old).events settled
     settled_more (Seen p k) old owed settled h = unmoved_events (replay m old).events settled
     settled_more (Listed p l) old owed settled h = unmoved_events (replay m old).events settled
+    settled_more (Compared one two same) old owed settled h = unmoved_events (replay m old).events settled
     settled_more (Done a) old owed settled h = settled_event (replay m old).events (Did (step_of a)) owed settled
     settled_more (Undone a) old owed settled h = settled_failing a (replay m old).events (m.left old) (sound.answers (Undone a) old h) owed settled
     settled_more (Declined a) old owed settled h = settled_declining a (replay m old).events (replay m old).world (m.left old) (sound.answers (Declined a) old h) owed settled

@@ -29,6 +29,7 @@ abbrev pub IsKnownBy : Path → Noted → Type 0 → Type 0
 IsKnownBy d (was.Looked p found) before = (IsSome found × (IsBelow d p ⊎ ((d ≡ p) × IsDirectory found))) ⊎ before
 IsKnownBy d (was.Seen p found) before = (IsSome found × (IsBelow d p ⊎ ((d ≡ p) × (found ≡ Some kind.Directory)))) ⊎ before
 IsKnownBy d (was.Listed p listing) before = before
+IsKnownBy d (was.Compared one other same) before = before
 IsKnownBy d (was.Done a) before = IsKnownByStep d a before
 IsKnownBy d (was.Undone a) before = ⊥
 IsKnownBy d (was.Declined a) before = ⊥
@@ -61,6 +62,7 @@ abbrev pub IsNewBy : Path → Noted → Type 0 → Type 0
 IsNewBy f (was.Looked p found) before = before
 IsNewBy f (was.Seen p found) before = before
 IsNewBy f (was.Listed p listing) before = before
+IsNewBy f (was.Compared one other same) before = before
 IsNewBy f (was.Done a) before = IsNewByStep f a before
 IsNewBy f (was.Undone a) before = ⊥
 IsNewBy f (was.Declined a) before = ⊥

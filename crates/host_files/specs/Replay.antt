@@ -1,5 +1,6 @@
 -- What the calls of a real directory and their answers say of it.
 use Rattle.std.specs.Prelude.{◌≡◌, ◌⊎◌, Bool, false, ◌&&◌, IsTrue, List, [], ◌∷◌, ◌++◌, Option, Some, None}
+use Rattle.std.specs.Str.{bytes_eq}
 use Rattle.std.proofs.lemmas.Bool.{false≢true}
 use Rattle.host_core.specs.World.{World, Change, Avoids, Step, Write, Move, Take, MakeDir, RemoveDir, HardLink, MakeLink, Sync, Barrier, SyncAll, SyncRoot, Lower, after, kind_of, undo_of, place_of, IsPart, is_kept}
 use Rattle.host_core.specs.Events.{Event, Did, Finished, Cut, Failed, Denied, follow_all}
@@ -9,7 +10,7 @@ use Rattle.host_core.specs.Tree.{IsTree, IsListing}
 use Rattle.host_files.specs.declared.record.Asked.{Asked}
 use Rattle.host_files.specs.declared.record.Asked.TheVariants as asked
 use Rattle.host_files.specs.declared.record.Noted.{Noted}
-use Rattle.host_files.specs.declared.record.Noted.TheVariants.{Looked, Seen, Listed, Done, Undone, Declined, Ended, Broke, Missed}
+use Rattle.host_files.specs.declared.record.Noted.TheVariants.{Looked, Seen, Listed, Compared, Done, Undone, Declined, Ended, Broke, Missed}
 
 -- What no call tells: it is supposed.
 pub record Model : Type 0 where
@@ -50,6 +51,7 @@ abbrev pub events_of : Model → List Noted → Noted → List Event
 events_of m earlier (Looked p n) = []
 events_of m earlier (Seen p k) = []
 events_of m earlier (Listed p l) = []
+events_of m earlier (Compared one other same) = []
 events_of m earlier (Done a) = Did (step_of a) ∷ []
 events_of m earlier (Undone a) = failing (m.left earlier)
 events_of m earlier (Declined a) = declining a (m.left earlier)
@@ -79,6 +81,7 @@ abbrev pub Answers : Model → List Noted → World → Noted → Type 0
 Answers m earlier w (Looked p n) = n ≡ w p
 Answers m earlier w (Seen p k) = k ≡ kind_of (w p)
 Answers m earlier w (Listed p l) = IsListing w p l.names l.bad
+Answers m earlier w (Compared one other same) = same ≡ bytes_eq one other
 Answers m earlier w (Done a) = Unit {0}
 Answers m earlier w (Undone a) = IsLeftOf (step_of a) (m.left earlier)
 Answers m earlier w (Declined a) = IsTakenBack (step_of a) w (m.left earlier)
@@ -96,6 +99,7 @@ abbrev pub IsOwed : List Event → Noted → Type 0
 IsOwed events (Looked p n) = Unit {0}
 IsOwed events (Seen p k) = Unit {0}
 IsOwed events (Listed p l) = Unit {0}
+IsOwed events (Compared one other same) = Unit {0}
 IsOwed events (Done a) = KeepsSettled events (step_of a)
 IsOwed events (Undone a) = KeepsSettled events (step_of a)
 IsOwed events (Declined a) = KeepsSettled events (step_of a)

@@ -407,6 +407,7 @@ abbrev pub IsShownBy : List ℕ → List ℕ → Bool → Noted → List SystemC
 IsShownBy directory front owners (was.Looked p node) made = IsReadBy front owners p node made
 IsShownBy directory front owners (was.Seen p kind) made = IsSeenBy front owners p kind made
 IsShownBy directory front owners (was.Listed p listing) made = changes_in made ≡ []
+IsShownBy directory front owners (was.Compared one other same) made = changes_in made ≡ []
 IsShownBy directory front owners (was.Done a) made = IsDoneBy front owners a made
 IsShownBy directory front owners (was.Undone a) made = IsBegunBy front owners a made
 IsShownBy directory front owners (was.Declined a) made = IsDeclinedBy front owners a made

@@ -8,6 +8,7 @@ ghost use Rattle.host_files.specs.Notes.{asked_by};
 ghost use Rattle.host_files.specs.Replay.{replay, step_of};
 
 use crate::changed::Changed;
+use crate::comparing::are_same;
 use crate::disk::fault_of;
 use crate::disk_model::Disk;
 use crate::failure::Failure;
@@ -23,7 +24,7 @@ use crate::system::{ScriptStreams, System};
 use crate::told::{Made, Told};
 use crate::written::{Unsynced, Written};
 use host_core::{
-    Access, Call, Host, HostFault, Keep, Kind, Listing, Node, Outcome, Places, RootPath,
+    Access, Call, Content, Host, HostFault, Keep, Kind, Listing, Node, Outcome, Places, RootPath,
 };
 use std::fs;
 use std::fs::File;
@@ -312,6 +313,21 @@ impl<D: Disk> Host for FilesHost<D> {
                 Ok(node)
             }
             Err(fault) => Err(self.fail(fault, path.as_str(), &Note::Missed)),
+        }
+    }
+
+    fn same(&mut self, one: &Content, other: &Content) -> Result<bool, HostFault> {
+        self.told.guard()?;
+        self.system.begin_open();
+        match are_same(&self.system.rt, one, other) {
+            Ok(same) => {
+                self.note(&Note::Compared(one, other, same));
+                Ok(same)
+            }
+            Err(error) => {
+                let fault = self.system.fault(error);
+                Err(self.fail(fault, "", &Note::Missed))
+            }
         }
     }
 

@@ -3,7 +3,7 @@ ghost use Rattle.std.specs.Prelude.{◌≡◌, List, [], ◌∷◌};
 ghost use Rattle.std.specs.Borrow.{ftrue};
 ghost use Rattle.host_files.specs.declared.record.Noted.{Noted};
 
-use host_core::{Access, Call, Kind, Listing, Node, Outcome, Places, RootPath};
+use host_core::{Access, Call, Content, Kind, Listing, Node, Outcome, Places, RootPath};
 use std::marker::Model;
 use texts::Text;
 
@@ -24,7 +24,7 @@ pub enum Asked {
     Lower(RootPath),
 }
 
-/// A call with its answer: what was found; a step that was done, of which Device was told, or that
+/// A call with its answer: what was found; whether two files' bytes are the same; a step that was done, of which Device was told, or that
 /// was declined; a script call that ended, or of which Device was told; a fault of looking at
 /// something.
 #[derive(Drop)]
@@ -32,6 +32,7 @@ pub enum Noted {
     Looked(RootPath, Option<Node>),
     Seen(RootPath, Option<Kind>),
     Listed(RootPath, Listing),
+    Compared(Content, Content, bool),
     Done(Asked),
     Undone(Asked),
     Declined(Asked),
@@ -63,6 +64,7 @@ pub(crate) enum Note<'a> {
     Looked(&'a RootPath, &'a Option<Node>),
     Seen(&'a RootPath, Option<Kind>),
     Listed(&'a RootPath, &'a Listing),
+    Compared(&'a Content, &'a Content, bool),
     Done(Asks<'a>),
     Undone(Asks<'a>),
     Declined(Asks<'a>),

@@ -98,7 +98,7 @@ impl Remembered {
         match *note {
             Note::Looked(path, node) => self.take_node(path, node),
             Note::Seen(path, kind) => self.take_kind(path, kind),
-            Note::Listed(_, _) => {}
+            Note::Listed(_, _) | Note::Compared(_, _, _) => {}
             Note::Done(asked) => self.take_step(asked),
             Note::Undone(_) => self.forget(),
             Note::Declined(_) => self.forget(),

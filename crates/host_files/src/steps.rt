@@ -19,7 +19,7 @@ use crate::syncing::NO_FILE;
 use crate::system::System;
 use crate::way::split_place;
 use crate::written::is_readable;
-use host_core::{Access, HostFault, Modified, Node, RootPath};
+use host_core::{Access, Content, HostFault, Modified, Node, RootPath};
 use std::fs::{File, Metadata};
 use std::os::unix::fs::MetadataExt;
 use texts::Text;
@@ -138,7 +138,7 @@ fn fill_file(
     system: &mut System,
     owners: bool,
     made: &mut File,
-    bytes: &[u8],
+    bytes: &Content,
     access: Access,
 ) -> Result<Metadata, HostFault>
     ensures made { Adds (access_calls owners access ++ Append bytes.now ∷ [])
@@ -155,7 +155,7 @@ fn finish_file(
     system: &mut System,
     owners: bool,
     made: &mut File,
-    bytes: &[u8],
+    bytes: &Content,
     modified: Option<Modified>,
     access: Access,
 ) -> Result<Metadata, HostFault>
@@ -176,7 +176,7 @@ fn write_bytes(
     system: &mut System,
     owners: bool,
     place: &str,
-    bytes: &[u8],
+    bytes: &Content,
     modified: Option<Modified>,
     access: Access,
 ) -> Result<(), HostFault>
@@ -283,7 +283,7 @@ pub(crate) fn write_file(
         system,
         root.owners,
         place.as_str(),
-        bytes.as_slice(),
+        bytes,
         bytes.modified(),
         *access,
     )

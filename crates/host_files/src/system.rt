@@ -11,6 +11,7 @@ ghost use Rattle.host_files.specs.SystemCalls.{changes_in, Looks, start_call};
 ghost use Rattle.host_files.specs.Places.{place_of};
 
 use crate::changed::directory_of;
+use crate::comparing::not_as_read;
 use crate::disk::{access_of, fault_of, is_absent, stat};
 use crate::errors::{is_declined, is_start_error};
 use crate::looking::is_no_text;
@@ -19,11 +20,11 @@ use crate::root::Root;
 use crate::trace::{Request, Trace};
 use crate::way::open_by_way;
 use crate::written::{Identity, Unsynced};
-use host_core::{Access, HostFault, Modified};
+use host_core::{Access, Content, HostFault, Lent, Modified};
 use libc::types::timespec;
 use std::alloc::Global;
 use std::fs::{DirBuilder, DirEntry, File, Metadata, OpenOptions, Permissions};
-use std::io::{Error, Write};
+use std::io::{Error, Read, Write};
 use std::os::fd::AsRawFd;
 use std::os::unix::fs::{
     DirBuilderExt, MetadataExt, OpenOptionsExt, PermissionsExt, fchown, symlink,
@@ -80,6 +81,24 @@ fn create_new(rt: &HostRuntime, place: &str) -> io::Result<File> {
         .create_new(true)
         .mode(0o600)
         .open(rt, place)
+}
+
+// Adds the bytes of a file that is lent, which is read in pieces and is to be as long as it was.
+fn copy_lent(rt: &HostRuntime, made: &mut File, lent: &Lent) -> io::Result<()> {
+    let length = lent.length();
+    let mut file = fs::open(rt, lent.place())?.take(length.saturating_add(1));
+    if io::copy(&mut file, made)? == length {
+        Ok(())
+    } else {
+        Err(not_as_read())
+    }
+}
+
+fn write_content(rt: &HostRuntime, made: &mut File, bytes: &Content) -> io::Result<()> {
+    match bytes.source() {
+        Some(lent) => copy_lent(rt, made, lent),
+        None => made.write_all(bytes.held()?),
+    }
 }
 
 // Opens the directory that stands at a place, if it is the one that a look just told: a link that took its place in
@@ -332,12 +351,13 @@ impl System {
         }
     }
 
-    pub(crate) fn append(&mut self, made: &mut File, bytes: &[u8]) -> Result<(), HostFault>
+    /// Adds bytes to the file that was made last. Those that are lent are read once more.
+    pub(crate) fn append(&mut self, made: &mut File, bytes: &Content) -> Result<(), HostFault>
         ensures made { self.new.trace.calls ≡ Append bytes.now ∷ self.old.trace.calls }
         ensures err { IfErr result IsOfStep }
     {
         self.trace = self.trace.with(&Request::Append(bytes));
-        let answer = made.write_all(bytes);
+        let answer = write_content(&self.rt, made, bytes);
         self.ended(answer)
     }
 

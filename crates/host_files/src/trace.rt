@@ -4,7 +4,7 @@ ghost use Rattle.std.specs.Borrow.{ftrue};
 ghost use Rattle.host_files.specs.declared.trace.SystemCall.{SystemCall};
 
 use crate::opened::Opened;
-use host_core::{Access, Modified};
+use host_core::{Access, Content, Modified};
 use std::fs::Metadata;
 use std::marker::Model;
 use std::process::{Command, ExitStatus};
@@ -68,7 +68,7 @@ pub enum SystemCall {
 pub(crate) enum Request<'a> {
     Look(&'a str, &'a Option<Metadata>),
     Create(&'a str),
-    Append(&'a [u8]),
+    Append(&'a Content),
     MakeDirectory(&'a str, u16),
     OpenMade(&'a str),
     SeenMade(Access),

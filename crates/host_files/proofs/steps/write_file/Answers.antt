@@ -20,4 +20,4 @@ returns-clause-step c =
     rw (c.in-File.is)
     (written_by (string_bytes c.args.root.now.front) c.args.root.now.owners c.args.path.now c.in-File.bytes c.in-File.access c.modified.result c.write_bytes.new.system.trace.calls c.write_bytes.result
     (subst (λ p. IsMakingBy (Create p) (Unlink p) (write_calls c.args.root.now.owners p c.in-File.bytes c.in-File.access c.modified.result) c.write_bytes.new.system.trace.calls c.write_bytes.result) place
-    (subst (λ bytes. IsMakingBy (Create c.as_str.result.now) (Unlink c.as_str.result.now) (write_calls c.args.root.now.owners c.as_str.result.now bytes c.in-File.access c.modified.result) c.write_bytes.new.system.trace.calls c.write_bytes.result) c.as_slice.ensures c.write_bytes.ensures.making)))
+    c.write_bytes.ensures.making))

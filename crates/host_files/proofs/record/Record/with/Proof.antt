@@ -25,7 +25,7 @@ use denote.Triple.Entry.{alive}
 use denote.Triple.Spec.{Meets, triple_of}
 use denote.Triple.Table.{entered}
 use denote.Triple.Walked.{says, Stays, stay_dropped, walk_of, ends_at, walk_Meets, Goes-dropped}
-use Rattle.host_files.proofs.Walks.{none, none_made}
+use Rattle.host_core.proofs.Walks.{none, none_made}
 use Rattle.host_files.specs.contracts.record.Record as Log
 use Rattle.host_files.specs.contracts.record.Note as Note
 use Rattle.host_files.specs.Notes.{noted}

@@ -23,7 +23,7 @@ use denote.Triple.Entry.{alive}
 use denote.Triple.Spec.{Meets, triple_of}
 use denote.Triple.Table.{entered}
 use denote.Triple.Walked.{says, Stays, walk_of, ends_at, walk_Meets}
-use Rattle.host_files.proofs.Walks.{none, none_made}
+use Rattle.host_core.proofs.Walks.{none, none_made}
 use Rattle.host_files.specs.contracts.trace.Trace as Made
 use Rattle.host_files.specs.contracts.trace.Trace.new as F
 use Rattle.host_files.specs.contracts.trace.Trace.new.Key.{name as #self}
