@@ -160,6 +160,11 @@ impl Archives {
         Ok(())
     }
 
+    /// Whether they are: then the tree of each stands until the next one is read, when it was dealt with.
+    pub(crate) fn is_held(&self) -> bool {
+        self.held.is_some()
+    }
+
     // The place of the next room. A path that begins with a dash isn't taken for a flag.
     fn place(&self, rt: &HostRuntime) -> io::Result<String> {
         match &self.held {

@@ -347,6 +347,9 @@ impl<'a, D: Disk> Hosts for Directories<'a, D> {
         }
         let mut host = self.open(place)?;
         host.set_tree();
+        if unpacked.is_some() && !self.archives.is_held() {
+            host.hold_files();
+        }
         Ok(self.watched(host))
     }
 

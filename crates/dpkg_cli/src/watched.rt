@@ -4,7 +4,9 @@ ghost use Rattle.std.specs.Prelude.{◌≡◌};
 use crate::frontends::Told;
 use crate::progress::Line;
 use crate::records::Records;
-use host_core::{Access, Call, Host, HostFault, Keep, Kind, Listing, Node, Outcome, RootPath};
+use host_core::{
+    Access, Call, Content, Host, HostFault, Keep, Kind, Listing, Node, Outcome, RootPath,
+};
 use host_files::{Disk, FilesHost};
 use std::str::from_utf8;
 use texts::Text;
@@ -28,7 +30,7 @@ fn is_note(path: &RootPath) -> bool {
 fn records_in<'a>(path: &RootPath, node: &'a Node) -> Option<&'a [u8]> {
     match node {
         Node::File { bytes, .. } if is_note(path) || path.as_str() == "/var/lib/dpkg/status" => {
-            Some(bytes.as_slice())
+            bytes.held().ok()
         }
         _ => None,
     }
@@ -47,7 +49,9 @@ fn learn(records: &mut Records, line: Line<'_>, path: &RootPath, node: &Node) {
     }
     if path.as_str() == "/DEBIAN/control" {
         if let Node::File { bytes, .. } = node {
-            line.frontend.learn_tree(bytes.as_slice());
+            if let Ok(bytes) = bytes.held() {
+                line.frontend.learn_tree(bytes);
+            }
         }
     }
 }
@@ -110,6 +114,10 @@ impl<'a, D: Disk> Host for Watched<'a, D> {
             learn(&mut self.records, self.line, path, node);
         }
         found
+    }
+
+    fn same(&mut self, one: &Content, other: &Content) -> Result<bool, HostFault> {
+        self.host.same(one, other)
     }
 
     fn kind(&mut self, path: &RootPath) -> Result<Option<Kind>, HostFault> {

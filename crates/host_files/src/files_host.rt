@@ -150,6 +150,14 @@ impl<D: Disk> FilesHost<D> {
         self.root.tree = true;
     }
 
+    /// The bytes of each file that is read are held in memory, however many they are: what is read may be asked for when the
+    /// directory is gone.
+    pub fn hold_files(&mut self)
+        ensures { self.new.told ≡ self.old.told }
+    {
+        self.root.holds = true;
+    }
+
     /// What scripts read in place of `/dev/null` from now on. They have it open as long as they run.
     pub fn set_script_input(&mut self, input: File)
         ensures { self.new.told ≡ self.old.told }

@@ -9,7 +9,9 @@ pub returns-in_err-now-clause-through : goal.returns-in_err-now-clause-through
 returns-in_err-now-clause-through g c = through_then _ _ _ c.node_below.ensures.through c.node.ensures.through
 
 pub returns-clause-reads : goal.returns-clause-reads
-returns-clause-reads g c = reads_then _ _ _ c.node_below.ensures.looks.reads c.node.ensures.looks.reads
+returns-clause-reads g c =
+    reads_then _ _ _ (reads_then _ _ _ c.node_below.ensures.looks.reads c.node.ensures.looks.reads) c.change_of.ensures.looks.looks.reads
 
 pub returns-clause-through : goal.returns-clause-through
-returns-clause-through g c = through_then _ _ _ c.node_below.ensures.through c.node.ensures.through
+returns-clause-through g c =
+    through_then _ _ _ (through_then _ _ _ c.node_below.ensures.through c.node.ensures.through) c.change_of.ensures.looks.through
