@@ -109,7 +109,7 @@ fn look(alloc: Global, host: &mut MemoryHost, path: &str) -> Result<String, Host
     let node = host.node(&root_path(alloc, path)?)?;
     match &node {
         Some(Node::File { bytes, .. }) => {
-            let text = str::from_utf8(bytes.as_slice()).unwrap_or("no text");
+            let text = str::from_utf8(bytes.held()?).unwrap_or("no text");
             return Ok(String::from_str(alloc, text)?);
         }
         Some(Node::Dir { .. }) => Ok(String::from_str(alloc, "directory")?),

@@ -38,7 +38,7 @@ pub(crate) fn text_at<H: Host>(
 ) -> Result<String, AllocError> {
     match host.node(&path_of(alloc, path)?) {
         Ok(Some(Node::File { bytes, .. })) => {
-            String::from_str(alloc, str::from_utf8(bytes.as_slice()).unwrap_or("no text"))
+            String::from_str(alloc, str::from_utf8(bytes.held()?).unwrap_or("no text"))
         }
         Ok(Some(Node::Dir { .. })) => String::from_str(alloc, "/"),
         Ok(Some(Node::Link { .. })) => String::from_str(alloc, "a link"),

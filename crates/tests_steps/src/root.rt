@@ -99,9 +99,7 @@ pub(crate) fn text_at(
     path: &str,
 ) -> Result<String, AllocError> {
     match host.node(&path_of(alloc, path)?) {
-        Ok(Some(Node::File { bytes, access })) => {
-            filed(alloc, text_of(bytes.as_slice()), access)
-        }
+        Ok(Some(Node::File { bytes, access })) => { filed(alloc, text_of(bytes.held()?), access) }
         Ok(Some(Node::Dir { .. })) => String::from_str(alloc, "/"),
         Ok(Some(Node::Link { target })) => linked(alloc, target.as_str()),
         Ok(None) => Ok(String::new(alloc)),

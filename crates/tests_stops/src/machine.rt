@@ -166,7 +166,7 @@ fn text_of_file(alloc: Global, bytes: &[u8], mode: u16) -> Result<String, AllocE
 fn text_at(alloc: Global, host: &mut MemoryHost, path: &str) -> Result<String, AllocError> {
     match host.node(&path_of(alloc, path)?) {
         Ok(Some(Node::File { bytes, access })) => {
-            text_of_file(alloc, bytes.as_slice(), access.mode)
+            text_of_file(alloc, bytes.held()?, access.mode)
         }
         Ok(Some(Node::Dir { .. })) => names_at(alloc, host, path),
         Ok(Some(Node::Link { .. })) => String::from_str(alloc, "link"),
