@@ -6,3 +6,4 @@ pub mod RememberedLaws
 pub mod Supposed
 mod CutOff
 mod Meeting
+pub mod Alike

@@ -1,5 +1,6 @@
 pub mod Faults
 pub mod Entries
+pub mod Compared
 pub mod Places
 pub mod Directories
 pub mod Commands

@@ -22,6 +22,9 @@
 //! of it, and where the program is told of owners it is left as it is only where a look told that it
 //! lends none (`HasLowered`).
 //!
+//! A large file is lent (`lending_limit`): it is read through once, in pieces, and once more as it is written elsewhere or
+//! compared. That its bytes are then the same is supposed, as what the directory holds is.
+//!
 //! What it doesn't look at again is tied to the record of its calls: the directory that it
 //! remembers is known by them (`IsKnown`: seen, or above what was seen or made, and no script,
 //! fault or step at it since), the file that it takes for the last one written is that (`IsNew`),
