@@ -92,7 +92,7 @@ fn read_node(alloc: Global, node: &Option<Node>) -> Result<Paths, EntryFault>
         });
     };
     match node {
-        Node::File { bytes, .. } => read_list(alloc, bytes.held()?),
+        Node::File { bytes, .. } => read_list(alloc, bytes),
         Node::Dir { .. } => Err(EntryFault::Line(0)),
         Node::Link { .. } => Err(EntryFault::Line(0)),
     }

@@ -9,7 +9,7 @@ ghost use Rattle.status_records.specs.Records.{record_in};
 use crate::table::Table;
 use administration::AdministrationFault;
 use control_fields::{ControlFault, Located, read_located};
-use host_core::{Node, RootPath};
+use host_core::{Content, Node, RootPath};
 use status_records::{Entry, Names, StatusFault, entry_of, first_bad, line_in};
 use std::alloc::{AllocError, Global};
 
@@ -57,7 +57,7 @@ fn check_rest(
 }
 
 // What a note's text says.
-fn read_note(alloc: Global, bytes: &[u8]) -> Result<Entry, StatusFault>
+fn read_text(alloc: Global, bytes: &[u8]) -> Result<Entry, StatusFault>
     ensures note { IfOk result (λ e. IsNote bytes.now (record { name = e.name; entry = e.kept })) }
     ensures fault { IfErr result (IsNoteTextFault bytes.now) }
 {
@@ -70,6 +70,14 @@ fn read_note(alloc: Global, bytes: &[u8]) -> Result<Entry, StatusFault>
     let entry = entry_of(alloc, &names, &paragraphs[0])?;
     check_rest(&paragraphs[1..], &text.begun, text.fault)?;
     Ok(entry)
+}
+
+// What a note's file says.
+fn read_note(alloc: Global, content: &Content) -> Result<Entry, StatusFault>
+    ensures note { IfOk result (λ e. IsNote content.now (record { name = e.name; entry = e.kept })) }
+    ensures fault { IfErr result (IsNoteTextFault content.now) }
+{
+    read_text(alloc, content.held()?)
 }
 
 // What a note says takes the place of what was said of its package.
@@ -100,7 +108,7 @@ pub(crate) fn take_note(
 {
     match node {
         None => Ok(()),
-        Some(Node::File { bytes, .. }) => match read_note(alloc, bytes.held()?) {
+        Some(Node::File { bytes, .. }) => match read_note(alloc, &bytes) {
             Ok(entry) => Ok(enter(table, entry)?),
             Err(StatusFault::Line(line)) => Err(AdministrationFault::Damaged { file: path, line }),
             Err(StatusFault::NoMemory) => Err(AdministrationFault::NoMemory),

@@ -9,7 +9,7 @@ ghost use Rattle.status_db.specs.Held.{IsTableOf, IsTableOfText};
 
 use crate::table::Table;
 use administration::{AdministrationFault, STATUS};
-use host_core::{Host, Node, RootPath};
+use host_core::{Content, Host, Node, RootPath};
 use status_records::{StatusFault, read_text};
 use std::alloc::Global;
 
@@ -27,6 +27,21 @@ fn read_file(alloc: Global, path: RootPath, bytes: &[u8]) -> Result<Table, Admin
     }
 }
 
+// The same, of what the file holds.
+fn read_content(
+    alloc: Global,
+    path: RootPath,
+    content: &Content,
+) -> Result<Table, AdministrationFault>
+    requires { path ≡ status_path }
+    ensures table { IfOk result (IsTableOfText content.now) }
+    ensures damage { IfErr result (IsFileDamage content.now) }
+    ensures device { IsErrOf result Device → ⊥ }
+    ensures declined { IsErrOf result Declined → ⊥ }
+{
+    read_file(alloc, path, content.held()?)
+}
+
 // The table of the node at the status file's place.
 fn read_node(
     alloc: Global,
@@ -41,7 +56,7 @@ fn read_node(
 {
     match node {
         None => read_file(alloc, path, &[]),
-        Some(Node::File { bytes, .. }) => read_file(alloc, path, bytes.held()?),
+        Some(Node::File { bytes, .. }) => read_content(alloc, path, &bytes),
         Some(_) => Err(AdministrationFault::Damaged {
             file: path,
             line: 0,

@@ -11,4 +11,4 @@ returns-in_default-clause-paths c = subst AreListPaths (sym c.new.ensures.items)
 pub returns-in-File-clause-lists : goal.returns-in-File-clause-lists
 returns-in-File-clause-lists c =
     IfOk-weaker c.read_list.result _ _ (λ paths same q. subst (λ n. Contains paths q ↔ Lists n q) (sym (c.in-Some.is ∙ ap (λ n. Some n) c.in-File.is))
-    (subst (λ (l : List ℕ). Contains paths q ↔ Contains (paths_in (lines_in l)) q) c.as_slice.ensures (same q))) c.read_list.ensures.same
+    (same q)) c.read_list.ensures.same

@@ -1,7 +1,7 @@
-use Rattle.std.proofs.Common.{◌∙◌, List, ℕ, Option, Some, ap, sym, subst}
+use Rattle.std.proofs.Common.{◌∙◌, Option, Some, ap, sym, subst}
 use Rattle.std.specs.Prelude.{IfOk}
 use Rattle.host_core.specs.declared.node.Node.{Node}
-use Rattle.status_db.specs.Held.{IsTableOf, IsTableOfText}
+use Rattle.status_db.specs.Held.{IsTableOf}
 use Rattle.status_db.proofs.status_reading.read_node.Goals as goal
 
 pub returns-in-None-clause-table : goal.returns-in-None-clause-table
@@ -9,5 +9,4 @@ returns-in-None-clause-table c = subst (λ (o : Option Node). IfOk c.read_file.r
 
 pub returns-in-Some-File-clause-table : goal.returns-in-Some-File-clause-table
 returns-in-Some-File-clause-table c =
-    subst (λ (o : Option Node). IfOk c.read_file-in-Some-File.result (IsTableOf o)) (sym (c.in-Some-File.is ∙ ap (λ (n : Node). Some n) c.in-Some-File.field-0-is))
-    (subst (λ (t : List ℕ). IfOk c.read_file-in-Some-File.result (IsTableOfText t)) c.as_slice.ensures c.read_file-in-Some-File.ensures.table)
+    subst (λ (o : Option Node). IfOk c.read_content.result (IsTableOf o)) (sym (c.in-Some-File.is ∙ ap (λ (n : Node). Some n) c.in-Some-File.field-0-is)) c.read_content.ensures.table

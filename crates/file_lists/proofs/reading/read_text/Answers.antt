@@ -5,7 +5,7 @@ use Rattle.host_core.specs.Paths.{Path}
 use Rattle.file_lists.specs.Lists.{paths_in}
 use Rattle.file_lists.specs.Owners.{IsListable, IsSameSet}
 use Rattle.file_lists.proofs.Sorting.{listable}
-use Rattle.file_lists.proofs.reading.read_list.Goals as goal
+use Rattle.file_lists.proofs.reading.read_text.Goals as goal
 
 pub in_order-requires : goal.in_order-requires
 in_order-requires c =

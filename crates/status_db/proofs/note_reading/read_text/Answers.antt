@@ -9,7 +9,7 @@ use Rattle.control_fields.specs.declared.located.Located.{Located}
 use Rattle.status_records.specs.Faults.{IsEntryFault, IsSound}
 use Rattle.status_db.proofs.NoteTexts.{cut_rest, entry_fault, first_sound, head_of, note_of, rest_fault}
 use Rattle.status_records.proofs.WholeText.{read_sound}
-use Rattle.status_db.proofs.note_reading.read_note.Goals as goal
+use Rattle.status_db.proofs.note_reading.read_text.Goals as goal
 
 pub fault_of_start-requires : goal.fault_of_start-requires
 fault_of_start-requires c =
