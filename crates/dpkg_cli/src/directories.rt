@@ -30,6 +30,8 @@ pub(crate) struct Directories<'a, D: Disk> {
     lock: Option<Held>,
     /// Whether a script started the program.
     beside: bool,
+    /// Whether roots are looked at for a rehearsal, in which a file that can't be read is passed.
+    rehearses: bool,
     line: Line<'a>,
     /// How many trees were opened.
     trees: usize,
@@ -94,7 +96,7 @@ fn tell_owner(rt: &HostRuntime, tree: &str) {
 }
 
 impl<'a, D: Disk> Directories<'a, D> {
-    pub(crate) fn new(rt: HostRuntime, line: Line<'a>) -> Directories<'a, D>
+    pub(crate) fn new(rt: HostRuntime, line: Line<'a>, rehearses: bool) -> Directories<'a, D>
         ensures { result.faults ≡ 0 }
     {
         Directories {
@@ -102,6 +104,7 @@ impl<'a, D: Disk> Directories<'a, D> {
             faults: 0,
             lock: None,
             beside: is_in_script(&rt),
+            rehearses,
             line,
             trees: 0,
             failure: None,
@@ -120,6 +123,15 @@ impl<'a, D: Disk> Directories<'a, D> {
     pub(crate) fn tell_failure(&self) {
         if let Some(failure) = &self.failure {
             self.tell(failure);
+        }
+    }
+
+    // Tells a person which files were passed since they couldn't be read.
+    fn tell_unread(&self, host: &FilesHost<D>) {
+        for path in host.unread() {
+            self.line.clear();
+            let path = path.as_str();
+            tell_line(&self.rt, format!(in self.rt.alloc(); "unread {path}"));
         }
     }
 
@@ -328,7 +340,10 @@ impl<'a, D: Disk> Hosts for Directories<'a, D> {
     }
 
     fn look_at_root(&mut self, directory: &str) -> Result<Watched<'a, D>, HostFault> {
-        let host = self.open(directory)?;
+        let mut host = self.open(directory)?;
+        if self.rehearses {
+            host.pass_unread();
+        }
         Ok(self.watched(host))
     }
 
@@ -354,6 +369,7 @@ impl<'a, D: Disk> Hosts for Directories<'a, D> {
     }
 
     fn close_root(&mut self, host: Watched<'a, D>) {
+        self.tell_unread(&host.host);
         self.failure = host.host.into_failure();
     }
 

@@ -40,6 +40,7 @@ mod terminal;
 mod watched;
 
 use command_line::{FAILED, run_words};
+use command_words::rehearsal_of;
 use configured::configured;
 use directories::Directories;
 use dpkg_words::{
@@ -56,6 +57,7 @@ use picking::picked;
 use progress::{Beside, Going, Line, going_through};
 use recorded::cleared;
 use standard_streams::fill_missing;
+use std::alloc::Global;
 use std::cell::Cell;
 use std::io::{ErrorKind, Input, IsTerminal, Read, Write};
 use std::process::ExitCode;
@@ -121,6 +123,11 @@ fn frontends_of(
     Ok(frontends)
 }
 
+// Whether nothing is to be changed, where there is memory to read the words.
+fn is_rehearsed(alloc: Global, words: &[String]) -> bool {
+    matches!(rehearsal_of(alloc, words), Ok(Some(_)))
+}
+
 // What the words ask for, over real directories. Where a person looks on there is the line of progress beside it, and the line
 // behind `damaged` that tells what was expected; a program that reads standard error gets the fixed lines alone.
 fn run_telling<D: Disk>(
@@ -136,7 +143,8 @@ fn run_telling<D: Disk>(
     let person = stderr.is_terminal();
     let told = Cell::new(0);
     let line = line_of(rt, going, &told, frontends);
-    let mut hosts = Directories::<D>::new(rt, line);
+    let rehearses = going.is_none() && is_rehearsed(rt.alloc(), words);
+    let mut hosts = Directories::<D>::new(rt, line, rehearses);
     let mut out = Beside {
         line,
         writer: Objects {

@@ -26,6 +26,7 @@ use crate::written::{Unsynced, Written};
 use host_core::{
     Access, Call, Content, Host, HostFault, Keep, Kind, Listing, Node, Outcome, Places, RootPath,
 };
+use std::collections::BTreeSet;
 use std::fs;
 use std::fs::File;
 use std::marker::PhantomData;
@@ -156,6 +157,19 @@ impl<D: Disk> FilesHost<D> {
         ensures { self.new.told ≡ self.old.told }
     {
         self.root.holds = true;
+    }
+
+    /// A file that can't be opened for want of rights counts from now on as one with bytes that nobody ships, and is told
+    /// by `unread`: for a root that is only looked at.
+    pub fn pass_unread(&mut self)
+        ensures { self.new.told ≡ self.old.told }
+    {
+        self.root.passes = true;
+    }
+
+    /// The paths of such files, in the order of their bytes, each once.
+    pub fn unread(&self) -> &BTreeSet<String> {
+        &self.system.unread
     }
 
     /// What scripts read in place of `/dev/null` from now on. They have it open as long as they run.

@@ -14,15 +14,16 @@ use crate::changed::directory_of;
 use crate::comparing::not_as_read;
 use crate::disk::{access_of, fault_of, is_absent, stat};
 use crate::errors::{is_declined, is_start_error};
-use crate::looking::is_no_text;
+use crate::looking::{is_no_text, is_unread};
 use crate::opened::Opened;
 use crate::root::Root;
 use crate::trace::{Request, Trace};
 use crate::way::open_by_way;
 use crate::written::{Identity, Unsynced};
-use host_core::{Access, Content, HostFault, Lent, Modified};
+use host_core::{Access, Content, HostFault, Lent, Modified, Node, RootPath};
 use libc::types::timespec;
-use std::alloc::Global;
+use std::alloc::{AllocError, Global};
+use std::collections::BTreeSet;
 use std::fs::{DirBuilder, DirEntry, File, Metadata, OpenOptions, Permissions};
 use std::io::{Error, Read, Write};
 use std::os::fd::AsRawFd;
@@ -57,6 +58,8 @@ pub(crate) struct System {
     identity: Identity,
     // the directory from which something was taken away last, until another step is made
     opened: Option<Opened>,
+    // the paths of files that were passed since they couldn't be read
+    pub(crate) unread: BTreeSet<String>,
     // what a person is told of the failure of the call that was begun
     error: Option<Error>,
     // the place of that failure, where it isn't the one that was asked for
@@ -230,6 +233,7 @@ impl System {
                 inode: 0,
             },
             opened: None,
+            unread: BTreeSet::new(rt.alloc()),
             error: None,
             error_place: None,
         }
@@ -336,6 +340,17 @@ impl System {
             }
             Err(error) => Err(self.fault(error)),
         }
+    }
+
+    /// Keeps the path of what was read, where it was passed.
+    pub(crate) fn note_unread(&mut self, path: &RootPath, node: &Node) -> Result<(), AllocError>
+        ensures { self.new.trace ≡ self.old.trace }
+    {
+        if is_unread(node) {
+            self.unread
+                .insert(String::from_str(self.rt.alloc(), path.as_str())?)?;
+        }
+        Ok(())
     }
 
     /// An empty file, which is open.
