@@ -10,7 +10,7 @@ use Rattle.package_files.specs.declared.work.Work.{Work}
 use Rattle.file_check.specs.Ships.{work_at}
 use Rattle.file_check.proofs.Shipping.{has_directory, places_next, works_more, works_same, written}
 use Rattle.file_check.proofs.WorkLists.{each_more}
-use Rattle.file_check.proofs.works.shipped_works.Goals.{then-not-branch+in_ok-push, else-not-branch+in-File-1, else-not-branch+in-Link-1, else-not-branch+in-Dir-1}
+use Rattle.file_check.proofs.works.shipped_works.Goals.{then-not-branch+in_ok-push, else-not-branch+in-File+in-None-1, else-not-branch+in-File+in-Some-1, else-not-branch+in-Link-1, else-not-branch+in-Dir-1}
 use Rattle.file_check.proofs.works.shipped_works.Goals as goal
 
 pub loop-path-preserved : goal.loop-path-preserved
@@ -32,14 +32,16 @@ loop-path-preserved c =
     record {
       works = elim c.if-not-branch.branch [
         | then-not-branch+in_ok-push w ↦ (λ i. (w.works-is i).items) ∙ w.in_ok-push.ensures.items ∙ more w.if-not-branch.true inv.works
-        | else-not-branch+in-File-1 w ↦ (λ i. (w.works-is i).items) ∙ same w.if-not-branch.false inv.works
+        | else-not-branch+in-File+in-None-1 w ↦ (λ i. (w.works-is i).items) ∙ same w.if-not-branch.false inv.works
+        | else-not-branch+in-File+in-Some-1 w ↦ (λ i. (w.works-is i).items) ∙ same w.if-not-branch.false inv.works
         | else-not-branch+in-Link-1 w ↦ (λ i. (w.works-is i).items) ∙ same w.if-not-branch.false inv.works
         | else-not-branch+in-Dir-1 w ↦ (λ i. (w.works-is i).items) ∙ same w.if-not-branch.false inv.works
       ];
       directories = λ q. places_next ways name conffiles c.loop-path.yielded s x at q (contains_text c.loop-path.directories q) (contains_text c.is_left_out.new.directories q) (c.in_ok-is_left_out.ensures.added q) (inv.directories q);
       named = elim c.if-not-branch.branch [
         | then-not-branch+in_ok-push w ↦ subst (Each IsNamed) (sym ((λ i. (w.works-is i).items) ∙ w.in_ok-push.ensures.items)) (each_more IsNamed c.loop-path.works.items x inv.named named)
-        | else-not-branch+in-File-1 w ↦ subst (Each IsNamed) (sym ((λ i. (w.works-is i).items))) inv.named
+        | else-not-branch+in-File+in-None-1 w ↦ subst (Each IsNamed) (sym ((λ i. (w.works-is i).items))) inv.named
+        | else-not-branch+in-File+in-Some-1 w ↦ subst (Each IsNamed) (sym ((λ i. (w.works-is i).items))) inv.named
         | else-not-branch+in-Link-1 w ↦ subst (Each IsNamed) (sym ((λ i. (w.works-is i).items))) inv.named
         | else-not-branch+in-Dir-1 w ↦ subst (Each IsNamed) (sym ((λ i. (w.works-is i).items))) inv.named
       ];
