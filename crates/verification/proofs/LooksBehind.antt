@@ -1,9 +1,11 @@
 -- A look behind another one.
-use Rattle.std.proofs.Common.{Result, Ok, Err, IfOk, subst}
+use Rattle.std.proofs.Common.{◌≡◌, ◌∙◌, Option, Result, Ok, Err, IfOk, ap, subst}
 use Rattle.host_core.specs.Host.{NoFault, Reads, Silent, State}
 use Rattle.host_core.specs.Looks.{Looks}
+use Rattle.host_core.specs.Paths.{Path}
 use Rattle.host_core.specs.World.{World}
 use Rattle.host_core.specs.declared.fault.HostFault.{HostFault}
+use Rattle.host_core.specs.declared.node.Node.{Node}
 use Rattle.host_core.proofs.Moments.{reads_then, silent_then}
 use Rattle.verification.proofs.Counted.{counts_behind}
 
@@ -18,3 +20,17 @@ look_then {T = T} result P Q a b c reads silent none weaker looks = record {
     told : (r : Result T HostFault) → IfOk r (λ x. P x b.world) → IfOk r (λ x. Q x a.world)
     told (Ok x) is = weaker x a.world (subst (P x) reads.world is)
     told (Err e) is = tt
+
+-- what is told of a node that was looked at
+pub told_of_node : {T : Type 0} (told : Option Node → T) (path : Path) (node : Option Node) (result : Result T HostFault) (a b c : State)
+    → Looks {T = Option Node} (Ok node) (λ n w. n ≡ w path) a b → Looks result (λ x w. x ≡ told node) b c → Looks result (λ x w. x ≡ told (w path)) a c
+told_of_node {T = T} told path node result a b c first second = record {
+  found = λ h. behind result (first.found (second.reads.honest h)) (second.found h);
+  reads = reads_then a b c first.reads second.reads;
+  silent = silent_then a b c first.silent second.silent;
+  counts = counts_behind result a b c first.counts second.counts;
+}
+  where
+    behind : (r : Result T HostFault) → node ≡ a.world path → IfOk r (λ x. x ≡ told node) → IfOk r (λ x. x ≡ told (a.world path))
+    behind (Ok x) at is = is ∙ ap told at
+    behind (Err e) at is = tt

@@ -1,5 +1,5 @@
 use Rattle.host_core.proofs.Moments.{reads_then}
-use Rattle.foretold_changes.proofs.Overlays.{through_then}
+use Rattle.foretold_changes.proofs.Overlays.{found_behind, through_then}
 use Rattle.foretold_changes.proofs.looking.compare.Goals as goal
 
 pub returns-in_err-now-clause-reads : goal.returns-in_err-now-clause-reads
@@ -15,3 +15,6 @@ returns-clause-reads g c =
 pub returns-clause-through : goal.returns-clause-through
 returns-clause-through g c =
     through_then _ _ _ (through_then _ _ _ c.node_below.ensures.through c.node.ensures.through) c.change_of.ensures.looks.through
+
+pub returns-clause-found : goal.returns-clause-found
+returns-clause-found g c = found_behind c.args.path.now c.in_ok-before.before c.in_ok-now.now c.change_of.result _ _ _ _ c.in_ok-before.ensures c.in_ok-now.ensures c.change_of.ensures.looks
