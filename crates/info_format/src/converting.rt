@@ -30,7 +30,8 @@ fn check<H: Host>(host: &mut H, one: bool, pair: &Pair) -> Result<(), Administra
 {
     let long = host.node(&pair.long)?;
     let short = host.node(&pair.short)?;
-    if fits(one, &long, &short)? {
+    let fit = fits(one, &long, &short)?;
+    if fit {
         return Ok(());
     }
     Err(AdministrationFault::Damaged {
