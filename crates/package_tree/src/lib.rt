@@ -10,7 +10,7 @@
 //! (`relations`).
 //!
 //! Its faults come in one order: the control file, a bad path, a reserved one, a conffile that
-//! isn't shipped, one that is flagged and shipped, an odd line, a file above 1 GiB or more than
+//! isn't shipped, one that is flagged and shipped, an odd line, a file above 16 GiB or more than
 //! 65,536 paths; by line or in path order within each.
 //!
 //! A device fault is told exactly where the device failed, once and last (`counts`); nothing is
