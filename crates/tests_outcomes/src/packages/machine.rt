@@ -186,7 +186,7 @@ fn told_of(alloc: Global, names: &[Text]) -> Result<String, AllocError> {
 fn text_at(alloc: Global, host: &mut MemoryHost, path: &str) -> Result<String, AllocError> {
     let path = path_of(alloc, path)?;
     match host.node(&path) {
-        Ok(Some(Node::File { bytes, .. })) => String::from_str(alloc, text_of(bytes.as_slice())),
+        Ok(Some(Node::File { bytes, .. })) => String::from_str(alloc, text_of(bytes.held()?)),
         Ok(Some(_)) => match host.list(&path) {
             Ok(listing) => told_of(alloc, listing.names.as_slice()),
             Err(_) => Err(AllocError),

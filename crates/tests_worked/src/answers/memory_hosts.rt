@@ -131,7 +131,7 @@ fn hosts(
 // What a file holds; nothing where none stands.
 fn text_at(alloc: Global, host: &mut MemoryHost, path: &str) -> Result<String, AllocError> {
     match host.node(&path_of(alloc, path)?) {
-        Ok(Some(Node::File { bytes, .. })) => String::from_str(alloc, text_of(bytes.as_slice())),
+        Ok(Some(Node::File { bytes, .. })) => String::from_str(alloc, text_of(bytes.held()?)),
         Ok(Some(_)) => String::from_str(alloc, "directory"),
         Ok(None) => Ok(String::new(alloc)),
         Err(_) => Err(AllocError),

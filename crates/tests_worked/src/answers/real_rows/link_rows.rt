@@ -27,7 +27,7 @@ fn node_text(alloc: Global, node: Option<Node>) -> Result<String, AllocError> {
     match node {
         Some(Node::File { bytes, access }) => {
             let mode = access.mode;
-            let text = text_of(bytes.as_slice());
+            let text = text_of(bytes.held()?);
             format!(in alloc; "file {mode:o} {text}")
         }
         Some(Node::Dir { access }) => {
