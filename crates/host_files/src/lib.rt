@@ -9,8 +9,8 @@
 //! calls a step makes, with which paths under the root, in which order (`IsStepBy`, specs/Shown),
 //! that a script's command has the program, arguments, directory and variables that it is to have
 //! (`command_of`), that a fault is counted and what a person is told of it is kept (`failure`),
-//! that what is missing is never told as a fault, that names are sorted, that a file has at most 16
-//! GiB and one that is in memory at most 2, that a barrier syncs the directories in which names changed, and that what was made gets its
+//! that what is missing is never told as a fault, that names are sorted, that a file has at most 64
+//! GiB, that a barrier syncs the directories in which names changed, and that what was made gets its
 //! owner, mode and time through what is open of it, and what goes is taken from its directory, which
 //! is open (`IsTakenFrom`). A file that was written is listed until it is on the disk, and a sync of
 //! all files syncs each that is listed, or all of its file system (`AreOnDisk`). Where all of the root is
