@@ -7,22 +7,11 @@ ghost use Rattle.conffiles.specs.Settling.{digest_at};
 ghost use Rattle.status_records.specs.ConffilePaths.{is_before};
 ghost use Rattle.adopted_conffiles.specs.Adopted.{AreBefore, beside, is_left, pending_at, pending_beside, pending_of};
 
-use conffiles::Digest;
+use conffiles::{Digest, digest_of};
 use diversions::Diversions;
-use host_core::{Host, HostFault, Node, ShipPath, Suffix};
+use host_core::{Host, HostFault, ShipPath, Suffix};
 use status_records::{ConffileEntry, PendingDigest, PendingDigests, Record};
 use std::alloc::AllocError;
-
-fn digest_of(node: &Option<Node>) -> Option<Digest>
-    ensures { result ≡ digest_at node.now }
-{
-    match node {
-        Some(Node::File { bytes, .. }) => Some(Digest::of_content(bytes)),
-        Some(Node::Dir { .. }) => None,
-        Some(Node::Link { .. }) => None,
-        None => None,
-    }
-}
 
 // The digest of the file beside the place of a path.
 #[tactic(auto, using(host_core::proofs::Moments::reads_then))]

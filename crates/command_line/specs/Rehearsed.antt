@@ -1,5 +1,7 @@
 -- How words are answered that ask for a rehearsal.
 use Rattle.std.specs.Prelude.{◌≡◌, ◌⊎◌, ◌++◌, ℕ, Bool, true, false, List, Option, Some, None, codes}
+use Rattle.host_core.specs.Events.{Event}
+use Rattle.host_overlay.specs.Failing.{foretold}
 use Rattle.command_words.specs.Rehearsals.{Rehearsed}
 use Rattle.command_words.specs.declared.help.Topic.{Topic}
 use Rattle.command_words.specs.declared.words.Asked.{Asked}
@@ -16,14 +18,14 @@ abbrev pub Rehearsal : Type 0
 Rehearsal = Option Rehearsed
 
 -- hosts that are put over others, of which this is told where that is asked for
-abbrev pub over_by : Bool → Told → Around → Around
-over_by false told a = dry a
-over_by true told a = telling told a
+abbrev pub over_by : Bool → Told → List Event → Around → Around
+over_by false told first a = dry first a
+over_by true told first a = telling told first a
 
--- words are answered over hosts, or for a rehearsal over others that are put over these
+-- words are answered over hosts, or for a rehearsal over others that are put over these, with the calls foretold that are assumed to fail
 abbrev pub over : Rehearsal → Told → Around → Around
 over None told a = a
-over (Some rehearsed) told a = over_by rehearsed.1 told a
+over (Some rehearsed) told a = over_by rehearsed.1 told (foretold rehearsed.0) a
 
 -- something is told only where that is asked for, and a root opened
 abbrev pub IsToldBy : Bool → Option Asked → Told → Type 0

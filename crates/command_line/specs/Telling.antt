@@ -1,8 +1,9 @@
 -- What a rehearsal tells of the paths that would be changed, once the root is given back.
 use Rattle.std.specs.Prelude.{◌≡◌, ◌⊎◌, IsTrue, ℕ, zero, suc, Option, List, []}
-use Rattle.host_core.specs.Events.{follow_all}
+use Rattle.host_core.specs.Events.{Event, follow_all}
 use Rattle.host_core.specs.Host.{State, Reads, Silent}
 use Rattle.host_core.specs.World.{World}
+use Rattle.host_overlay.specs.Failing.{GoAsForetold}
 use Rattle.foretold_changes.specs.Told.{AreTold}
 use Rattle.command_line.specs.Dry.{dry}
 use Rattle.command_line.specs.Queries.{text_answer}
@@ -29,14 +30,15 @@ pub record IsToldOver (told : Told) (left : Given) (state : State) : Type 0 wher
   pub silent : Silent begun below
   pub honest : IsTrue below.honest → IsTrue state.honest
   pub world : state.world ≡ follow_all state.events begun.world
+  pub foretold : GoAsForetold state.events
   pub changes : Tells told below begun.world state.world
 
 abbrev pub told_left : Told → Given → Given
 told_left told left state = IsToldOver told left state
 
 -- What is known of hosts over others, of which this is told: nothing where no root was opened.
-abbrev pub telling : Told → Around → Around
-telling told a = record (dry a) { left = told_left told a.left; unopened = a.unopened × (told ≡ Nothing) }
+abbrev pub telling : Told → List Event → Around → Around
+telling told first a = record (dry first a) { left = told_left told a.left; unopened = a.unopened × (told ≡ Nothing) }
 
 -- what stands behind the reply
 abbrev pub told_answer : Told → Answer

@@ -32,7 +32,8 @@ use Rattle.unit_reports.specs.declared.report.Touched.{Touched}
 use Rattle.unit_reports.specs.declared.report.Unit.{Unit as AUnit}
 use Rattle.trigger_turns.specs.Told.{AreTold, AreToldInTurns}
 use Rattle.command_line.specs.Roots.{WritesJournalAlone}
-use Rattle.trigger_turns.specs.Turns.{HasChanged, HasTurned, first_wishes, names_told, pending_owners}
+use Rattle.trigger_turns.specs.Settled.{HasProcessedPending}
+use Rattle.trigger_turns.specs.Turns.{HasChanged, first_wishes, names_told, pending_owners}
 use Rattle.command_line.specs.declared.answer.Answer.{Answer}
 use Rattle.command_line.specs.declared.triggering.Known.{Known}
 use Rattle.command_line.specs.declared.triggering.Triggered.{Triggered}
@@ -125,9 +126,10 @@ pub record IsUnnoted (noted : Report) (before after : Held) (s end : State) : Ty
 abbrev pub HasNoted : Bool → Known → List Touch → Report → Held → Held → State → State → Type 0
 HasNoted by_files known touched noted before after s end = HasNotedAll by_files known touched noted before after s end ⊎ IsUnnoted noted before after s end
 
--- What is pending then of these packages is processed, in their order, where that is wanted, and what scripts ask for meanwhile.
+-- What is pending then of these packages is processed, in their order, where that is wanted, and what scripts ask for meanwhile; then it
+-- is noted who awaits nothing any more.
 abbrev pub HasProcessedIf : Bool → List (List ℕ) → Bool → Report → Held → Held → State → State → Type 0
-HasProcessedIf true names takes done before after s end = HasTurned (first_wishes names before.records.records) takes done before after s end
+HasProcessedIf true names takes done before after s end = HasProcessedPending (first_wishes names before.records.records) takes done before after s end
 HasProcessedIf false names takes done before after s end = IsIdle done × (after ≡ before) × (end ≡ s)
 
 -- The files of interests are those of the packages with files, but for what is in the way; then what is pending is processed.

@@ -1,5 +1,6 @@
 // A command: the answer to words, written.
 ghost use Rattle.std.specs.Prelude.{◌≡◌, ◌≤◌, ◌⊎◌, ℕ, List, Option, map, string_bytes, true};
+ghost use Rattle.host_overlay.specs.Failing.{foretold};
 ghost use Rattle.command_words.specs.Commands.{asked_of, rehearsal_of};
 ghost use Rattle.command_words.specs.Topics.{named_in};
 ghost use Rattle.command_line.specs.declared.answer.Answer.{Answer};
@@ -18,7 +19,7 @@ use crate::telling::give_behind;
 use crate::telling_hosts::{TellingHosts, Told};
 use crate::writing::{give, give_want_of_memory, write_whole};
 use command_words::{Rehearsal, rehearsal_of};
-use host_overlay::AssumedFailure;
+use host_overlay::{AssumedFailure, Plan};
 use std::alloc::Global;
 use std::io::Write;
 
@@ -64,7 +65,7 @@ fn rehearse<S: Hosts, O: Write, E: Write>(
 ) -> u8
     ensures bound { result ≤ 2 }
     ensures answered { (answer : Answer)
-        × (IsAnswerOf (dry (around S.Hosts hosts.old hosts.new))
+        × (IsAnswerOf (dry (foretold failing.items) (around S.Hosts hosts.old hosts.new))
         (named_in (map string_bytes words.now)) (asked_of (map string_bytes words.now)) answer
         ⊎ ((answer ≡ memory_answer) × (hosts.new ≡ hosts.old)))
         × (IsGiven (behind_line answer) (O.contents out.old) (O.contents out.new)
@@ -80,11 +81,14 @@ fn rehearse<S: Hosts, O: Write, E: Write>(
     if !write_whole(out, b"dry run\n") {
         return FAILED;
     }
-    let mut failing = failing;
+    let Ok(plan) = Plan::new(alloc, failing) else {
+        return give_want_of_memory(err);
+    };
+    let mut plan = Some(plan);
     let mut dry = DryHosts {
         alloc,
         hosts,
-        failing: &mut failing,
+        plan: &mut plan,
     };
     carry_out(alloc, &mut dry, words, out, err)
 }
@@ -102,7 +106,7 @@ fn rehearse_telling<S: Hosts, O: Write, E: Write>(
     ensures answered { (answer : Answer) × (told : ATold) × (output error : Option (List ℕ))
         × (first : ℕ)
         × ((told ≡ Nothing) ⊎ (opens_root (asked_of (map string_bytes words.now)) ≡ true))
-        × (IsAnswerOf (telling told (around S.Hosts hosts.old hosts.new))
+        × (IsAnswerOf (telling told (foretold failing.items) (around S.Hosts hosts.old hosts.new))
         (named_in (map string_bytes words.now)) (asked_of (map string_bytes words.now)) answer
         ⊎ ((answer ≡ memory_answer) × (hosts.new ≡ hosts.old) × (told ≡ Nothing)))
         × (IsGiven (behind_line answer) (O.contents out.old) output (E.contents err.old) error first
@@ -117,12 +121,15 @@ fn rehearse_telling<S: Hosts, O: Write, E: Write>(
     if !write_whole(out, b"dry run\n") {
         return FAILED;
     }
-    let mut failing = failing;
+    let Ok(plan) = Plan::new(alloc, failing) else {
+        return give_want_of_memory(err);
+    };
+    let mut plan = Some(plan);
     let mut telling = TellingHosts {
         dry: DryHosts {
             alloc,
             hosts,
-            failing: &mut failing,
+            plan: &mut plan,
         },
         told: Told::Nothing,
     };
@@ -145,7 +152,8 @@ fn rehearse_as<S: Hosts, O: Write, E: Write>(
     ensures answered { (answer : Answer) × (told : ATold) × (output error : Option (List ℕ))
         × (first : ℕ)
         × IsToldBy rehearsal.changes (asked_of (map string_bytes words.now)) told
-        × (IsAnswerOf (over_by rehearsal.changes told (around S.Hosts hosts.old hosts.new))
+        × (IsAnswerOf (over_by rehearsal.changes told (foretold rehearsal.failing.items)
+        (around S.Hosts hosts.old hosts.new))
         (named_in (map string_bytes words.now)) (asked_of (map string_bytes words.now)) answer
         ⊎ ((answer ≡ memory_answer) × (hosts.new ≡ hosts.old) × (told ≡ Nothing)))
         × (IsGiven (behind_line answer) (O.contents out.old) output (E.contents err.old) error first

@@ -1,48 +1,52 @@
 // Hosts of which nothing is changed.
-ghost use Rattle.command_line.specs.Dry.{dry_left, dry_root};
+ghost use Rattle.command_line.specs.Dry.{dry_left, dry_root, foretold_by};
 
 use crate::fault::{RootFault, TreeOpening};
 use crate::hosts::Hosts;
 use command_words::{ScriptStreams, TreeOwners};
 use host_core::HostFault;
-use host_overlay::{AssumedFailure, Overlay};
+use host_overlay::{Overlay, Plan};
 use std::alloc::Global;
-use std::mem;
 
 /// The hosts of a rehearsal: what is done to a root that is opened is kept in memory, and its scripts aren't started. It is only
-/// looked at, so that its locks aren't taken. The calls that are assumed to fail are those on the root that is opened first.
+/// looked at, so that its locks aren't taken. What is planned are calls on the root that is opened first.
 #[derive(Drop)]
 pub(crate) struct DryHosts<'a, S: Hosts> {
     pub(crate) alloc: Global,
     pub(crate) hosts: &'a mut S,
-    pub(crate) failing: &'a mut Vec<AssumedFailure>,
+    pub(crate) plan: &'a mut Option<Plan>,
 }
 
 impl<'a, S: Hosts> DryHosts<'a, S> {
-    ghost use Rattle.std.specs.Prelude.{◌≡◌, []};
-    ghost use Rattle.host_overlay.specs.Overlays.{assumed, begun_state, overlay_state};
+    ghost use Rattle.std.specs.Prelude.{◌≡◌};
+    ghost use Rattle.host_overlay.specs.Overlays.{begun_state, overlay_state};
 
-    // The host of a root over the one below, on which the calls fail that are assumed to.
+    // The host of a root over the one below, on which the calls fail that are planned to.
     fn over_root(&mut self, host: S::Opened) -> Overlay<S::Opened>
-        ensures state { overlay_state result ≡ record (S.Opened.state host) { events = [] } }
+        ensures state { overlay_state result ≡ record (S.Opened.state host) {
+          events = foretold_by self.old.plan.now;
+        } }
         ensures begun { begun_state result ≡ S.Opened.state host }
-        ensures assumed { assumed result ≡ self.old.failing.now.items }
         ensures hosts { self.new.hosts ≡ self.old.hosts }
-        ensures failing { self.new.failing.ghost_name ≡ self.old.failing.ghost_name }
+        ensures plan { self.new.plan.ghost_name ≡ self.old.plan.ghost_name }
     {
-        let failing = mem::replace(self.failing, Vec::new(self.alloc));
-        Overlay::over(self.alloc, host, failing)
+        match self.plan.take() {
+            Some(plan) => Overlay::rehearsing(self.alloc, host, plan),
+            None => Overlay::over(self.alloc, host),
+        }
     }
 }
 
 impl<'a, S: Hosts> Hosts for DryHosts<'a, S> {
+    ghost use Rattle.std.specs.Prelude.{[]};
+
     type Opened = Overlay<S::Opened>;
 
     ghost faults = { λ d. S.faults d.hosts.now };
 
-    ghost root = { λ d. dry_root (S.root d.hosts.now) };
+    ghost root = { λ d. dry_root (foretold_by d.plan.now) (S.root d.hosts.now) };
 
-    ghost tree = { λ d. dry_root (S.tree d.hosts.now) };
+    ghost tree = { λ d. dry_root [] (S.tree d.hosts.now) };
 
     ghost left = { λ d. dry_left (S.left d.hosts.now) };
 
@@ -92,7 +96,7 @@ impl<'a, S: Hosts> Hosts for DryHosts<'a, S> {
         owners: TreeOwners,
     ) -> Result<Overlay<S::Opened>, TreeOpening> {
         match self.hosts.open_tree(directory, owners) {
-            Ok(host) => Ok(Overlay::over(self.alloc, host, Vec::new(self.alloc))),
+            Ok(host) => Ok(Overlay::over(self.alloc, host)),
             Err(fault) => Err(fault),
         }
     }

@@ -1,5 +1,5 @@
 // The rounds of an install: its trees are looked at first, one after another.
-ghost use Rattle.std.specs.Prelude.{◌≡◌, ◌≢◌, ◌++◌, ◌∷◌, ◌<◌, [], IsTrue, List, ℕ, Err, IfOk, OnOk, Option, false, length, map};
+ghost use Rattle.std.specs.Prelude.{◌≡◌, ◌≢◌, ◌++◌, ◌∷◌, ◌<◌, [], IsTrue, List, ℕ, Err, IfOk, OnOk, Option, false, length, map, MatchBool};
 ghost use Rattle.std.specs.List.{All};
 ghost use Rattle.host_core.specs.Host.{Reads, Silent, State};
 ghost use Rattle.package_tree.specs.Fault.{CountsTree};
@@ -60,6 +60,15 @@ fn look<S: Hosts>(
     }
 }
 
+fn is_want_of_memory(fault: &TreeFault) -> bool
+    ensures { MatchBool result (fault.now ≡ NoMemory) (fault.now ≢ NoMemory) }
+{
+    match fault {
+        TreeFault::NoMemory => true,
+        _ => false,
+    }
+}
+
 fn look_at<S: Hosts>(
     alloc: Global,
     hosts: &mut S,
@@ -71,8 +80,12 @@ fn look_at<S: Hosts>(
 {
     match look(alloc, hosts, owners, word) {
         Ok(file) => Ok(Some(file)),
-        Err(TreeFault::NoMemory) => Err(AllocError),
-        Err(_) => Ok(None),
+        Err(fault) => {
+            if is_want_of_memory(&fault) {
+                return Err(AllocError);
+            }
+            Ok(None)
+        }
     }
 }
 

@@ -5,7 +5,7 @@ ghost use Rattle.host_core.specs.World.{World};
 ghost use Rattle.foretold_changes.specs.Changes.{unread_paths};
 ghost use Rattle.foretold_changes.specs.Told.{IsLookedOver};
 ghost use Rattle.command_line.specs.Telling.{Tells, told_left};
-ghost use Rattle.command_line.specs.Dry.{dry_left, dry_root};
+ghost use Rattle.command_line.specs.Dry.{dry_left, dry_root, foretold_by};
 
 use crate::dry_hosts::DryHosts;
 use crate::fault::{RootFault, TreeOpening};
@@ -58,13 +58,15 @@ pub(crate) struct TellingHosts<'a, S: Hosts> {
 }
 
 impl<'a, S: Hosts> Hosts for TellingHosts<'a, S> {
+    ghost use Rattle.std.specs.Prelude.{[]};
+
     type Opened = Overlay<S::Opened>;
 
     ghost faults = { λ t. S.faults t.dry.hosts.now };
 
-    ghost root = { λ t. dry_root (S.root t.dry.hosts.now) };
+    ghost root = { λ t. dry_root (foretold_by t.dry.plan.now) (S.root t.dry.hosts.now) };
 
-    ghost tree = { λ t. dry_root (S.tree t.dry.hosts.now) };
+    ghost tree = { λ t. dry_root [] (S.tree t.dry.hosts.now) };
 
     ghost left = { λ t. told_left t.told (S.left t.dry.hosts.now) };
 

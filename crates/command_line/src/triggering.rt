@@ -19,7 +19,7 @@ use report_lines::report_status;
 use status_records::{Record, State};
 use std::alloc::{AllocError, Global};
 use texts::Text;
-use trigger_turns::{pending_owners, process_in_turns};
+use trigger_turns::{pending_owners, process_pending};
 use unit_reports::{breakage_of, broken};
 
 /// What is done of triggers around the units of a command.
@@ -279,7 +279,7 @@ fn process_if<H: Host, W: Watcher>(
     ensures watched { AreToldInTurns W.tells watcher.old result.units.items watcher.new }
 {
     match wanted {
-        true => process_in_turns(alloc, session, names, takes, watcher),
+        true => process_pending(alloc, session, names, takes, watcher),
         false => idle(alloc),
     }
 }

@@ -4,9 +4,10 @@ ghost use Rattle.std.specs.List.{list_all};
 ghost use Rattle.md5.specs.Md5.{md5};
 ghost use Rattle.hex.specs.Hex.{encode_lower};
 ghost use Rattle.conffiles.specs.Digests.{IsDigest, is_lower_digit, is_digest_text};
+ghost use Rattle.conffiles.specs.Settling.{digest_at};
 
 use hex::FromHex;
-use host_core::Content;
+use host_core::{Content, Node};
 use md5::Md5;
 use std::alloc::{AllocError, Global};
 use std::marker::Model;
@@ -86,5 +87,17 @@ impl Digest {
         ensures { IsDigest self.now }
     {
         let _ = &self.bytes;
+    }
+}
+
+/// The digest of what stands at a path, where that is a file.
+pub fn digest_of(node: &Option<Node>) -> Option<Digest>
+    ensures { result ≡ digest_at node.now }
+{
+    match node {
+        Some(Node::File { bytes, .. }) => Some(Digest::of_content(bytes)),
+        Some(Node::Dir { .. }) => None,
+        Some(Node::Link { .. }) => None,
+        None => None,
     }
 }

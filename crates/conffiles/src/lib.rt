@@ -21,7 +21,7 @@ mod settling;
 
 pub use again::settling_again_ends_alike;
 pub use decisions::{Changed, ConfPolicy, Decision, decide, each_case_has_one_row};
-pub use digests::Digest;
+pub use digests::{Digest, digest_of};
 pub use entries::Settled;
 pub use obstacles::find_obstacle;
 pub use settling::apply;

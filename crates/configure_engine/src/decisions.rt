@@ -8,9 +8,9 @@ ghost use Rattle.configure_engine.specs.Decided.{decided_paths, AreDecided, IsDe
 ghost use Rattle.configure_engine.specs.Waiting.{pending_digest, place_of, settling_places};
 
 use crate::waiting::settling_paths;
-use conffiles::{ConfPolicy, Digest, Settled, decide};
+use conffiles::{ConfPolicy, Digest, Settled, decide, digest_of};
 use diversions::Diversions;
-use host_core::{Host, HostFault, Node, ShipPath};
+use host_core::{Host, HostFault, ShipPath};
 use status_records::{ConffileEntry, PendingDigest, Record};
 use std::alloc::Global;
 
@@ -34,17 +34,6 @@ fn pending_digest(pending: &[PendingDigest], path: &ShipPath) -> Option<Digest>
         }
     }
     None
-}
-
-fn digest_of(node: &Option<Node>) -> Option<Digest>
-    ensures { result ≡ digest_at node.now }
-{
-    match node {
-        Some(Node::File { bytes, .. }) => Some(Digest::of_content(bytes)),
-        Some(Node::Dir { .. }) => None,
-        Some(Node::Link { .. }) => None,
-        None => None,
-    }
 }
 
 // The digest of the file that is there now.

@@ -1,4 +1,6 @@
 pub mod Members
+pub mod Names
+pub mod Breakers
 pub mod Numbers
 pub mod Refusals
 pub mod LeftLaws

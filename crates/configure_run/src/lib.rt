@@ -21,6 +21,7 @@
 
 mod all_turns;
 mod asked;
+mod breaking;
 mod early;
 mod left_over;
 mod options;

@@ -4,11 +4,13 @@ ghost use Rattle.dependency_check.specs.Waiting.{IsConfigurableNow, IsNextOfConf
 ghost use Rattle.dependency_sets.specs.Choices.{IsFirst, IsListing};
 ghost use Rattle.dependency_sets.specs.Sets.{has};
 ghost use Rattle.recorded_packages.specs.Packages.{ArePackagesOf};
+ghost use Rattle.configure_run.specs.Breaking.{AreBreakers};
 ghost use Rattle.configure_run.specs.Starting.{AreNamedApart, IsBegun, IsEven};
 ghost use Rattle.configure_run.specs.Taking.{left_behind};
 ghost use Rattle.configure_run.specs.Turns.{after_turn};
 ghost use Rattle.configure_run.specs.Whose.{IsNobodysTurn, IsWhoseTurn};
 
+use crate::breaking::breakers_of;
 use crate::starting::{installed_of, waiting_of};
 use dependency_check::ConfigureQueue;
 use dependency_sets::{Numbers, first_of_both, has, listed};
@@ -18,23 +20,25 @@ use std::alloc::{AllocError, Global};
 use std::marker::Model;
 use texts::Text;
 
-/// The queue of the packages, and which of them wait.
+/// The queue of the packages, which of them wait, and which state Breaks.
 #[derive(Drop)]
 pub(crate) struct Queue {
     queue: ConfigureQueue,
     waiting: Vec<bool>,
+    breakers: Numbers,
 }
 
 impl Model for Queue {
     ghost use Rattle.std.specs.Prelude.{◌≡◌};
     ghost use Rattle.dependency_check.specs.Waiting.{Waiting};
+    ghost use Rattle.configure_run.specs.Breaking.{AreBreakers};
     ghost use Rattle.configure_run.specs.Starting.{AreNamedApart, IsEven};
 
     ghost Value = { Waiting };
 
     ghost view = { λ t. t.queue };
 
-    ghost invariant = { λ t. (t.waiting.items ≡ t.queue.waiting) × IsEven t.queue × AreNamedApart t.queue.packages };
+    ghost invariant = { λ t. (t.waiting.items ≡ t.queue.waiting) × IsEven t.queue × AreNamedApart t.queue.packages × AreBreakers t.queue.packages t.breakers };
 }
 
 // The queue behind a package that was configured out of order: others may be configurable now, so it is made anew.
@@ -90,10 +94,15 @@ impl Queue {
         ensures { IfOk result (IsBegun names.now database.now.records) }
     {
         database.law();
+        let breakers = breakers_of(alloc, packages.as_slice())?;
         let installed = installed_of(alloc, database.records())?;
         let waiting = waiting_of(alloc, names, database.records())?;
         let queue = ConfigureQueue::of(alloc, packages, installed.as_slice(), waiting.as_slice())?;
-        Ok(Queue { queue, waiting })
+        Ok(Queue {
+            queue,
+            waiting,
+            breakers,
+        })
     }
 
     /// What holds of each queue.
@@ -108,6 +117,14 @@ impl Queue {
         ensures { result.now ≡ self.now.packages }
     {
         self.queue.packages()
+    }
+
+    /// The packages that state Breaks.
+    pub(crate) fn breakers(&self) -> &[usize]
+        ensures { AreBreakers self.now.packages result.now }
+    {
+        let _ = &self.queue;
+        self.breakers.as_slice()
     }
 
     /// The packages again, once no turn is left.
@@ -181,12 +198,17 @@ impl Queue {
         requires waits { IsTrue (has self.waiting number) }
         ensures { IfOk result (λ t. t ≡ after_turn done number self) }
     {
-        let Queue { queue, mut waiting } = self;
+        let Queue {
+            queue,
+            mut waiting,
+            breakers,
+        } = self;
         waiting[number] = false;
         let left = queue_after(alloc, queue, number, done, waiting.as_slice())?;
         Ok(Queue {
             queue: left,
             waiting,
+            breakers,
         })
     }
 

@@ -1,22 +1,25 @@
 // The packages as numbers, and which of them wait and call no script, when configuring begins.
-ghost use Rattle.std.specs.Prelude.{◌≡◌, IfOk, map, true};
+ghost use Rattle.std.specs.Prelude.{◌≡◌, ◌&&◌, IfOk, map, true};
+ghost use Rattle.std.specs.BTreeSet.{contains_text};
 ghost use Rattle.administration.specs.Places.{script_path as stored_path};
 ghost use Rattle.host_core.specs.Looks.{Looks};
 ghost use Rattle.texts.specs.PackageNames.{is_package_name};
+ghost use Rattle.configure_run.specs.Asked.{can_wait};
 ghost use Rattle.configure_run.specs.Starting.{AreSilentOf, is_silent, satisfies, waits};
 
-use crate::asked::{can_wait, has_name};
+use crate::asked::{can_wait, set_of};
 use administration::script_path;
 use host_core::{Host, HostFault, Script};
 use status_db::NotedDatabase;
 use status_records::Record;
 use std::alloc::{AllocError, Global};
+use std::collections::BTreeSet;
 use texts::Text;
 
-fn waits(names: &[Text], entry: &Record) -> bool
-    ensures { result ≡ waits names.now entry.now }
+fn waits(names: &BTreeSet<String>, entry: &Record) -> bool
+    ensures { result ≡ (can_wait entry.now && contains_text names.now entry.now.name) }
 {
-    can_wait(entry) && has_name(names, &entry.name)
+    can_wait(entry) && names.contains(entry.name.as_str())
 }
 
 pub(crate) fn installed_of(alloc: Global, records: &[Record]) -> Result<Vec<bool>, AllocError>
@@ -36,9 +39,10 @@ pub(crate) fn waiting_of(
 ) -> Result<Vec<bool>, AllocError>
     ensures { IfOk result (λ set. set.items ≡ map (waits names.now) records.now) }
 {
+    let named = set_of(alloc, names)?;
     let mut set = Vec::new(alloc);
     for entry in records {
-        set.push(waits(names, entry))?;
+        set.push(waits(&named, entry))?;
     }
     Ok(set)
 }
@@ -58,11 +62,12 @@ fn is_silent<H: Host>(alloc: Global, host: &mut H, name: &Text) -> Result<bool, 
 fn is_silent_at<H: Host>(
     alloc: Global,
     host: &mut H,
-    names: &[Text],
+    names: &BTreeSet<String>,
     entry: &Record,
 ) -> Result<bool, HostFault>
-    ensures looks { Looks result (λ is w. waits names.now entry.now ≡ true
-        → is ≡ is_silent w entry.now.name) (H.state host.old) (H.state host.new) }
+    ensures looks { Looks result (λ is w. (can_wait entry.now && contains_text names.now
+        entry.now.name) ≡ true → is ≡ is_silent w entry.now.name) (H.state host.old)
+        (H.state host.new) }
 {
     if waits(names, entry) {
         return is_silent(alloc, host, &entry.name);
@@ -80,9 +85,10 @@ pub(crate) fn silent_of<H: Host>(
     ensures looks { Looks result (λ set w. AreSilentOf w names.now records.now set.items)
         (H.state host.old) (H.state host.new) }
 {
+    let named = set_of(alloc, names)?;
     let mut set = Vec::new(alloc);
     for entry in records {
-        set.push(is_silent_at(alloc, host, names, entry)?)?;
+        set.push(is_silent_at(alloc, host, &named, entry)?)?;
     }
     Ok(set)
 }

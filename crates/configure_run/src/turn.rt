@@ -71,8 +71,17 @@ fn take_turn<H: Host>(
     }
     queue.law();
     let packages = queue.packages();
+    let breakers = queue.breakers();
     let of = &packages.as_slice()[number];
-    let unit = unit_of(host, administration, diversions, packages, of, policy);
+    let unit = unit_of(
+        host,
+        administration,
+        diversions,
+        packages,
+        breakers,
+        of,
+        policy,
+    );
     if is_broken(&unit) {
         return Err(unit);
     }

@@ -11,12 +11,13 @@ ghost use Rattle.unit_reports.specs.Units as reports;
 ghost use Rattle.unit_reports.specs.Units.{CountsReply, IsBroken, IsBrokenBy, IsFromBefore, IsRefusedUnit, TellsNoPackage};
 ghost use Rattle.unit_reports.specs.declared.report.Breakage.TheVariants.{NoMemory};
 ghost use Rattle.unit_reports.specs.declared.refusal.Rule.TheVariants.{BrokenBy};
+ghost use Rattle.configure_run.specs.Breaking.{AreBreakers};
 ghost use Rattle.configure_run.specs.Starting.{name_at};
 ghost use Rattle.configure_run.specs.Turns.{Answers, ConfiguresToDisk, HasCalledFor, HasCalledToDisk, HasObstacle, IsAmidUnit, IsBeside, IsConfigured, IsUnit, IsUnitFor, given_by, holding_of, is_done, reply_to};
 
+use crate::breaking::broken_by;
 use conffiles::ConfPolicy;
 use configure_engine::{configure, obstacle};
-use dependency_check::broken_by;
 use diversions::Diversions;
 use held_administration::Administration;
 use host_core::{Call, Host, HostFault, RootPath};
@@ -278,15 +279,17 @@ fn refused_for(alloc: Global, packages: &[Package], breaking: usize, name: &Text
     }
 }
 
-/// The unit of a package whose turn it is.
+/// The unit of a package whose turn it is; beside the packages are those that state Breaks.
 pub(crate) fn unit_of<H: Host>(
     host: &mut H,
     administration: &mut Administration,
     diversions: &Diversions,
     packages: &Packages,
+    breakers: &[usize],
     of: &Package,
     policy: ConfPolicy,
 ) -> Unit
+    requires breakers { AreBreakers packages.now breakers.now }
     requires open { IsOpen diversions.now.ways administration.old }
     requires waits { IsWaiting administration.old.database.records of.now.name }
     requires order { Needs (H.state host.old)
@@ -306,7 +309,7 @@ pub(crate) fn unit_of<H: Host>(
     ensures counts { CountsReply (H.state host.old) (H.state host.new) result.reply }
     ensures not_closed { IsFromBefore result.reply → ⊥ }
 {
-    match broken_by(packages, of) {
+    match broken_by(packages, breakers, of) {
         Some(breaking) => refused_for(
             administration.alloc,
             packages.as_slice(),

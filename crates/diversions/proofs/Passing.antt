@@ -1,19 +1,20 @@
 -- What holds where no condition of a refusal does.
-use Rattle.std.proofs.Common.{◌≡◌, ◌≢◌, ◌||◌, ◌&&◌, ◌+◌, ℕ, nat_eq, cond, IsTrue, append_assoc, Bool, true, false, not, is_some, List, [], ◌∷◌, ◌++◌, Option, Some, None, Result, Ok, Err, refl, sym, ap, subst, ◌∙◌}
+use Rattle.std.proofs.Common.{◌≡◌, ◌≢◌, ◌||◌, ◌&&◌, ◌+◌, ℕ, cond, IsTrue, append_assoc, Bool, true, false, not, is_some, List, [], ◌∷◌, ◌++◌, Option, Some, None, Result, Ok, Err, refl, sym, ap, subst, ◌∙◌}
 use Rattle.std.specs.Prelude.{IfOk, MatchResult}
 use Rattle.std.specs.Str.{bytes_eq}
-use Rattle.std.proofs.lemmas.Bool.{and_from, and_parts, and_right, eqb-true, or_parts, true≢false, false≢true, not-false}
+use Rattle.std.proofs.lemmas.Bool.{and_from, and_parts, and_right, or_parts, true≢false, false≢true, not-false}
 use Rattle.std.proofs.lemmas.Slice.Eq.{bytes_eq-Decides}
+use Rattle.host_core.specs.Nodes.{same_access}
 use Rattle.host_core.specs.Paths.{Path, is_ship_text}
 use Rattle.host_core.specs.World.{World, kind_of, IsDirectory, IsLoose, SyncRoot}
 use Rattle.host_core.specs.Events.{Event, Did}
-use Rattle.host_core.specs.Host.{Counts, NoFault, Reads, State}
+use Rattle.host_core.specs.Host.{Reads, State}
 use Rattle.host_core.specs.Looks.{Looks}
 use Rattle.host_core.specs.declared.fault.HostFault.{HostFault}
-use Rattle.host_core.specs.declared.fault.HostFault.TheVariants.{Device, NoMemory, Declined}
 use Rattle.host_core.specs.declared.node.Kind.{Kind}
-use Rattle.host_core.proofs.Counted.{declined_then, no_fault_then}
-use Rattle.host_core.proofs.Moments.{faults_then, grown, reads_then, silent_then}
+use Rattle.host_core.proofs.LooksBehind.{looked_behind}
+use Rattle.host_core.proofs.Moments.{faults_then, grown}
+use Rattle.host_core.proofs.Nodes.{same_access_is}
 use Rattle.host_core.specs.declared.node.Access.{Access}
 use Rattle.host_core.specs.declared.node.Node.{Node}
 use Rattle.host_core.specs.declared.node.Node.TheVariants.{File, Dir, Link}
@@ -25,7 +26,7 @@ use Rattle.diversions.specs.Names.{front_of}
 use Rattle.std.specs.List.{list_any}
 use Rattle.diversions.specs.Refusals.{has_same, first_holding, move_conditions, add_conditions, back_conditions, owner_conditions, is_name_taken, is_one_place, is_path_taken, is_place_taken, is_rival, is_target_taken, answer_of, remove_answer}
 use Rattle.diversions.specs.Routes.{route_of}
-use Rattle.diversions.specs.Sights.{brings_first, sight_of, is_directory_kind, is_loose_kind, moves_back, moves_node, same_access, same_loose, same_node}
+use Rattle.diversions.specs.Sights.{brings_first, sight_of, is_directory_kind, is_loose_kind, moves_back, moves_node, same_loose, same_node}
 use Rattle.diversions.specs.Ways.{Ways, truename}
 use Rattle.diversions.specs.declared.entry.Diversion.{Diversion}
 use Rattle.diversions.specs.declared.entry.Owner.{Owner}
@@ -73,18 +74,6 @@ way_free sight is =
     (not-false (is_directory_kind sight.above) first.0, (none_holds TargetExists (is_some sight.to && not sight.same) [] first.1).0)
 
 -- two nodes that are the same
-
-abbrev access_of : ℕ → ℕ → ℕ → Access
-access_of mode user group = record { mode = mode; user = user; group = group }
-
-same_access_is : (a b : Access) → same_access a b ≡ true → a ≡ b
-same_access_is a b is =
-    let first = and_parts (nat_eq a.mode b.mode) (nat_eq a.user b.user && nat_eq a.group b.group) is in
-    let second = and_parts (nat_eq a.user b.user) (nat_eq a.group b.group) first.1 in
-    let mode = eqb-true a.mode b.mode first.0 in
-    let user = eqb-true a.user b.user second.0 in
-    let group = eqb-true a.group b.group second.1 in
-    ap (λ m. access_of m a.user a.group) mode ∙ ap (λ u. access_of b.mode u a.group) user ∙ ap (access_of b.mode b.user) group
 
 same_loose_is : (n m : Node) → same_loose n m ≡ true → (n ≡ m) × (is_loose_kind (kind_of (Some m)) ≡ true)
 same_loose_is (File bytes access) (File others other) is =
@@ -228,12 +217,6 @@ ok_at (Err e) x P Q is holds = absurd (let same : Err e ≡ Ok x = is in cc)
 
 -- what is seen, by what was looked at
 
-counts_behind : {T : Type 0} (a b c : State) (result : Result T HostFault) → NoFault a b → Counts b c result → Counts a c result
-counts_behind a b c (Ok x) first second = no_fault_then a b c first second
-counts_behind a b c (Err Device) first failed = record { once = failed.once ∙ ap (λ n. n + 1) first.faults; last = failed.last }
-counts_behind a b c (Err NoMemory) first second = no_fault_then a b c first second
-counts_behind a b c (Err Declined) first declined = declined_then a b c first declined
-
 -- where either is no file or link they aren't the same
 same_asked : (rename : Bool) (n m : Option Node) → (rename && (is_loose_kind (kind_of n) && is_loose_kind (kind_of m))) && same_node n m ≡ rename && same_node n m
 same_asked false n m = refl
@@ -261,36 +244,29 @@ pub looked_around : (rename : Bool) (from to : Path) (there taken above : Option
     → Looks {T = Option Kind} (Ok there) (λ kind w. kind ≡ kind_of (w from)) a b → Looks {T = Option Kind} (Ok taken) (λ kind w. kind ≡ kind_of (w to)) b c → Looks {T = Option Kind} (Ok above) (λ kind w. kind ≡ kind_of (w (front_of to))) c d
     → Looks result (λ sight w. sight ≡ record { from = there; to = taken; above = above; same = (rename && (is_loose_kind there && is_loose_kind taken)) && same_node (w from) (w to) }) d e
     → Looks result (λ sight w. sight ≡ sight_of rename w from to) a e
-looked_around rename from to there taken above result a b c d e first second third last = record {
-  found = λ h.
-      let hd = last.reads.honest h in
-      let hc = third.reads.honest hd in
-      let hb = second.reads.honest hc in
-      let at_b : b.world ≡ a.world = first.reads.world in
-      let at_c : c.world ≡ a.world = second.reads.world ∙ at_b in
-      let at_d : d.world ≡ a.world = third.reads.world ∙ at_c in
-      if_ok result (λ x is. is ∙ ap (λ w. seen_of there taken above ((rename && (is_loose_kind there && is_loose_kind taken)) && same_node (w from) (w to))) at_d
-      ∙ sight_seen rename from to there taken above a.world (first.found hb) (second.found hc ∙ ap (λ w. kind_of (w to)) at_b) (third.found hd ∙ ap (λ w. kind_of (w (front_of to))) at_c))
-      (last.found h);
-  reads = reads_then a d e (reads_then a c d (reads_then a b c first.reads second.reads) third.reads) last.reads;
-  silent = silent_then a d e (silent_then a c d (silent_then a b c first.silent second.silent) third.silent) last.silent;
-  counts = counts_behind a d e result (no_fault_then a c d (no_fault_then a b c first.counts second.counts) third.counts) last.counts;
-}
+looked_around rename from to there taken above result a b c d e first second third last =
+    looked_behind there result (λ kind w. kind ≡ kind_of (w from)) with_both (λ sight w. sight ≡ sight_of rename w from to) a b e
+    (λ sight w at more. more.1.1 ∙ sight_seen rename from to there taken above w at more.0 more.1.0) first
+    (looked_behind taken result (λ kind w. kind ≡ kind_of (w to)) with_above with_both b c e (λ sight w at more. (at, more)) second
+    (looked_behind above result (λ kind w. kind ≡ kind_of (w (front_of to))) seen with_above c d e (λ sight w at is. (at, is)) third last))
+  where
+    seen : Sight → World → Type 0
+    seen sight w = sight ≡ seen_of there taken above ((rename && (is_loose_kind there && is_loose_kind taken)) && same_node (w from) (w to))
+
+    with_above : Sight → World → Type 0
+    with_above sight w = (above ≡ kind_of (w (front_of to))) × seen sight w
+
+    with_both : Sight → World → Type 0
+    with_both sight w = (taken ≡ kind_of (w to)) × with_above sight w
 
 -- whether the same stands at both, where that was asked
 pub seen_same : (asked : Bool) (from to : Path) (there taken : Option Node) (result : Result Bool HostFault) (a b c d : State) → asked ≡ true
     → Looks {T = Option Node} (Ok there) (λ node w. node ≡ w from) a b → Looks {T = Option Node} (Ok taken) (λ node w. node ≡ w to) b c
     → Looks result (λ same w. same ≡ same_node there taken) c d → Looks result (λ same w. same ≡ (asked && same_node (w from) (w to))) a d
-seen_same asked from to there taken result a b c d is_asked first second last = record {
-  found = λ h.
-      let hc = last.reads.honest h in
-      let hb = second.reads.honest hc in
-      if_ok result (λ x is. is ∙ ap (λ n. same_node n taken) (first.found hb) ∙ ap (λ n. same_node (a.world from) n) (second.found hc ∙ ap (λ w. w to) first.reads.world)
-      ∙ ap (λ y. y && same_node (a.world from) (a.world to)) (sym is_asked)) (last.found h);
-  reads = reads_then a c d (reads_then a b c first.reads second.reads) last.reads;
-  silent = silent_then a c d (silent_then a b c first.silent second.silent) last.silent;
-  counts = counts_behind a c d result (no_fault_then a b c first.counts second.counts) last.counts;
-}
+seen_same asked from to there taken result a b c d is_asked first second last =
+    looked_behind there result (λ node w. node ≡ w from) (λ same w. same ≡ same_node there (w to)) (λ same w. same ≡ (asked && same_node (w from) (w to))) a b d
+    (λ same w at is. is ∙ ap (λ n. same_node n (w to)) at ∙ ap (λ y. y && same_node (w from) (w to)) (sym is_asked)) first
+    (looked_behind taken result (λ node w. node ≡ w to) (λ same w. same ≡ same_node there taken) (λ same w. same ≡ same_node there (w to)) b c d (λ same w at is. is ∙ ap (same_node there) at) second last)
 
 -- the entry that is asked for
 pub brought_of : (ways : Ways) (rename listed : Bool) (result : Result Answer HostFault) (a b : State) (p p2 t t2 : Path) (o o2 : Owner) → p ≡ p2 → t ≡ t2 → o ≡ o2

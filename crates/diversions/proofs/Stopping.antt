@@ -1,14 +1,15 @@
 -- A change that was stopped on its way, asked for again.
-use Rattle.std.proofs.Common.{◌≡◌, ◌≢◌, ◌⊎◌, inl, inr, ◌||◌, ◌&&◌, Bool, true, false, not, cond, is_some, nat_eq, subst, List, [], ◌∷◌, ◌++◌, Option, Some, None, refl, sym, ap, ◌∙◌}
+use Rattle.std.proofs.Common.{◌≡◌, ◌≢◌, ◌⊎◌, inl, inr, ◌||◌, ◌&&◌, Bool, true, false, not, cond, is_some, subst, List, [], ◌∷◌, ◌++◌, Option, Some, None, refl, sym, ap, ◌∙◌}
 use Rattle.std.specs.List.{list_any}
 use Rattle.std.specs.Str.{bytes_eq}
-use Rattle.std.proofs.lemmas.Bool.{and_right, and_from, and_parts, eq-eqb, or_from, or_parts, true≢false}
+use Rattle.std.proofs.lemmas.Bool.{and_right, and_from, and_parts, or_from, or_parts, true≢false}
 use Rattle.std.proofs.lemmas.Slice.Eq.{bytes_eq-Decides}
+use Rattle.host_core.specs.Nodes.{same_access}
 use Rattle.host_core.specs.Paths.{Path, is_ship_text}
 use Rattle.host_core.specs.World.{World, IsDirectory, moved, put, kind_of}
-use Rattle.host_core.specs.declared.node.Access.{Access}
 use Rattle.host_core.specs.declared.node.Node.{Node}
 use Rattle.host_core.specs.declared.node.Node.TheVariants.{File, Dir, Link}
+use Rattle.host_core.proofs.Nodes.{same_access_itself}
 use Rattle.host_core.proofs.WorldLaws.{put_same, put_other}
 use Rattle.administration.specs.Files.{KeepsBesideFile}
 use Rattle.administration.specs.Places.{diversions_path, temporary}
@@ -20,7 +21,7 @@ use Rattle.diversions.specs.Lines.{HasDiversions}
 use Rattle.diversions.specs.Refusals.{first_holding, add_refusal, back_conditions, has_same, is_one_place, is_path_taken, is_rival, is_same, is_target_taken, move_conditions, owner_conditions, remove_refusal, same_owner}
 use Rattle.diversions.specs.Ways.{Ways, truename}
 use Rattle.diversions.specs.Names.{front_of}
-use Rattle.diversions.specs.Sights.{brings_first, sight_of, is_directory_kind, is_loose_kind, moves_node, same_access, same_node}
+use Rattle.diversions.specs.Sights.{brings_first, sight_of, is_directory_kind, is_loose_kind, moves_node, same_node}
 use Rattle.diversions.specs.declared.entry.Diversion.{Diversion}
 use Rattle.diversions.specs.declared.entry.Owner.{Owner}
 use Rattle.diversions.specs.declared.refusal.Refusal.{Refusal}
@@ -83,11 +84,7 @@ passed_over x false cs is none = none
 
 same_itself : (n : Option Node) → is_loose_kind (kind_of n) ≡ true → same_node n n ≡ true
 same_itself None is = absurd (true≢false (sym is))
-same_itself (Some (File bytes access)) is = and_from (bytes_eq bytes bytes) (same_access access access) ((bytes_eq-Decides bytes bytes).1 refl) (access_itself access)
-  where
-    access_itself : (a : Access) → same_access a a ≡ true
-    access_itself a =
-        and_from (nat_eq a.mode a.mode) (nat_eq a.user a.user && nat_eq a.group a.group) (eq-eqb a.mode a.mode refl) (and_from (nat_eq a.user a.user) (nat_eq a.group a.group) (eq-eqb a.user a.user refl) (eq-eqb a.group a.group refl))
+same_itself (Some (File bytes access)) is = and_from (bytes_eq bytes bytes) (same_access access access) ((bytes_eq-Decides bytes bytes).1 refl) (same_access_itself access)
 same_itself (Some (Dir access)) is = absurd (true≢false (sym is))
 same_itself (Some (Link target)) is = (bytes_eq-Decides target target).1 refl
 

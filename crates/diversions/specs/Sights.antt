@@ -1,18 +1,15 @@
 -- What stands where a node is moved from, where it is moved to, and above that.
-use Rattle.std.specs.Prelude.{◌&&◌, Bool, true, false, not, nat_eq, Option, Some, None}
+use Rattle.std.specs.Prelude.{◌&&◌, Bool, true, false, not, Option, Some, None}
 use Rattle.std.specs.Str.{bytes_eq}
+use Rattle.host_core.specs.Nodes.{same_access}
 use Rattle.host_core.specs.Paths.{Path}
 use Rattle.host_core.specs.World.{World, kind_of}
-use Rattle.host_core.specs.declared.node.Access.{Access}
 use Rattle.host_core.specs.declared.node.Node.{Node}
 use Rattle.host_core.specs.declared.node.Node.TheVariants.{File, Dir, Link}
 use Rattle.host_core.specs.declared.node.Kind.{Kind}
 use Rattle.host_core.specs.declared.node.Kind.TheVariants as kind
 use Rattle.diversions.specs.Names.{front_of}
 use Rattle.diversions.specs.declared.sight.Sight.{Sight}
-
-abbrev pub same_access : Access → Access → Bool
-same_access a b = nat_eq a.mode b.mode && (nat_eq a.user b.user && nat_eq a.group b.group)
 
 -- two files of the same bytes and access, or two links of the same target
 abbrev pub same_loose : Node → Node → Bool

@@ -196,6 +196,14 @@ impl Diversions {
         self.known = Known::nothing();
     }
 
+    /// Knows no alias any more: the links of the root may be others than when they were read.
+    pub fn forget_aliases(&mut self)
+        ensures { self.new ≡ record self.old { ways = record self.old.ways { aliases = [] } } }
+    {
+        self.ways.aliases = Aliases::none(self.ways.entries.alloc());
+        self.known = Known::nothing();
+    }
+
     /// Adds what is missing of the aliases above a path.
     pub fn read_above<H: Host>(&mut self, host: &mut H, path: &RootPath) -> Result<(), HostFault>
         ensures grows { Grows (H.state host.new).honest (H.state host.old).world path.now

@@ -6,7 +6,7 @@ ghost use Rattle.diversions.specs.Names.{front_of};
 ghost use Rattle.diversions.specs.Sights.{sight_of};
 ghost use Rattle.diversions.specs.Sights as spec;
 
-use host_core::{Access, Host, HostFault, Kind, Node, RootPath, ShipPath};
+use host_core::{Host, HostFault, Kind, Node, RootPath, ShipPath};
 use std::alloc::{AllocError, Global};
 
 /// The kinds of what stands where a node is moved from, where it is moved to, and above that; and with `rename` whether the
@@ -38,12 +38,6 @@ pub(crate) fn is_loose(kind: Option<Kind>) -> bool
     }
 }
 
-fn same_access(one: Access, other: Access) -> bool
-    ensures { result ≡ spec.same_access one other }
-{
-    one.mode == other.mode && (one.user == other.user && one.group == other.group)
-}
-
 fn same_loose<H: Host>(host: &mut H, one: &Node, other: &Node) -> Result<bool, HostFault>
     ensures looks { Looks result (λ same w. same ≡ spec.same_loose one.now other.now)
         (H.state host.old) (H.state host.new) }
@@ -55,7 +49,7 @@ fn same_loose<H: Host>(host: &mut H, one: &Node, other: &Node) -> Result<bool, H
                 bytes: others,
                 access: owned,
             },
-        ) => Ok(host.same(bytes, others)? && same_access(*access, *owned)),
+        ) => Ok(host.same(bytes, others)? && access.is_same(*owned)),
         (Node::File { .. }, Node::Dir { .. }) => Ok(false),
         (Node::File { .. }, Node::Link { .. }) => Ok(false),
         (Node::Dir { .. }, _) => Ok(false),

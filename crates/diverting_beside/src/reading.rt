@@ -1,17 +1,16 @@
 // What is read of an administration of which another program is changing packages.
-ghost use Rattle.std.specs.Prelude.{◌≡◌, false, IfErr, IfOk, IsTrue, MatchBool, OnOk};
+ghost use Rattle.std.specs.Prelude.{◌≡◌, false, IfErr, IfOk, IsTrue, OnOk};
 ghost use Rattle.administration.specs.Fault.{CountsAdministration};
 ghost use Rattle.administration.specs.Files.{NoDirectory};
 ghost use Rattle.administration.specs.Places.{diversions_path, home_path, temporary};
 ghost use Rattle.administration.specs.declared.fault.AdministrationFault.TheVariants.{Damaged};
 ghost use Rattle.diversions.specs.Changes.{IsTableReady};
 ghost use Rattle.host_core.specs.Host.{Needs, Reads, Silent};
-ghost use Rattle.host_core.specs.Looks.{Looks};
 ghost use Rattle.host_core.specs.World.{IsDirectory};
 ghost use Rattle.diverting_beside.specs.Beside.{IsHeldBeside, IsTableDamage, IsUnreadBeside};
 
-use administration::{AdministrationFault, Standing, look};
-use host_core::{Host, HostFault, RootPath};
+use administration::{AdministrationFault, is_directory};
+use host_core::{Host, RootPath};
 use inquiries::{SeenAll, read_followed};
 use opening::Opened;
 use std::alloc::Global;
@@ -25,18 +24,6 @@ fn damaged(file: RootPath) -> AdministrationFault
     ensures { result ≡ Damaged file 0 }
 {
     AdministrationFault::Damaged { file, line: 0 }
-}
-
-// Whether a directory stands there.
-fn is_directory<H: Host>(host: &mut H, path: &RootPath) -> Result<bool, HostFault>
-    ensures looks { Looks result
-        (λ there w. MatchBool there (IsDirectory (w path.now)) (NoDirectory (w path.now)))
-        (H.state host.old) (H.state host.new) }
-{
-    match look(host, path)? {
-        Standing::Directory => Ok(true),
-        _ => Ok(false),
-    }
 }
 
 // The administration has to be there.

@@ -67,8 +67,8 @@ unpacked_to_disk g places ended after lists s m t told now is goes silent later 
 pub failed_behind : (g : Given) (s m t : State) (u : Option Unwinding) → HasFailedFor g s m u → Silent m t → HasFailedFor g s t u
 failed_behind g s m t u failed behind = record { plan = failed.plan; plan_for = plan_behind g s.world m t failed.plan behind.honest failed.plan_for; cause = failed.cause }
 
-again_behind : (plan : Planned) (first late : Ways) (s m t : State) → IsReadAgain plan first late s m → IsLater m t → IsReadAgain plan first late s t
-again_behind plan first late s m t is later = record {
+again_behind : (lists : List PackageList) (plan : Planned) (first late : Ways) (s m t : State) → IsReadAgain lists plan first late s m → IsLater m t → IsReadAgain lists plan first late s t
+again_behind lists plan first late s m t is later = record {
   before = is.before;
   files = is.files;
   parted = is.parted;
@@ -86,9 +86,9 @@ pub goes_behind : (g : Given) (u : Option Unwinding) (s m t : State) → GoesByT
 goes_behind g u s m t goes behind later = record {
   either = elim goes.either [
     | inl same ↦ inl same
-    | inr (plan, is, again) ↦ inr (plan, plan_behind (as_begun g) s.world m t plan behind.honest is, again_behind plan g.begun g.ways s m t again later)
+    | inr (plan, is, again) ↦ inr (plan, plan_behind (as_begun g) s.world m t plan behind.honest is, again_behind g.lists plan g.begun g.ways s m t again later)
   ];
-  again = λ none has. (let (plan, is, again) = goes.again none has in (plan, plan_behind (as_begun g) s.world m t plan behind.honest is, again_behind plan g.begun g.ways s m t again later));
+  again = λ none has. (let (plan, is, again) = goes.again none has in (plan, plan_behind (as_begun g) s.world m t plan behind.honest is, again_behind g.lists plan g.begun g.ways s m t again later));
 }
 
 -- nothing is called at a barrier

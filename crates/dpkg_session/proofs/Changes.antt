@@ -16,7 +16,7 @@ use Rattle.record_changes.specs.Run.{IsChangeRun}
 use Rattle.record_changes.specs.Turns.{IsTurn}
 use Rattle.record_changes.specs.Units.{IsLeftAlone, IsRecorded, IsChange, entry_of}
 use Rattle.record_changes.specs.declared.change.Change.{Change}
-use Rattle.record_changes.specs.declared.change.Change.TheVariants.{Want, Activate, Abandon}
+use Rattle.record_changes.specs.declared.change.Change.TheVariants.{Want, Activate, Abandon, Await}
 use Rattle.record_changes.specs.declared.change.RecordChange.{RecordChange}
 use Rattle.dpkg_session.proofs.Carries.{Carries, carries_here, carries_still, carries_then, leaves_info}
 use Rattle.dpkg_session.proofs.Displaced.{Leaves}
@@ -41,6 +41,7 @@ changed_one : (names : List (List ℕ)) (change : Change) (r : Record) → IsOne
 changed_one names (Want want) r one = record { stands = one.stands; named = one.named }
 changed_one names (Activate triggers) r one = record { stands = one.stands; named = one.named }
 changed_one names (Abandon trigger) r one = record { stands = refl; named = one.named }
+changed_one names (Await others) r one = record { stands = one.stands; named = one.named }
 
 recorded_leaves : (asked : RecordChange) (r : Record) (before after : Held) (s t : State) → entry_of asked before.records.records ≡ Some r → IsRecorded asked r before after s t
     → Leaves (names_of before.records.records) before.records.records after.records.records s t

@@ -5,7 +5,7 @@ use Rattle.std.proofs.lemmas.List.{append-nil, take_more}
 use Rattle.aliases.specs.Aliases.{Alias}
 use Rattle.aliases.specs.Reading.{AreAliasesIn, Grows, IsWhole}
 use Rattle.diversions.specs.Diverted.{Diverted}
-use Rattle.file_lists.specs.Followed.{HasMoreAliases}
+use Rattle.file_lists.specs.Followed.{AreWhole, GrowAlong, HasMoreAliases}
 use Rattle.file_lists.specs.declared.paths.PackageList.{PackageList}
 use Rattle.host_core.specs.Events.{Event, Did, Finished, Cut, Failed, Denied, faults_of, follow_all}
 use Rattle.diversions.specs.Changes.{HasAdded, HasRemoved}
@@ -25,7 +25,6 @@ use Rattle.host_core.specs.World.{World}
 use Rattle.host_core.specs.declared.call.Call.{Call}
 use Rattle.host_core.proofs.Counted.{faults_of-append}
 use Rattle.host_core.proofs.Moments.{reads_then, silent_then, since_reads, since_weaker_if}
-use Rattle.opening.specs.Followed.{AreWhole}
 use Rattle.package_tree.specs.declared.package.Package.{Package}
 use Rattle.stat_overrides.specs.Overrides.{overrides_of}
 use Rattle.stat_overrides.specs.declared.table.Overrides.{Overrides}
@@ -40,28 +39,13 @@ use Rattle.unit_reports.specs.declared.report.Unit.{Unit as AUnit}
 use Rattle.unpack_relations.specs.declared.beside.Beside.{Beside}
 use Rattle.unpack_relations.specs.declared.checking.Checked.{Checked}
 use Rattle.unpack_relations.specs.declared.checking.Checked.TheVariants.{Planned, Refused}
-use Rattle.dpkg_session.specs.Growth.{AreAdded, GrowAlong, KeepsEntries, with_more}
+use Rattle.dpkg_session.specs.Growth.{AreAdded, KeepsEntries, with_more}
 use Rattle.dpkg_session.specs.Rereading.{HasRead, with_ways}
 use Rattle.dpkg_session.specs.Overriding.{AreOverrides, taken_with}
 use Rattle.dpkg_session.specs.Run.{IsAmidOverridden, IsAmidPackage, IsAmidTaken}
 use Rattle.dpkg_session.specs.Units.{HasCalledBeside, HasCalledBy, HasCalledDecided, HasCalledOverridden, HasCalledPackage, HasCalledTaken, HasCalledWhole, HasUnpackedBeside, HasUnpackedWhole, HaveRows, IsOverriddenUnit, IsPackageUnit, IsTakenUnit, IsUnitBy, all_yielding, given_by}
 use Rattle.unpack_engine.specs.Units.{IsTableIn}
 use Rattle.dpkg_session.proofs.Looking.{called_from, failed_from, goes_from, none_failed, unpacked_from}
-
--- path by path
-
-pub along_last : (w : World) (paths : List Path) (path : Path) (old mid new : List Alias) → GrowAlong w paths old mid → Grows true w path mid new → GrowAlong w (paths ++ path ∷ []) old new
-along_last w [] path old mid new same grows = (new, subst (λ (l : List Alias). Grows true w path l new) same grows, refl)
-along_last w (p ∷ paths) path old mid new (one, first, rest) grows = (one, first, along_last w paths path one mid new rest grows)
-
-pub along_next : (w : World) (paths : List Path) (i : ℕ) (path : Path) (old mid new : List Alias) → i < length paths → path ≡ get_or paths i path → GrowAlong w (take i paths) old mid → Grows true w path mid new → GrowAlong w (take (i + 1) paths) old new
-along_next w paths i path old mid new lt is so_far grows =
-    subst (λ (ps : List Path). GrowAlong w ps old new) (sym (take_more paths i path lt ∙ ap (λ (p : Path). take i paths ++ p ∷ []) (sym is))) (along_last w (take i paths) path old mid new so_far grows)
-
--- where the answers were true
-pub grows_true : (honest : Bool) (v w : World) (path : Path) (old new : List Alias) → IsTrue honest → v ≡ w → Grows honest v path old new → Grows true w path old new
-grows_true honest v w path old new h same grows =
-    subst (λ (u : World). Grows true u path old new) same (record { added = grows.added; kept = grows.kept; sound = λ yes. grows.sound h; above = λ yes. grows.above h })
 
 -- only aliases are more
 pub more_keeps : (honest : Bool) (w : World) (old new : Diverted) → HasMoreAliases honest w old new → KeepsEntries old new
@@ -155,7 +139,6 @@ module _ (s m : State) (reads : Reads s m) (silent : Silent s m) where
     names = is.names;
     unpacked = whole_from p beside h is.unwinding is.displaced is.failed after t [] u.calls.items is.unpacked;
     order = is.order;
-    aliases = is.aliases;
     changed = is.changed;
     answers = is.answers;
     deconfigured = is.deconfigured;

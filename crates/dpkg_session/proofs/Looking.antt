@@ -59,7 +59,7 @@ module _ (g : Given) (places : List Path) (s m : State) (reads : Reads s m) (sil
     under_way = under_way_behind (ground_of g places) amid.plan s.world early none so_far now (subst (λ w. IsUnderWay (ground_of g places) amid.plan w so_far now) reads.world amid.under_way);
   })
 
-  again_from : (plan : Planned) (late : Ways) (t : State) → IsReadAgain plan g.begun late m t → IsReadAgain plan g.begun late s t
+  again_from : (plan : Planned) (late : Ways) (t : State) → IsReadAgain g.lists plan g.begun late m t → IsReadAgain g.lists plan g.begun late s t
   again_from plan late t is = record {
     before = is.before;
     files = is.files;

@@ -5,11 +5,10 @@ use Rattle.diversions.specs.Diverted.{Diverted}
 use Rattle.diversions.specs.Lines.{HasDiversions}
 use Rattle.diversions.specs.Ways.{Ways}
 use Rattle.diversions.specs.declared.entry.Diversion.{Diversion}
-use Rattle.file_lists.specs.Followed.{AreFollowed, HasMoreAliases}
+use Rattle.file_lists.specs.Followed.{AreFollowed, AreWhole, HasMoreAliases, diverted_paths}
 use Rattle.file_lists.specs.declared.paths.PackageList.{PackageList}
 use Rattle.host_core.specs.World.{World}
-use Rattle.opening.proofs.Followed.{each_grown}
-use Rattle.opening.specs.Followed.{AreWhole, diverted_paths}
+use Rattle.file_lists.proofs.Growing.{each_grown}
 use Rattle.package_tree.specs.declared.package.Package.{Package}
 use Rattle.unit_reports.specs.Held.{Held}
 use Rattle.dpkg_session.specs.History.{Stands}

@@ -140,10 +140,10 @@ broken_or breakage reply so (inr holds) = inr (so holds)
 
 -- the unit of a package that was unpacked, as it tells it
 pub is_unpacked : (p : Package) (beside : Beside) (before after : Held) (u : AUnit) (b : Behind) (unwinding : Option Unwinding) (touched displaced : List (List ℕ)) (failed : Option Call) (s t : State) (told now : List Called) → b.«package» ≡ p.name → KnowsRecords beside before.records.records b → told ≡ [] → u.calls.items ≡ now
-    → HasUnpackedWhole p beside before unwinding displaced failed after s t told now → Ready after t → after.ways.aliases ≡ before.ways.aliases
+    → HasUnpackedWhole p beside before unwinding displaced failed after s t told now → Ready after t
     → ((names unchanged : List (List ℕ)) → AreOfBoth touched displaced names → AreUnchanged before.records.records after.records.records (yielding beside) unchanged → IsTouchedBeside p.name before.records.records after.records.records (told_among p.name unchanged names))
     → IsBrokenBy NoMemory u.reply ⊎ AnswersBoth b.«package» after.records.records b.copies.items b.half unwinding failed touched displaced u → IsBroken u.reply ⊎ IsUnpacked p beside before after u s t
-is_unpacked p beside before after u b unwinding touched displaced failed s t told now named knows none same unpacked order aliases changed either =
+is_unpacked p beside before after u b unwinding touched displaced failed s t told now named knows none same unpacked order changed either =
     broken_or NoMemory u.reply (λ answers.
     let records = after.records.records in
     let tells = answers.told in
@@ -157,7 +157,6 @@ is_unpacked p beside before after u b unwinding touched displaced failed s t tol
       unpacked = subst (λ l. HasUnpackedWhole p beside before unwinding displaced failed after s t [] l) (sym same)
           (subst (λ l. HasUnpackedWhole p beside before unwinding displaced failed after s t l now) none unpacked);
       order = order;
-      aliases = aliases;
       changed = touches;
       answers = record {
         replied = answers.replied ∙ ap (λ n. reply_to n unwinding failed) named;

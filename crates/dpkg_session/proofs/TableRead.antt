@@ -39,7 +39,7 @@ either_stays first late places old so_far now (inr amid) = amid_stays diversions
 pub table_kept : (begun g : Given) (places : List Path) (u : Option Unwinding) (s t : State) → GoesByTable g u s t → Since (IsAmidEither begun g places s.world) s t → IsTrue t.honest → (g.ways ≡ g.begun) ⊎ IsTableIn s.world g.begun g.ways
 table_kept begun g places u s t goes since h = by goes.either
   where
-    by : (g.ways ≡ g.begun) ⊎ ((plan : Planned) × IsPlanFor (as_begun g) s.world t.honest plan × IsReadAgain plan g.begun g.ways s t) → (g.ways ≡ g.begun) ⊎ IsTableIn s.world g.begun g.ways
+    by : (g.ways ≡ g.begun) ⊎ ((plan : Planned) × IsPlanFor (as_begun g) s.world t.honest plan × IsReadAgain g.lists plan g.begun g.ways s t) → (g.ways ≡ g.begun) ⊎ IsTableIn s.world g.begun g.ways
     by (inl same) = inl same
     by (inr (plan, is, read)) =
         let moment = at_moment (IsAmidEither begun g places s.world) s read.m t read.since read.until since h in
@@ -49,4 +49,4 @@ table_kept begun g places u s t goes since h = by goes.either
 pub table_of : (w : World) (first late : Ways) → (late ≡ first) ⊎ IsTableIn w first late → HasDiversions w first.entries → HasDiversions w late.entries
 table_of w first late (inl same) has = subst (λ (v : Ways). HasDiversions w v.entries) (sym same) has
 table_of w first late (inr (IsTableIn.read is)) has = is
-table_of w first late (inr (IsTableIn.damaged line at same)) has = subst (λ (v : Ways). HasDiversions w v.entries) (sym same) has
+table_of w first late (inr (IsTableIn.damaged line at same)) has = subst (HasDiversions w) (sym same) has

@@ -1,5 +1,5 @@
 -- An unpack with all that it displaces.
-use Rattle.std.proofs.Common.{◌≡◌, ◌+◌, inr, true, false, ℕ, List, [], Option, Some, None, Err, refl, sym, ap, subst, ◌∙◌}
+use Rattle.std.proofs.Common.{◌≡◌, inr, true, false, ℕ, List, [], Option, Some, None, refl, sym, subst, ◌∙◌}
 use Rattle.std.specs.Prelude.{is_some}
 use Rattle.std.proofs.lemmas.Bool.{false≢true, true≢false}
 use Rattle.displaced_packages.specs.Displacing.{HasCalled as HasCalledDisplacing, HaveBeenDisplaced, IsAmidDisplacing}
@@ -7,12 +7,9 @@ use Rattle.displaced_packages.specs.Losing.{losing_beside}
 use Rattle.disappearance.specs.declared.losing.Losing.{Losing}
 use Rattle.diversions.specs.Ways.{Ways}
 use Rattle.file_lists.specs.declared.paths.PackageList.{PackageList}
-use Rattle.host_core.proofs.Counted.{declined_then, no_fault_then}
-use Rattle.host_core.specs.Host.{Counts, Needs, Since, State, NoFault}
+use Rattle.host_core.specs.Host.{Needs, Since, State}
 use Rattle.host_core.specs.Paths.{Path}
 use Rattle.host_core.specs.declared.call.Call.{Call}
-use Rattle.host_core.specs.declared.fault.HostFault.{HostFault}
-use Rattle.host_core.specs.declared.fault.HostFault.TheVariants.{Device, NoMemory, Declined}
 use Rattle.package_tree.specs.declared.package.Package.{Package}
 use Rattle.removal_run.specs.Units.{holding_of}
 use Rattle.undo_rows.specs.declared.unwinding.Unwinding.{Unwinding}
@@ -101,10 +98,3 @@ module _ (p : Package) (beside : Beside) (before : Held) (late : Ways) (places :
     since_whole untold first second =
         since_behind p beside before late records lists places told between s m t same_places untold unpacked_so first
         (of_package (λ n v l c. Since (IsAmidDisplacing n v late l c (holding_of mid) m) m t) second)
-
--- the faults of both
-
-pub counts_behind : (T U : Type 0) (fault : HostFault) (s m t : State) → NoFault s m → Counts {T = T} m t (Err fault) → Counts {T = U} s t (Err fault)
-counts_behind T U Device s m t same counts = record { once = counts.once ∙ ap (λ n. n + 1) same.faults; last = counts.last }
-counts_behind T U NoMemory s m t same counts = no_fault_then s m t same counts
-counts_behind T U Declined s m t same counts = declined_then s m t same counts

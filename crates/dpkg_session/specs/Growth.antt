@@ -1,12 +1,12 @@
 -- Aliases that are read before a unit is decided, above the paths of its tree, or above those of a diversion.
-use Rattle.std.specs.Prelude.{◌≡◌, true, false, IsTrue, List, [], ◌∷◌, ◌++◌}
+use Rattle.std.specs.Prelude.{◌≡◌, false, IsTrue, List, ◌++◌}
 use Rattle.aliases.specs.Aliases.{Alias}
-use Rattle.aliases.specs.Reading.{AreAliasesIn, Grows}
+use Rattle.aliases.specs.Reading.{AreAliasesIn}
 use Rattle.diversions.specs.Diverted.{Diverted}
 use Rattle.diversions.specs.Ways.{Ways}
 use Rattle.host_core.specs.Paths.{Path}
 use Rattle.host_core.specs.World.{World}
-use Rattle.opening.specs.Followed.{AreWhole}
+use Rattle.file_lists.specs.Followed.{AreWhole, GrowAlong}
 use Rattle.unit_reports.specs.Held.{Held}
 
 -- with more aliases, beside the same entries
@@ -16,11 +16,6 @@ with_more ways added = record { entries = ways.entries; aliases = ways.aliases +
 -- the same of what is held
 abbrev pub grown : Held → List Alias → Held
 grown h added = record { records = h.records; lists = h.lists; ways = with_more h.ways added }
-
--- path by path there are more: each new one is a link of this world to a directory, and stands above the path
-abbrev pub GrowAlong : World → List Path → List Alias → List Alias → Type 0
-GrowAlong w [] old new = new ≡ old
-GrowAlong w (path ∷ paths) old new = (mid : List Alias) × Grows true w path old mid × GrowAlong w paths mid new
 
 -- What is missing of the aliases above these paths is added. Then each directory above a path is followed to where it leads, if those
 -- that were there are still links of this world.

@@ -6,12 +6,11 @@ use Rattle.administration.specs.declared.fault.AdministrationFault.TheVariants a
 use Rattle.aliases.specs.Aliases.{Alias}
 use Rattle.diversions.specs.Lines.{HasDiversions, IsDamageAt}
 use Rattle.diversions.specs.Ways.{Ways}
-use Rattle.file_lists.specs.Followed.{AreFollowed}
+use Rattle.file_lists.specs.Followed.{AreFollowed, AreWhole, diverted_paths}
 use Rattle.file_lists.specs.declared.paths.PackageList.{PackageList}
 use Rattle.host_core.specs.Events.{Event, scripts_of}
 use Rattle.host_core.specs.Host.{NoFault, Reads, Silent, State}
 use Rattle.host_core.specs.World.{World}
-use Rattle.opening.specs.Followed.{AreWhole, diverted_paths}
 use Rattle.package_tree.specs.ShipMap.{paths_of}
 use Rattle.package_tree.specs.declared.package.Package.{Package}
 use Rattle.unit_reports.specs.Held.{Held}

@@ -153,7 +153,6 @@ pub record IsUnpacked (p : Package) (beside : Beside) (before after : Held) (u :
   pub names : List (List ℕ)
   pub unpacked : HasUnpackedWhole p beside before unwinding displaced failed after s t [] u.calls.items
   pub order : Needs t (IsInOrder after.records after.lists)
-  pub aliases : after.ways.aliases ≡ before.ways.aliases
   pub changed : IsTouchedBeside p.name before.records.records after.records.records names
   pub answers : AnswersUnpack p.name after.records.records unwinding failed names u
   pub deconfigured : AreDeconfigured p.name before.records.records after.records.records u.deconfigured

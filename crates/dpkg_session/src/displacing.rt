@@ -10,7 +10,7 @@ ghost use Rattle.recorded_packages.specs.Renewal.{AreSameBut};
 ghost use Rattle.status_db.specs.Order.{AreInOrder};
 ghost use Rattle.status_records.specs.declared.record.Record.{Record};
 ghost use Rattle.held_administration.specs.Order.{IsInOrder};
-ghost use Rattle.unpack_engine.specs.Units.{IsTouched, with_entries_of};
+ghost use Rattle.unpack_engine.specs.Units.{IsTouched, with_ways_of};
 ghost use Rattle.unpack_relations.specs.Checks.{AreApart};
 ghost use Rattle.unit_reports.specs.Held.{held_by};
 ghost use Rattle.unit_reports.specs.Units.{CountsCause, touched_at};
@@ -191,7 +191,7 @@ fn unpack_refreshed<H: Host>(
         u.unwinding
         administration.new.database administration.new.lists.lists (H.state host.old)
         (H.state host.new) told.old.items told.new.items) }
-    ensures diversions { diversions.new ≡ with_entries_of diversions.new diversions.old }
+    ensures diversions { diversions.new ≡ with_ways_of diversions.new diversions.old }
     ensures touched { IfOk result (λ u. IsTouched incoming.name administration.old.database.records
         administration.new.database.records u.touched) }
     ensures order { IfOk result (λ u. Needs (H.state host.new)
@@ -253,7 +253,7 @@ pub(crate) fn unpack_whole<H: Host>(
         (held_by administration.old diversions.old) e.unpacked.unwinding e.displaced.names
         e.displaced.failed (held_by administration.new diversions.new) (H.state host.old)
         (H.state host.new) told.old.items told.new.items) }
-    ensures diversions { diversions.new ≡ with_entries_of diversions.new diversions.old }
+    ensures diversions { diversions.new ≡ with_ways_of diversions.new diversions.old }
     ensures touched { IfOk result (λ e. (names unchanged : List (List ℕ))
         → AreOfBoth e.unpacked.touched e.displaced.names names
         → AreUnchanged administration.old.database.records administration.new.database.records

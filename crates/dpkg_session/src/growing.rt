@@ -2,18 +2,16 @@
 ghost use Rattle.std.specs.Prelude.{◌≡◌, IfOk, IsTrue, List, OnOk, length};
 ghost use Rattle.aliases.specs.Aliases.{Alias};
 ghost use Rattle.aliases.specs.Reading.{AreAliasesIn};
-ghost use Rattle.file_lists.specs.Followed.{HasMoreAliases};
+ghost use Rattle.file_lists.specs.Followed.{AreWhole, GrowAlong, HasMoreAliases};
 ghost use Rattle.file_lists.specs.Owners.{places_in};
 ghost use Rattle.held_administration.specs.Open.{IsOpen};
 ghost use Rattle.host_core.specs.Host.{Counts, Leaves, Reads, Silent};
-ghost use Rattle.opening.specs.Followed.{AreWhole};
 ghost use Rattle.package_tree.specs.ShipMap.{paths_of};
 ghost use Rattle.unit_reports.specs.Held.{held_by};
-ghost use Rattle.dpkg_session.specs.Growth.{AreAdded, GrowAlong, KeepsEntries, with_more};
+ghost use Rattle.dpkg_session.specs.Growth.{AreAdded, KeepsEntries, with_more};
 
-use aliases::Looked;
 use diversions::Diversions;
-use file_lists::FileLists;
+use file_lists::{FileLists, read_above_each};
 use held_administration::Administration;
 use host_core::{Host, HostFault, Places, RootPath};
 use package_tree::{Package, Shipped};
@@ -29,32 +27,6 @@ fn paths_of(alloc: Global, files: &[Shipped]) -> Result<Vec<RootPath>, AllocErro
         paths.push(file.path.at()?)?;
     }
     Ok(paths)
-}
-
-// Reads the aliases above each of these paths. No directory is looked at twice.
-fn read_above_each<H: Host>(
-    alloc: Global,
-    host: &mut H,
-    paths: &[RootPath],
-    diversions: &mut Diversions,
-) -> Result<(), HostFault>
-    ensures grows { HasMoreAliases (H.state host.new).honest (H.state host.old).world diversions.old
-        diversions.new }
-    ensures along { Leaves result (λ w _. GrowAlong w paths.now diversions.old.ways.aliases
-        diversions.new.ways.aliases) (H.state host.old) (H.state host.new) }
-    ensures whole { Leaves result
-        (λ w _. AreAliasesIn w diversions.old.ways.aliases
-        → AreWhole w paths.now diversions.new.ways.aliases)
-        (H.state host.old) (H.state host.new) }
-    ensures reads { Reads (H.state host.old) (H.state host.new) }
-    ensures silent { Silent (H.state host.old) (H.state host.new) }
-    ensures counts { Counts (H.state host.old) (H.state host.new) result }
-{
-    let mut looked = Looked::none(alloc);
-    for path in paths {
-        diversions.read_above_once(host, path, &mut looked)?;
-    }
-    Ok(())
 }
 
 // Computes the places anew where there are more aliases than so many.

@@ -7,6 +7,7 @@ ghost use Rattle.dpkg_session.specs.Growth.{StaysWritable};
 ghost use Rattle.dpkg_session.specs.PowerLoss.{LosesLikeAStop, StandsOnceAnswered};
 ghost use Rattle.dpkg_session.specs.Rereading.{BehindReading, IsAmidReading, IsUnread};
 ghost use Rattle.recorded_packages.specs.Packages.{ArePackagesOf};
+ghost use Rattle.record_changes.specs.Awaits.{settled_awaits};
 ghost use Rattle.record_changes.specs.Pending.{pending_triggers};
 ghost use Rattle.trigger_run.specs.Run.{HasRun, IsAmidRun, IsTriggerRun};
 ghost use Rattle.held_administration.specs.Order.{IsInOrder};
@@ -21,7 +22,7 @@ use crate::table_units::no_memory;
 use diversions::Diversions;
 use held_administration::Administration;
 use host_core::Host;
-use record_changes::{PendingTrigger, pending_triggers};
+use record_changes::{PendingTrigger, RecordChange, pending_triggers, settled_awaits};
 use std::alloc::AllocError;
 use texts::Text;
 use trigger_run::process_packages;
@@ -90,6 +91,14 @@ impl<H: Host> Session<H> {
             ≡ pending_triggers self.now.administration.database.records) }
     {
         pending_triggers(self.administration.alloc, &self.administration.database)
+    }
+
+    /// Of packages that await what isn't pending any more the changes of their records by which they don't.
+    pub fn settled_awaits(&self) -> Result<Vec<RecordChange>, AllocError>
+        ensures { IfOk result (λ changes. changes.items
+            ≡ settled_awaits self.now.administration.database.records) }
+    {
+        settled_awaits(self.administration.alloc, &self.administration.database)
     }
 
     // The same, once the table of diversions was read.

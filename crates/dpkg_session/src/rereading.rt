@@ -3,10 +3,9 @@ ghost use Rattle.std.specs.Prelude.{◌≡◌, [], IfErr, IfNone, IfOk, IfSome, 
 ghost use Rattle.administration.specs.Fault.{CountsAdministration};
 ghost use Rattle.aliases.specs.Reading.{AreAliasesIn};
 ghost use Rattle.diversions.specs.Lines.{HasDiversions, IsDiversionsDamage};
-ghost use Rattle.file_lists.specs.Followed.{HasMoreAliases};
+ghost use Rattle.file_lists.specs.Followed.{HasMoreAliases, diverted_paths};
 ghost use Rattle.held_administration.specs.Open.{IsOpen};
 ghost use Rattle.host_core.specs.Host.{Counts, Leaves, Needs, Reads, Silent, Tells};
-ghost use Rattle.opening.specs.Followed.{diverted_paths};
 ghost use Rattle.unit_reports.specs.Held.{held_by};
 ghost use Rattle.unit_reports.specs.Units.{CountsLast, IsBrokenBy, TellsNoPackage};
 ghost use Rattle.unit_reports.specs.declared.report.Breakage.TheVariants.{Abandoned, Closed};
@@ -17,10 +16,9 @@ use crate::growing::follow_tree;
 use crate::session::Session;
 use administration::AdministrationFault;
 use diversions::Diversions;
-use file_lists::FileLists;
+use file_lists::{FileLists, add_diverted, read_above_each};
 use held_administration::Administration;
 use host_core::{Host, HostFault, RootPath};
-use opening::{add_diverted, read_above_each};
 use package_tree::Package;
 use std::alloc::{AllocError, Global};
 use unit_reports::{Breakage, Report, broken, refresh};
@@ -66,7 +64,7 @@ fn read_aliases<H: Host>(
     let Ok(paths) = diverted_paths(alloc, diversions) else {
         return Err(HostFault::NoMemory);
     };
-    match read_above_each(host, paths.as_slice(), diversions) {
+    match read_above_each(alloc, host, paths.as_slice(), diversions) {
         Ok(()) => lists.read_aliases(host, diversions),
         Err(fault) => Err(fault),
     }

@@ -7,7 +7,7 @@ ghost use Rattle.held_administration.specs.Open.{CanWrite};
 ghost use Rattle.undo_rows.specs.Ended.{ended_as};
 ghost use Rattle.held_administration.specs.Order.{IsInOrder};
 ghost use Rattle.unpack_engine.specs.Others.{AreOthers};
-ghost use Rattle.unpack_engine.specs.Units.{GoesByTable, HasCalled, HasFailedFor, HasUnpacked, IsAmidEither, IsTouched, with_entries_of};
+ghost use Rattle.unpack_engine.specs.Units.{GoesByTable, HasCalled, HasFailedFor, HasUnpacked, IsAmidEither, IsTouched, with_ways_of};
 ghost use Rattle.unpack_relations.specs.Checks.{AreApart};
 ghost use Rattle.unit_reports.specs.Held.{held, held_by};
 ghost use Rattle.unit_reports.specs.Units.{CountsCause};
@@ -83,7 +83,7 @@ fn unpack_to_disk<H: Host>(
         (λ u. GoesByTable (given_by incoming (held_by administration.old diversions.old)
         diversions.new.ways others.packages.items others.yields) u.unwinding (H.state host.old)
         (H.state host.new)) }
-    ensures diversions { diversions.new ≡ with_entries_of diversions.new diversions.old }
+    ensures diversions { diversions.new ≡ with_ways_of diversions.new diversions.old }
     ensures anew { IfOk result (λ u. u.anew ≡ false → diversions.new ≡ diversions.old) }
     ensures touched { IfOk result (λ u. IsTouched incoming.name administration.old.database.records
         administration.new.database.records u.touched) }
@@ -135,7 +135,7 @@ fn unpack_indexed<H: Host>(
         u.unwinding
         administration.new.database administration.new.lists.lists (H.state host.old)
         (H.state host.new) told.old.items told.new.items) }
-    ensures diversions { diversions.new ≡ with_entries_of diversions.new diversions.old }
+    ensures diversions { diversions.new ≡ with_ways_of diversions.new diversions.old }
     ensures anew { IfOk result (λ u. u.anew ≡ false → diversions.new ≡ diversions.old) }
     ensures touched { IfOk result (λ u. IsTouched incoming.name administration.old.database.records
         administration.new.database.records u.touched) }
@@ -188,7 +188,7 @@ pub(crate) fn unpack_beside<H: Host>(
         u.unwinding
         administration.new.database administration.new.lists.lists (H.state host.old)
         (H.state host.new) told.old.items told.new.items) }
-    ensures diversions { diversions.new ≡ with_entries_of diversions.new diversions.old }
+    ensures diversions { diversions.new ≡ with_ways_of diversions.new diversions.old }
     ensures anew { IfOk result (λ u. u.anew ≡ false → diversions.new ≡ diversions.old) }
     ensures touched { IfOk result (λ u. IsTouched incoming.name administration.old.database.records
         administration.new.database.records u.touched) }

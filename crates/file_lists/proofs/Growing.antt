@@ -1,8 +1,8 @@
 -- What was followed stays so where aliases of the same world are added.
-use Rattle.std.proofs.Common.{◌≡◌, ◌≢◌, ℕ, zero, suc, Bool, true, false, not, IsTrue, ◌||◌, cond, List, [], ◌∷◌, ◌++◌, nat_eq, Option, refl, sym, ap, subst, ◌∙◌, append_assoc, arith, Contains}
+use Rattle.std.proofs.Common.{◌≡◌, ◌≢◌, ℕ, zero, suc, Bool, true, false, not, IsTrue, ◌||◌, cond, List, [], ◌∷◌, ◌++◌, nat_eq, Option, refl, sym, ap, subst, ◌∙◌, append_assoc, arith, Contains, get_or, length, take, ◌+◌, ◌<◌}
 use Rattle.std.specs.Str.{bytes_eq}
 use Rattle.std.proofs.lemmas.Bool.{or_parts, false≢true, eqb-true}
-use Rattle.std.proofs.lemmas.List.{append-nil}
+use Rattle.std.proofs.lemmas.List.{append-nil, take_more}
 use Rattle.std.proofs.lemmas.List.Folds.{list_any-append}
 use Rattle.std.proofs.lemmas.Slice.Eq.{bytes_eq-Decides}
 use Rattle.host_core.specs.Paths.{Path}
@@ -14,7 +14,7 @@ use Rattle.aliases.proofs.Following.{led_free}
 use Rattle.aliases.proofs.Beside.{whole_beside}
 use Rattle.diversions.specs.Diverted.{Diverted}
 use Rattle.diversions.specs.Ways.{Ways}
-use Rattle.file_lists.specs.Followed.{AreFollowed, ArePassed, HasMoreAliases}
+use Rattle.file_lists.specs.Followed.{AreFollowed, ArePassed, AreWhole, GrowAlong, HasMoreAliases}
 use Rattle.file_lists.specs.Owners.{paths_of}
 use Rattle.file_lists.specs.declared.paths.PackageList.{PackageList}
 
@@ -151,6 +151,35 @@ same_directory directory last told = at (bytes_eq directory last) refl told
     at : (b : Bool) → bytes_eq directory last ≡ b → false ≡ not b → directory ≡ last
     at true same told = (bytes_eq-Decides directory last).0 same
     at false other told = absurd (false≢true told)
+
+-- as more aliases are read
+
+pub each_grown : (honest : Bool) (w : World) (paths : List Path) (a b : Diverted) → HasMoreAliases honest w a b → IsTrue honest → AreAliasesIn w a.ways.aliases → AreWhole w paths a.ways.aliases → AreWhole w paths b.ways.aliases
+each_grown honest w [] a b more h each whole = tt
+each_grown honest w (path ∷ paths) a b more h each whole = (whole_grown honest w a b path more h each whole.0, each_grown honest w paths a b more h each whole.1)
+
+with_last : (w : World) (paths : List Path) (path : Path) (aliases : List Alias) → AreWhole w paths aliases → IsWhole w path aliases → AreWhole w (paths ++ path ∷ []) aliases
+with_last w [] path aliases each last = (last, tt)
+with_last w (p ∷ paths) path aliases each last = (each.0, with_last w paths path aliases each.1 last)
+
+pub each_next : (w : World) (paths : List Path) (i : ℕ) (path : Path) (aliases : List Alias) → i < length paths → path ≡ get_or paths i path → AreWhole w (take i paths) aliases → IsWhole w path aliases → AreWhole w (take (i + 1) paths) aliases
+each_next w paths i path aliases lt is each last =
+    subst (λ (ps : List Path). AreWhole w ps aliases) (sym (take_more paths i path lt ∙ ap (λ (p : Path). take i paths ++ p ∷ []) (sym is))) (with_last w (take i paths) path aliases each last)
+
+-- each path grows what those before it left
+
+pub along_last : (w : World) (paths : List Path) (path : Path) (old mid new : List Alias) → GrowAlong w paths old mid → Grows true w path mid new → GrowAlong w (paths ++ path ∷ []) old new
+along_last w [] path old mid new same grows = (new, subst (λ (l : List Alias). Grows true w path l new) same grows, refl)
+along_last w (p ∷ paths) path old mid new (one, first, rest) grows = (one, first, along_last w paths path one mid new rest grows)
+
+pub along_next : (w : World) (paths : List Path) (i : ℕ) (path : Path) (old mid new : List Alias) → i < length paths → path ≡ get_or paths i path → GrowAlong w (take i paths) old mid → Grows true w path mid new → GrowAlong w (take (i + 1) paths) old new
+along_next w paths i path old mid new lt is so_far grows =
+    subst (λ (ps : List Path). GrowAlong w ps old new) (sym (take_more paths i path lt ∙ ap (λ (p : Path). take i paths ++ p ∷ []) (sym is))) (along_last w (take i paths) path old mid new so_far grows)
+
+-- where the answers were true
+pub grows_true : (honest : Bool) (v w : World) (path : Path) (old new : List Alias) → IsTrue honest → v ≡ w → Grows honest v path old new → Grows true w path old new
+grows_true honest v w path old new h same grows =
+    subst (λ (u : World). Grows true u path old new) same (record { added = grows.added; kept = grows.kept; sound = λ yes. grows.sound h; above = λ yes. grows.above h })
 
 -- lists of which each is followed
 pub all_listed : (lists : List PackageList) (P : Path → Type 0) → ((l : PackageList) → Contains lists l → (path : Path) → Contains l.paths path → P path) → (name : List ℕ) (path : Path) → Contains (paths_of lists name) path → P path

@@ -1,11 +1,11 @@
 -- How what would stand at a path differs from what stands there.
 use Rattle.std.specs.Prelude.{◌≡◌, ◌⊎◌, ℕ, Bool, true, false, List, Option, Some, None, codes, if◌then◌else◌}
 use Rattle.std.specs.List.{count_by}
+use Rattle.host_core.specs.Nodes.{same_node}
 use Rattle.host_core.specs.Paths.{Path}
 use Rattle.host_core.specs.World.{World}
 use Rattle.host_core.specs.declared.node.Node.{Node}
 use Rattle.administration.specs.Places.{home_path, is_within}
-use Rattle.inquiries.specs.Glances.{same_node}
 use Rattle.foretold_changes.specs.declared.change.Change.{Change}
 use Rattle.foretold_changes.specs.declared.change.Change.TheVariants.{Write, Replace, Remove, Unread}
 use Rattle.foretold_changes.specs.declared.looking.LookedPath.{LookedPath}

@@ -1,11 +1,11 @@
 // How what would stand at a path differs from what stands there.
 ghost use Rattle.std.specs.Prelude.{◌≡◌, ◌≢◌, IfOk, Some};
+ghost use Rattle.host_core.specs.Nodes.{same_node};
 ghost use Rattle.host_overlay.specs.Overlays.{LooksOver};
-ghost use Rattle.inquiries.specs.Glances as glances;
 ghost use Rattle.foretold_changes.specs.Changes.{change_of, change_word};
 ghost use Rattle.foretold_changes.specs.declared.change.Change.TheVariants.{Unread};
 
-use host_core::{Access, Host, HostFault, Node};
+use host_core::{Host, HostFault, Node};
 use host_overlay::Overlay;
 
 /// What is told of a path; that it can't be read, where the device fails at a look.
@@ -17,14 +17,8 @@ pub enum Change {
     Unread,
 }
 
-fn same_access(one: Access, other: Access) -> bool
-    ensures { result ≡ glances.same_access one other }
-{
-    one.mode == other.mode && (one.user == other.user && one.group == other.group)
-}
-
 fn same_node<H: Host>(host: &mut Overlay<H>, one: &Node, other: &Node) -> Result<bool, HostFault>
-    ensures { LooksOver result (λ same w. same ≡ glances.same_node one.now other.now) host.old
+    ensures { LooksOver result (λ same w. same ≡ same_node one.now other.now) host.old
         host.new }
 {
     match (one, other) {
@@ -34,11 +28,11 @@ fn same_node<H: Host>(host: &mut Overlay<H>, one: &Node, other: &Node) -> Result
                 bytes: others,
                 access: owned,
             },
-        ) => Ok(host.same(bytes, others)? && same_access(*access, *owned)),
+        ) => Ok(host.same(bytes, others)? && access.is_same(*owned)),
         (Node::File { .. }, Node::Dir { .. }) => Ok(false),
         (Node::File { .. }, Node::Link { .. }) => Ok(false),
         (Node::Dir { .. }, Node::File { .. }) => Ok(false),
-        (Node::Dir { access }, Node::Dir { access: owned }) => Ok(same_access(*access, *owned)),
+        (Node::Dir { access }, Node::Dir { access: owned }) => Ok(access.is_same(*owned)),
         (Node::Dir { .. }, Node::Link { .. }) => Ok(false),
         (Node::Link { .. }, Node::File { .. }) => Ok(false),
         (Node::Link { .. }, Node::Dir { .. }) => Ok(false),

@@ -1,5 +1,5 @@
 // What a file holds.
-ghost use Rattle.std.specs.Prelude.{◌≡◌, ℕ, List, IfOk, IfSome, length, option_map, unwrap_or};
+ghost use Rattle.std.specs.Prelude.{◌≡◌, ◌<◌, ◌^◌, ℕ, List, IfErr, IfOk, IfSome, length, option_map, unwrap_or};
 ghost use Rattle.md5.specs.Md5.{md5};
 
 use crate::lent::Lent;
@@ -72,11 +72,15 @@ impl Content {
 
     /// The bytes, where they are in memory; else it counts as want of memory for them.
     pub fn held(&self) -> Result<&[u8], AllocError>
-        ensures { IfOk result (λ bytes. bytes.now ≡ self.now) }
+        ensures bytes { IfOk result (λ bytes. bytes.now ≡ self.now) }
+        ensures many { IfErr result (λ fault. 2 ^ 26 < length self.now) }
     {
-        match self.lent {
+        match &self.lent {
             None => Ok(self.bytes.as_slice()),
-            Some(_) => Err(AllocError),
+            Some(lent) => {
+                lent.law();
+                Err(AllocError)
+            }
         }
     }
 

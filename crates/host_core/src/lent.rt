@@ -1,10 +1,13 @@
 // A file whose bytes aren't in memory.
-ghost use Rattle.std.specs.Prelude.{◌≡◌, ◌++◌, [], ℕ, List, IfOk, length};
+ghost use Rattle.std.specs.Prelude.{◌≡◌, ◌<◌, ◌++◌, ◌^◌, [], ℕ, List, IfOk, length};
 ghost use Rattle.md5.specs.Md5.{md5};
 
 use crate::heard::{Heard, Piece};
 use std::alloc::{AllocError, Global};
 use std::marker::Model;
+
+/// A file that is lent has more bytes than this.
+pub const LEAST_LENT: u64 = 1 << 26;
 
 /// A file that was read and isn't in memory. Whoever wants its bytes reads it once more, and nobody is to write it meanwhile.
 #[derive(Drop)]
@@ -21,7 +24,8 @@ impl Model for Lent {
 
     ghost view = { λ l. l.heard.bytes };
 
-    ghost invariant = { λ l. (l.digest ≡ md5 l.heard.bytes) × (l.count ≡ length l.heard.bytes) };
+    ghost invariant = { λ l. (l.digest ≡ md5 l.heard.bytes) × ((l.count ≡ length l.heard.bytes)
+        × (2 ^ 26 < length l.heard.bytes)) };
 }
 
 impl Lent {
@@ -34,6 +38,7 @@ impl Lent {
     ) -> Lent
         requires digest { digest ≡ md5 heard.bytes }
         requires count { count ≡ length heard.bytes }
+        requires large { 2 ^ 26 < length heard.bytes }
         ensures { result ≡ heard.bytes }
     {
         Lent {
@@ -43,6 +48,13 @@ impl Lent {
             digest,
             heard,
         }
+    }
+
+    /// What holds of each such file.
+    pub(crate) fn law(&self)
+        ensures { 2 ^ 26 < length self.now }
+    {
+        let _ = &self.heard;
     }
 
     /// Its path, as the system reads it.

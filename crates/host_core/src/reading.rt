@@ -1,5 +1,5 @@
 // A file that is read in pieces.
-ghost use Rattle.std.specs.Prelude.{◌≡◌, ◌++◌, [], ℕ, List, false, true, length};
+ghost use Rattle.std.specs.Prelude.{◌≡◌, ◌<◌, ◌++◌, ◌^◌, [], ℕ, List, false, true, length};
 ghost use Rattle.md5.specs.Md5.{Holds, md5};
 
 use crate::heard::{Heard, Piece};
@@ -57,8 +57,9 @@ impl Reading {
         true
     }
 
-    /// The file that has these bytes, which can be read at this place of the system.
+    /// The file that has these bytes, of which there are many, and which can be read at this place of the system.
     pub fn at(self, alloc: Global, place: String) -> Lent
+        requires { 2 ^ 26 < length self }
         ensures { result ≡ self }
     {
         Lent::new(alloc, place, self.count, self.hasher.finalize(), self.heard)

@@ -14,3 +14,4 @@ pub mod ListingLooks
 pub mod Synced
 pub mod Told
 pub mod Differing
+pub mod Foreseen

@@ -83,14 +83,14 @@ module _ (begun below : State) (world : below.world ≡ begun.world) (failures :
         ∙ ap (λ (l : List Event). scripts_of begun.events ++ l) (scripts_none (replicate (faults below - faults begun) Failed) (failed_all (faults below - faults begun))) ∙ append-nil (scripts_of begun.events);
   }
 
--- a host that nothing was done over
-pub sound_new : (s : State) (m : Changed) (es : List Event) → es ≡ [] → (IsTrue s.honest → IsTree s.world) → AreThere m s.world → (IsSettled []) → Sound s s m es
-sound_new s m es none tree there settled = record {
+-- a host over which nothing was done that changes its world
+pub sound_new : (s : State) (m : Changed) (es : List Event) → ((w : World) → follow_all es w ≡ w) → (IsTrue s.honest → IsTree s.world) → AreThere m s.world → IsSettled es → Sound s s m es
+sound_new s m es idle tree there settled = record {
   world = refl;
   failures = looked_by s s [] tt (sym (append-nil s.events));
   honest = λ h. h;
-  tree = λ h. subst (λ (l : List Event). IsTreeByTest (follow_all l s.world)) (sym none) (test_from-IsTree s.world (tree h));
-  settled = λ h. subst IsSettled (sym none) settled;
+  tree = λ h. subst IsTreeByTest (sym (idle s.world)) (test_from-IsTree s.world (tree h));
+  settled = λ h. settled;
   there = λ h. there;
 }
 

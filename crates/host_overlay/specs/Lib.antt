@@ -1,7 +1,8 @@
 pub mod Standings
 pub mod Able
-pub mod Doings
 pub mod Failing
+pub mod FailingLaws
+pub mod Doings
 pub mod Layers
 pub mod Seen
 pub mod Trees

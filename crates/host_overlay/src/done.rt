@@ -27,10 +27,12 @@ pub enum DeviceStep {
     Lower(RootPath),
 }
 
-/// What was done: a step, a script call, or nothing where the device below failed as it was looked at.
+/// What was done: a step, a script call, or nothing where the device below failed as it was looked at, and where a call that is
+/// assumed to fail is foretold.
 #[derive(Drop)]
 pub enum Done {
     Did(DeviceStep),
     Finished(Made),
     Failed,
+    Foretold(Call),
 }

@@ -40,6 +40,19 @@ impl Layer {
         }
     }
 
+    // The same behind what is foretold, which changes no world.
+    pub(crate) fn behind(alloc: Global, told: Vec<Done>) -> Layer
+        requires { (w : World) → follow_all (map event_of told.items) w ≡ w }
+        ensures changes { changed_in result ≡ λ _. None }
+        ensures events { events_in result ≡ map event_of told.items }
+    {
+        Layer {
+            alloc,
+            changes: Changes::new(alloc),
+            events: told,
+        }
+    }
+
     // Makes room to tell one event.
     pub(crate) fn make_room(&mut self) -> Result<(), AllocError>
         ensures same { IsSameLayer self.old self.new }

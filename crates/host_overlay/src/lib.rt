@@ -6,7 +6,8 @@
 //! `Overlay` is a host as honest as the one below: its world is what its events make of the world that it was put over. It calls
 //! no step and no script of the host below, which is only looked at from `over` to `into_below` (`untouched`); its steps are
 //! made whole, or want memory and do nothing. A script call ends with exit status 0, or 1 where it was assumed to fail
-//! (`CallsAsAssumed`), and changes nothing. A path that was taken away doesn't show through from below, nor is an added name
+//! (`CallsAsAssumed`), and changes nothing; in a rehearsal (`rehearsing`) the calls that are assumed to fail are foretold by its
+//! first events, and all calls end by these (`GoAsForetold`, `calls_as_assumed`). A path that was taken away doesn't show through from below, nor is an added name
 //! left out of a listing. `changes` tells all paths at which something else may stand than below.
 //!
 //! `SeenNames` are such changes of names alone, without a host: a host is looked at through them (`node`, `kind`, `list`), and
@@ -27,7 +28,7 @@ mod stored;
 
 pub use changed_path::ChangedPath;
 pub use done::{DeviceStep, Done, Made};
-pub use failing::AssumedFailure;
+pub use failing::{AssumedFailure, Plan};
 pub use overlay::Overlay;
 pub use seen_names::SeenNames;
 pub use stored::Stored;

@@ -5,13 +5,14 @@ ghost use Rattle.host_core.specs.Events.{follow_all};
 ghost use Rattle.host_core.specs.Host.{Falls};
 ghost use Rattle.host_core.specs.Unsynced.{IsSettled};
 ghost use Rattle.host_overlay.specs.Doings.{event_of};
+ghost use Rattle.host_overlay.specs.Failing.{GoAsForetold, left_in};
 ghost use Rattle.host_overlay.specs.Looked.{looked_at};
 ghost use Rattle.host_overlay.specs.Standings.{AreThere};
 ghost use Rattle.host_overlay.specs.Trees.{IsTreeByTest};
 
 use crate::changed_path::ChangedPath;
 use crate::done::{DeviceStep, Done};
-use crate::failing::{AssumedFailure, end_call};
+use crate::failing::{AssumedFailure, Plan, end_call};
 use crate::layer::Layer;
 use crate::looking::{kind_over, node_over};
 use crate::stored::Stored;
@@ -37,6 +38,8 @@ pub struct Overlay<H: Host> {
     ghost tree: { IsTrue (H.state below).honest → IsTreeByTest (follow_all (map event_of layer.events.items) (H.state begun.value).world) },
     ghost settled: { IsTrue (H.state below).honest → IsSettled (map event_of layer.events.items) },
     ghost there: { IsTrue (H.state below).honest → AreThere (get_by_text layer.changes.map) (H.state begun.value).world },
+    ghost went: { GoAsForetold (map event_of layer.events.items) },
+    ghost rest: { failing.items ≡ left_in (map event_of layer.events.items) },
 }
 
 impl<H: Host> Overlay<H> {
@@ -45,14 +48,14 @@ impl<H: Host> Overlay<H> {
     ghost use Rattle.host_core.specs.Unsynced.{KeepsSettled};
     ghost use Rattle.host_overlay.specs.Able.{CanDo};
     ghost use Rattle.host_overlay.specs.Doings.{step_of};
+    ghost use Rattle.host_overlay.specs.Failing.{foretold};
     ghost use Rattle.host_overlay.specs.Overlays.{assumed, begun_state, below_state, overlay_state, LooksOver, MakesStep, TellsChanges};
 
-    /// Over this host, with these calls assumed to fail.
-    pub fn over(alloc: Global, below: H, failing: Vec<AssumedFailure>) -> Overlay<H>
+    /// Over this host.
+    pub fn over(alloc: Global, below: H) -> Overlay<H>
         ensures state { overlay_state result ≡ record (H.state below) { events = [] } }
         ensures below { below_state result ≡ H.state below }
         ensures begun { begun_state result ≡ H.state below }
-        ensures assumed { assumed result ≡ failing.items }
     {
         let begun = Snapshot::of(&below);
         Overlay {
@@ -60,6 +63,25 @@ impl<H: Host> Overlay<H> {
             below,
             begun,
             layer: Layer::new(alloc),
+            failing: Vec::new(alloc),
+        }
+    }
+
+    /// Over this host, with the calls assumed to fail that are foretold.
+    pub fn rehearsing(alloc: Global, below: H, plan: Plan) -> Overlay<H>
+        ensures state { overlay_state result ≡ record (H.state below) {
+          events = foretold plan.failing.items;
+        } }
+        ensures below { below_state result ≡ H.state below }
+        ensures begun { begun_state result ≡ H.state below }
+    {
+        let begun = Snapshot::of(&below);
+        let Plan { failing, told } = plan;
+        Overlay {
+            alloc,
+            below,
+            begun,
+            layer: Layer::behind(alloc, told),
             failing,
         }
     }
@@ -69,6 +91,7 @@ impl<H: Host> Overlay<H> {
         ensures below { H.state result ≡ below_state self }
         ensures untouched { Reads (begun_state self) (H.state result) }
         ensures silent { Silent (begun_state self) (H.state result) }
+        ensures foretold { GoAsForetold (overlay_state self).events }
     {
         self.below
     }

@@ -1,28 +1,18 @@
 -- What the test of the two names tells.
-use Rattle.std.proofs.Common.{◌≡◌, ◌⊎◌, ◌&&◌, inl, inr, ℕ, Bool, true, false, nat_eq, List, Option, Some, None, refl, sym, ap, subst, ◌∙◌}
+use Rattle.std.proofs.Common.{◌≡◌, ◌⊎◌, ◌&&◌, inl, inr, ℕ, Bool, true, false, List, Option, Some, None, refl, sym, ap, subst, ◌∙◌}
 use Rattle.std.specs.Prelude.{IsSome}
 use Rattle.std.specs.Str.{bytes_eq}
-use Rattle.std.proofs.lemmas.Bool.{and_parts, eq-eqb, eqb-true, false≢true, true≢false}
+use Rattle.std.proofs.lemmas.Bool.{and_parts, false≢true, true≢false}
 use Rattle.std.proofs.lemmas.Slice.Eq.{bytes_eq-Decides}
 use Rattle.host_core.specs.declared.node.Access.{Access}
 use Rattle.host_core.specs.declared.node.Node.{Node}
 use Rattle.host_core.specs.declared.node.Node.TheVariants.{File, Dir, Link}
+use Rattle.host_core.specs.Nodes.{same_access, same_node}
 use Rattle.host_core.specs.World.{IsLoose}
+use Rattle.host_core.proofs.Nodes.{same_access_is, same_node_itself}
 use Rattle.administration.specs.Files.{NoDirectory}
 use Rattle.info_format.specs.Format.{AreAlike, IsFit}
-use Rattle.info_format.specs.Tests.{is_double, is_fit, is_no_directory, same_access, same_node}
-
-abbrev access_of : ℕ → ℕ → ℕ → Access
-access_of mode user group = record { mode = mode; user = user; group = group }
-
-access_is : (a b : Access) → same_access a b ≡ true → a ≡ b
-access_is a b is =
-    let first = and_parts (nat_eq a.mode b.mode) (nat_eq a.user b.user && nat_eq a.group b.group) is in
-    let second = and_parts (nat_eq a.user b.user) (nat_eq a.group b.group) first.1 in
-    let mode = eqb-true a.mode b.mode first.0 in
-    let user = eqb-true a.user b.user second.0 in
-    let group = eqb-true a.group b.group second.1 in
-    ap (λ m. access_of m a.user a.group) mode ∙ ap (λ u. access_of b.mode u a.group) user ∙ ap (access_of b.mode b.user) group
+use Rattle.info_format.specs.Tests.{is_double, is_fit, is_no_directory}
 
 loose_file : (bytes : List ℕ) (access : Access) → NoDirectory (Some (File bytes access))
 loose_file bytes access d = absurd (let e : Some (File bytes access) ≡ Some (Dir d.0) = d.1 in cc)
@@ -41,7 +31,7 @@ fit_is (Some (Link target)) None is = record { loose = loose_link target; same =
 fit_is (Some (File bytes access)) (Some (File others owned)) is =
     let both = and_parts (bytes_eq bytes others) (same_access access owned) is in
     let b = (bytes_eq-Decides bytes others).0 both.0 in
-    let a = access_is access owned both.1 in
+    let a = same_access_is access owned both.1 in
     record { loose = loose_file bytes access; same = λ some. inr (λ i. Some (File (sym b i) (sym a i))) }
 fit_is (Some (File bytes access)) (Some (Dir owned)) is = absurd (false≢true is)
 fit_is (Some (File bytes access)) (Some (Link target)) is = absurd (false≢true is)
@@ -52,19 +42,10 @@ fit_is (Some (Link target)) (Some (File others owned)) is = absurd (false≢true
 fit_is (Some (Link target)) (Some (Dir owned)) is = absurd (false≢true is)
 fit_is (Some (Link target)) (Some (Link aimed)) is = record { loose = loose_link target; same = λ some. inr (ap (λ (t : List ℕ). Some (Link t)) (sym ((bytes_eq-Decides target aimed).0 is))) }
 
-and_true : (a b : Bool) → a ≡ true → b ≡ true → (a && b) ≡ true
-and_true true b is also = also
-and_true false b is also = absurd (false≢true is)
-
-access_itself : (a : Access) → same_access a a ≡ true
-access_itself a =
-    and_true (nat_eq a.mode a.mode) (nat_eq a.user a.user && nat_eq a.group a.group) (eq-eqb a.mode a.mode refl)
-    (and_true (nat_eq a.user a.user) (nat_eq a.group a.group) (eq-eqb a.user a.user refl) (eq-eqb a.group a.group refl))
-
-itself : (node : Node) → NoDirectory (Some node) → same_node node node ≡ true
-itself (File bytes access) loose = and_true (bytes_eq bytes bytes) (same_access access access) ((bytes_eq-Decides bytes bytes).1 refl) (access_itself access)
+itself : (node : Node) → NoDirectory (Some node) → (is_no_directory node && same_node node node) ≡ true
+itself (File bytes access) loose = same_node_itself (File bytes access)
 itself (Dir access) loose = absurd (loose (access, refl))
-itself (Link target) loose = (bytes_eq-Decides target target).1 refl
+itself (Link target) loose = same_node_itself (Link target)
 
 alone : (node : Node) → NoDirectory (Some node) → is_no_directory node ≡ true
 alone (File bytes access) loose = refl

@@ -1,24 +1,9 @@
 -- Tests for what stands at the two names of a control file.
-use Rattle.std.specs.Prelude.{◌&&◌, not, Bool, true, false, Option, Some, None, nat_eq}
+use Rattle.std.specs.Prelude.{◌&&◌, Bool, true, false, Option, Some, None}
 use Rattle.std.specs.Str.{bytes_eq}
-use Rattle.host_core.specs.declared.node.Access.{Access}
+use Rattle.host_core.specs.Nodes.{same_node}
 use Rattle.host_core.specs.declared.node.Node.{Node}
 use Rattle.host_core.specs.declared.node.Node.TheVariants.{File, Dir, Link}
-
-abbrev pub same_access : Access → Access → Bool
-same_access a b = nat_eq a.mode b.mode && (nat_eq a.user b.user && nat_eq a.group b.group)
-
--- the same file or link
-abbrev pub same_node : Node → Node → Bool
-same_node (File bytes access) (File others owned) = bytes_eq bytes others && same_access access owned
-same_node (File bytes access) (Dir owned) = false
-same_node (File bytes access) (Link target) = false
-same_node (Dir access) (File others owned) = false
-same_node (Dir access) (Dir owned) = false
-same_node (Dir access) (Link target) = false
-same_node (Link target) (File others owned) = false
-same_node (Link target) (Dir owned) = false
-same_node (Link target) (Link aimed) = bytes_eq target aimed
 
 abbrev pub is_no_directory : Node → Bool
 is_no_directory (File bytes access) = true
@@ -29,7 +14,7 @@ abbrev pub is_fit : Option Node → Option Node → Bool
 is_fit None None = true
 is_fit None (Some there) = true
 is_fit (Some node) None = is_no_directory node
-is_fit (Some node) (Some there) = same_node node there
+is_fit (Some node) (Some there) = is_no_directory node && same_node node there
 
 -- a file or link stands there
 abbrev pub is_loose : Option Node → Bool

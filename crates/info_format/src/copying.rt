@@ -9,8 +9,7 @@ ghost use Rattle.administration.specs.Places.{temporary};
 ghost use Rattle.info_format.specs.Steps.{HasNoRoom, IsAtBoth, IsGiving, IsWriting};
 
 use crate::pairs::Pair;
-use crate::stage::is_directory;
-use administration::replace;
+use administration::{is_directory, replace};
 use host_core::{Host, HostFault, Node, RootPath};
 use std::alloc::{AllocError, Global};
 

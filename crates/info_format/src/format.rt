@@ -6,7 +6,7 @@ ghost use Rattle.host_core.specs.Looks.{Looks};
 ghost use Rattle.info_format.specs.Format.{IsSaid};
 ghost use Rattle.info_format.specs.Tests as spec;
 
-use host_core::{Access, Host, HostFault, Kind, Node, RootPath};
+use host_core::{Host, HostFault, Kind, Node, RootPath};
 use std::alloc::AllocError;
 
 /// Which names control files have.
@@ -46,34 +46,6 @@ pub(crate) fn read_format<H: Host>(host: &mut H, path: &RootPath) -> Result<Form
     Ok(said(&node)?)
 }
 
-fn same_access(one: Access, other: Access) -> bool
-    ensures { result ≡ spec.same_access one other }
-{
-    one.mode == other.mode && (one.user == other.user && one.group == other.group)
-}
-
-fn same_node(one: &Node, other: &Node) -> Result<bool, AllocError>
-    ensures { IfOk result (λ same. same ≡ spec.same_node one.now other.now) }
-{
-    match (one, other) {
-        (
-            Node::File { bytes, access },
-            Node::File {
-                bytes: others,
-                access: owned,
-            },
-        ) => Ok(bytes.held()? == others.held()? && same_access(*access, *owned)),
-        (Node::File { .. }, Node::Dir { .. }) => Ok(false),
-        (Node::File { .. }, Node::Link { .. }) => Ok(false),
-        (Node::Dir { .. }, Node::File { .. }) => Ok(false),
-        (Node::Dir { .. }, Node::Dir { .. }) => Ok(false),
-        (Node::Dir { .. }, Node::Link { .. }) => Ok(false),
-        (Node::Link { .. }, Node::File { .. }) => Ok(false),
-        (Node::Link { .. }, Node::Dir { .. }) => Ok(false),
-        (Node::Link { target }, Node::Link { target: aimed }) => Ok(target.is(aimed)),
-    }
-}
-
 // Whether at the name without the architecture nothing stands, or the same.
 fn is_fit(long: &Option<Node>, short: &Option<Node>) -> Result<bool, AllocError>
     ensures { IfOk result (λ same. same ≡ spec.is_fit long.now short.now) }
@@ -82,7 +54,7 @@ fn is_fit(long: &Option<Node>, short: &Option<Node>) -> Result<bool, AllocError>
         (None, None) => Ok(true),
         (None, Some(_)) => Ok(true),
         (Some(node), None) => Ok(!node.is_dir()),
-        (Some(node), Some(there)) => same_node(node, there),
+        (Some(node), Some(there)) => Ok(!node.is_dir() && node.is_same(there)?),
     }
 }
 

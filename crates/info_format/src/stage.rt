@@ -1,16 +1,15 @@
 // What an opening does about names with an architecture, before all else.
-ghost use Rattle.std.specs.Prelude.{◌≡◌, IfErr, IsTrue, MatchBool, OnOk, false};
+ghost use Rattle.std.specs.Prelude.{◌≡◌, IfErr, IsTrue, OnOk, false};
 ghost use Rattle.std.specs.List.{list_all};
 ghost use Rattle.host_core.specs.Host.{AtEachMoment, Needs, Silent};
 ghost use Rattle.host_core.specs.Looks.{Looks};
 ghost use Rattle.host_core.specs.World.{IsDirectory};
 ghost use Rattle.administration.specs.Fault.{CountsAdministration};
-ghost use Rattle.administration.specs.Files.{NoDirectory};
 ghost use Rattle.administration.specs.Places.{info_path};
 ghost use Rattle.info_format.specs.Stage.{AreDamaged, AreDone, IsNaming, IsPlain, is_named, is_plain_name};
 
 use crate::bringing::convert;
-use administration::{AdministrationFault, INFO, Standing, look};
+use administration::{AdministrationFault, INFO, is_directory};
 use host_core::{Host, HostFault, RootPath};
 use status_db::NotedDatabase;
 use std::alloc::Global;
@@ -62,18 +61,6 @@ fn convert_recorded<H: Host>(alloc: Global, host: &mut H) -> Result<(), Administ
         Err(AdministrationFault::Device) => Err(AdministrationFault::Device),
         Err(AdministrationFault::NoMemory) => Err(AdministrationFault::NoMemory),
         Err(AdministrationFault::Declined) => Err(AdministrationFault::Declined),
-    }
-}
-
-// Whether a directory stands there.
-pub(crate) fn is_directory<H: Host>(host: &mut H, path: &RootPath) -> Result<bool, HostFault>
-    ensures looks { Looks result
-        (λ there w. MatchBool there (IsDirectory (w path.now)) (NoDirectory (w path.now)))
-        (H.state host.old) (H.state host.new) }
-{
-    match look(host, path)? {
-        Standing::Directory => Ok(true),
-        _ => Ok(false),
     }
 }
 

@@ -1,14 +1,13 @@
 -- What a look at a root shows of what a command may change under a question.
-use Rattle.std.specs.Prelude.{◌≡◌, ◌↔◌, ◌&&◌, ℕ, Bool, true, false, List, [], Option, Some, None, Contains, nat_eq}
+use Rattle.std.specs.Prelude.{◌≡◌, ◌↔◌, ◌&&◌, ℕ, Bool, true, false, List, [], Option, Some, None, Contains}
 use Rattle.std.specs.List.{list_all, list_any}
 use Rattle.std.specs.Str.{bytes_eq}
+use Rattle.host_core.specs.Nodes.{same_node}
 use Rattle.host_core.specs.Paths.{Path}
 use Rattle.host_core.specs.Tree.{IsListing}
 use Rattle.host_core.specs.World.{World}
 use Rattle.host_core.specs.declared.listing.Listing.{Listing}
-use Rattle.host_core.specs.declared.node.Access.{Access}
 use Rattle.host_core.specs.declared.node.Node.{Node}
-use Rattle.host_core.specs.declared.node.Node.TheVariants.{File, Dir, Link}
 use Rattle.administration.specs.Places.{info_path, status_path, updates_path}
 use Rattle.inquiries.specs.declared.glance.Glance.{Glance}
 
@@ -37,20 +36,6 @@ pub record IsSame (one other : Glance) : Type 0 where
   pub info : HaveSame one.info other.info
 
 -- the tests for that
-
-abbrev pub same_access : Access → Access → Bool
-same_access a b = nat_eq a.mode b.mode && (nat_eq a.user b.user && nat_eq a.group b.group)
-
-abbrev pub same_node : Node → Node → Bool
-same_node (File bytes access) (File others owned) = bytes_eq bytes others && same_access access owned
-same_node (File bytes access) (Dir owned) = false
-same_node (File bytes access) (Link target) = false
-same_node (Dir access) (File others owned) = false
-same_node (Dir access) (Dir owned) = same_access access owned
-same_node (Dir access) (Link target) = false
-same_node (Link target) (File others owned) = false
-same_node (Link target) (Dir owned) = false
-same_node (Link target) (Link aimed) = bytes_eq target aimed
 
 abbrev pub same_standing : Option Node → Option Node → Bool
 same_standing None None = true

@@ -16,7 +16,8 @@ use Rattle.administration.specs.Places.{info_path}
 use Rattle.file_lists.specs.Info.{AreSound, IsInfoDamage}
 use Rattle.file_lists.specs.Lists.{HasLists}
 use Rattle.file_lists.specs.declared.paths.PackageList.{PackageList}
-use Rattle.opening.specs.Followed.{AreWhole, IsFollowed, diverted_paths}
+use Rattle.file_lists.specs.Followed.{AreWhole, diverted_paths}
+use Rattle.opening.specs.Followed.{IsFollowed}
 use Rattle.info_format.specs.Seeing.{IsSeenAs}
 use Rattle.info_format.specs.Stage.{AreDamaged}
 use Rattle.opening.specs.Parts.{Part, Root, Records, Diversions, IsDamage, IsFine, IsTable, names_of}

@@ -12,7 +12,7 @@ ghost use Rattle.inquiries.specs.Glances.{AreNames, HaveSame, IsGlance, IsInside
 ghost use Rattle.inquiries.specs.Glances as spec;
 
 use administration::{INFO, STATUS, UPDATES};
-use host_core::{Access, Host, HostFault, Listing, Node, RootPath};
+use host_core::{Host, HostFault, Listing, Node, RootPath};
 use std::alloc::{AllocError, Global};
 use std::collections::BTreeSet;
 use texts::{Text, Texts};
@@ -27,34 +27,6 @@ pub struct Glance {
     pub info: Listing,
 }
 
-fn same_access(one: Access, other: Access) -> bool
-    ensures { result ≡ spec.same_access one other }
-{
-    one.mode == other.mode && (one.user == other.user && one.group == other.group)
-}
-
-fn same_node(one: &Node, other: &Node) -> Result<bool, AllocError>
-    ensures { IfOk result (λ same. same ≡ spec.same_node one.now other.now) }
-{
-    match (one, other) {
-        (
-            Node::File { bytes, access },
-            Node::File {
-                bytes: others,
-                access: owned,
-            },
-        ) => Ok(bytes.held()? == others.held()? && same_access(*access, *owned)),
-        (Node::File { .. }, Node::Dir { .. }) => Ok(false),
-        (Node::File { .. }, Node::Link { .. }) => Ok(false),
-        (Node::Dir { .. }, Node::File { .. }) => Ok(false),
-        (Node::Dir { access }, Node::Dir { access: owned }) => Ok(same_access(*access, *owned)),
-        (Node::Dir { .. }, Node::Link { .. }) => Ok(false),
-        (Node::Link { .. }, Node::File { .. }) => Ok(false),
-        (Node::Link { .. }, Node::Dir { .. }) => Ok(false),
-        (Node::Link { target }, Node::Link { target: aimed }) => Ok(target.is(aimed)),
-    }
-}
-
 fn same_standing(one: &Option<Node>, other: &Option<Node>) -> Result<bool, AllocError>
     ensures { IfOk result (λ same. same ≡ spec.same_standing one.now other.now) }
 {
@@ -62,7 +34,7 @@ fn same_standing(one: &Option<Node>, other: &Option<Node>) -> Result<bool, Alloc
         (None, None) => Ok(true),
         (None, Some(_)) => Ok(false),
         (Some(_), None) => Ok(false),
-        (Some(node), Some(there)) => same_node(node, there),
+        (Some(node), Some(there)) => node.is_same(there),
     }
 }
 

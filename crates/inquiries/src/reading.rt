@@ -6,17 +6,17 @@ ghost use Rattle.aliases.specs.Reading.{AreAliasesIn};
 ghost use Rattle.diversions.specs.Lines.{HasDiversions};
 ghost use Rattle.host_overlay.specs.Seen.{seen};
 ghost use Rattle.info_format.specs.Seeing.{IsSeenThrough};
-ghost use Rattle.opening.specs.Followed.{AreWhole, diverted_paths};
+ghost use Rattle.file_lists.specs.Followed.{AreWhole, diverted_paths};
 ghost use Rattle.opening.specs.Parts.{Diversions as ItsDiversions, Finds, IsDamaged, IsTable, fault_in, names_of};
 ghost use Rattle.inquiries.specs.Read.{diversions_parts, FindsAll, FindsLists, FindsRest, HasAll, HasFollowed, HasSeenLists, HasWays, records_parts};
 
 use administration::AdministrationFault;
 use diversions::Diversions;
-use file_lists::FileLists;
+use file_lists::{FileLists, add_diverted, read_above_each};
 use host_core::{Host, HostFault, RootPath};
 use host_overlay::SeenNames;
 use info_format::see_names;
-use opening::{Opened, add_diverted, check_root, follow, names_of, read_above_each};
+use opening::{Opened, check_root, follow, names_of};
 use status_db::NotedDatabase;
 use std::alloc::Global;
 use texts::Text;
@@ -272,7 +272,7 @@ fn read_ways<H: Host>(
     let mut paths = Vec::new(alloc);
     paths.push(path.copy()?)?;
     add_diverted(&mut paths, diversions)?;
-    read_above_each(host, paths.as_slice(), diversions)
+    read_above_each(alloc, host, paths.as_slice(), diversions)
 }
 
 /// The diversions, with the aliases of the root above a path and above those that diversions name.

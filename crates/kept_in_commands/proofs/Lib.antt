@@ -5,3 +5,5 @@ pub mod Unpacked
 pub mod Lists
 pub mod Waiting
 pub mod RemovalRuns
+pub mod Placed
+pub mod UnpackRuns

@@ -140,5 +140,9 @@ module _ (p : Package) (beside : Beside) (before : Held) (q : Path) where
         ∙ unit_leaves (given_by p before before.ways by_before.others (all_yielding p beside before)) (places_of before) (ended_as unit.unwinding) whole.records whole.lists s whole.m [] whole.between q by_before.unpacked (passed.honest honest)
         (in_engine by_before.others s.world held)
 
+    -- whatever stands there
+    pub place_stays : (packaged : IsPackagePlace q) (place : IsHeldPlace (given_by p before before.ways [] (all_yielding p beside before)) q) → Has after q place.held.owner
+    place_stays packaged place = subst (λ (v : Ways). Owns v q place.held.owner after.lists) (sym same) ((passes packaged place).owns)
+
     pub unit_has : (held : IsHeldFile p beside before s.world q) → Has after q held.place.held.owner
-    unit_has held = subst (λ (v : Ways). Owns v q held.place.held.owner after.lists) (sym same) ((passes held.packaged held.place).owns)
+    unit_has held = place_stays held.packaged held.place

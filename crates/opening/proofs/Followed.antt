@@ -1,23 +1,21 @@
 -- The aliases of a root: paths that were followed stay so as more are read, and reading them changes nothing that was opened.
 use Rattle.std.proofs.Common.{◌≡◌, ◌+◌, ◌<◌, ℕ, Bool, IsTrue, List, [], ◌∷◌, ◌++◌, Option, Some, None, Result, Ok, Err, length, get_or, take, refl, sym, ap, subst, ◌∙◌}
 use Rattle.std.specs.Prelude.{IfOk, OnOk}
-use Rattle.std.specs.List.{AllByRecursion}
-use Rattle.std.proofs.lemmas.List.{take_more}
 use Rattle.administration.specs.declared.fault.AdministrationFault.{AdministrationFault}
 use Rattle.aliases.specs.Aliases.{Alias}
-use Rattle.aliases.specs.Reading.{AreAliasesIn, IsWhole}
+use Rattle.aliases.specs.Reading.{AreAliasesIn}
 use Rattle.diversions.specs.Diverted.{Diverted}
 use Rattle.diversions.specs.declared.entry.Diversion.{Diversion}
-use Rattle.file_lists.specs.Followed.{AreFollowed, HasMoreAliases}
+use Rattle.file_lists.specs.Followed.{AreFollowed, AreWhole, HasMoreAliases}
 use Rattle.file_lists.specs.declared.paths.PackageList.{PackageList}
-use Rattle.file_lists.proofs.Growing.{followed_more, whole_grown}
+use Rattle.file_lists.proofs.Growing.{each_grown, followed_more}
 use Rattle.host_core.specs.Events.{Event}
 use Rattle.host_core.specs.Host.{AllFailed, Reads, Since, State}
 use Rattle.host_core.specs.Loss.{IsLater}
 use Rattle.host_core.specs.Paths.{Path}
 use Rattle.host_core.specs.World.{World}
 use Rattle.host_core.proofs.Moments.{since_now, since_reads, since_then, since_weaker_if}
-use Rattle.opening.specs.Followed.{AreWhole, IsFollowed, named_paths}
+use Rattle.opening.specs.Followed.{IsFollowed, named_paths}
 use Rattle.opening.specs.Opened.{IsOpened}
 use Rattle.opening.specs.Parts.{GoesOn, HasMerged, IsDamaged, Merges, Opens, OpensAndMerges, ReadsAndMerges, fault_in, parts}
 use Rattle.opening.specs.Stopped.{BeginsOnDisk, IsBrought}
@@ -28,20 +26,6 @@ use Rattle.status_db.specs.Noting.{IsMerging}
 pub on_ok : {T E P Q : Type 0} (result : Result T E) → (P → Q) → OnOk result P → OnOk result Q
 on_ok (Ok x) f p = f p
 on_ok (Err e) f p = tt
-
--- as more aliases are read
-
-pub each_grown : (honest : Bool) (w : World) (paths : List Path) (a b : Diverted) → HasMoreAliases honest w a b → IsTrue honest → AreAliasesIn w a.ways.aliases → AreWhole w paths a.ways.aliases → AreWhole w paths b.ways.aliases
-each_grown honest w [] a b more h each whole = tt
-each_grown honest w (path ∷ paths) a b more h each whole = (whole_grown honest w a b path more h each whole.0, each_grown honest w paths a b more h each whole.1)
-
-with_last : (w : World) (paths : List Path) (path : Path) (aliases : List Alias) → AreWhole w paths aliases → IsWhole w path aliases → AreWhole w (paths ++ path ∷ []) aliases
-with_last w [] path aliases each last = (last, tt)
-with_last w (p ∷ paths) path aliases each last = (each.0, with_last w paths path aliases each.1 last)
-
-pub each_next : (w : World) (paths : List Path) (i : ℕ) (path : Path) (aliases : List Alias) → i < length paths → path ≡ get_or paths i path → AreWhole w (take i paths) aliases → IsWhole w path aliases → AreWhole w (take (i + 1) paths) aliases
-each_next w paths i path aliases lt is each last =
-    subst (λ (ps : List Path). AreWhole w ps aliases) (sym (take_more paths i path lt ∙ ap (λ (p : Path). take i paths ++ p ∷ []) (sym is))) (with_last w (take i paths) path aliases each last)
 
 -- the paths that diversions name are followed, and then the listed ones
 pub followed_both : (honest : Bool) (w : World) (lists : List PackageList) (mid new : Diverted) → HasMoreAliases honest w mid new → IsTrue honest → AreAliasesIn w mid.ways.aliases → AreWhole w (named_paths mid.ways.entries) mid.ways.aliases

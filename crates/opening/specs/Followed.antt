@@ -1,18 +1,11 @@
 -- Which paths are followed to where they lead once an administration is open.
 use Rattle.std.specs.Prelude.{List, [], ◌∷◌, ◌++◌, codes}
-use Rattle.std.specs.List.{AllByRecursion, flat_map}
-use Rattle.aliases.specs.Aliases.{Alias}
-use Rattle.aliases.specs.Reading.{IsWhole}
 use Rattle.diversions.specs.Ways.{Ways}
 use Rattle.diversions.specs.declared.entry.Diversion.{Diversion}
-use Rattle.file_lists.specs.Followed.{AreFollowed}
+use Rattle.file_lists.specs.Followed.{AreFollowed, AreWhole, diverted_paths}
 use Rattle.file_lists.specs.declared.paths.PackageList.{PackageList}
 use Rattle.host_core.specs.Paths.{Path}
 use Rattle.host_core.specs.World.{World}
-
--- each of these paths is followed to where it leads in the world
-abbrev pub AreWhole : World → List Path → List Alias → Type 0
-AreWhole w paths aliases = AllByRecursion (λ path. IsWhole w path aliases) paths
 
 -- a path in each of the directories that roots have as links
 abbrev pub usual_paths : List Path
@@ -27,10 +20,6 @@ usual_paths =
     ∷ codes "/usr/sbin/x"
     ∷ codes "/usr/lib/x"
     ∷ []
-
--- the paths of diversions, each with its target
-abbrev pub diverted_paths : List Diversion → List Path
-diverted_paths entries = flat_map (λ d. d.path ∷ d.target ∷ []) entries
 
 -- the paths that are looked at beside the listed ones
 abbrev pub named_paths : List Diversion → List Path

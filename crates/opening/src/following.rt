@@ -4,10 +4,10 @@ ghost use Rattle.std.specs.Prelude.{◌≡◌, ◌++◌, [], IfOk, IsTrue, OnOk,
 ghost use Rattle.std.specs.List.{AllByRecursion};
 ghost use Rattle.administration.specs.Fault.{CountsAdministration};
 ghost use Rattle.aliases.specs.Reading.{AreAliasesIn};
-ghost use Rattle.file_lists.specs.Followed.{HasMoreAliases};
+ghost use Rattle.file_lists.specs.Followed.{AreWhole, HasMoreAliases, diverted_paths};
 ghost use Rattle.host_core.specs.Host.{AtEachMoment, Counts, Gives, Leaves, Needs, Reads, Silent};
 ghost use Rattle.host_core.specs.Paths.{is_path};
-ghost use Rattle.opening.specs.Followed.{AreWhole, IsFollowed, diverted_paths, named_paths, usual_paths};
+ghost use Rattle.opening.specs.Followed.{IsFollowed, named_paths, usual_paths};
 ghost use Rattle.opening.specs.Leaving.{IsOpeningOrMerging};
 ghost use Rattle.opening.specs.Opened.{IsOpened};
 ghost use Rattle.opening.specs.Parts.{IsDamaged, OpensAndMerges, fault_in};
@@ -16,7 +16,7 @@ ghost use Rattle.opening.specs.Stopped.{AfterAStop, IsBrought};
 use crate::open::{Opened, open_administration};
 use administration::AdministrationFault;
 use diversions::Diversions;
-use file_lists::FileLists;
+use file_lists::{FileLists, add_diverted, read_above_each};
 use host_core::{Host, HostFault, RootPath};
 use std::alloc::{AllocError, Global};
 
@@ -50,46 +50,12 @@ fn usual_paths(alloc: Global) -> Result<Vec<RootPath>, AllocError>
     paths_of(alloc, &USUAL)
 }
 
-/// Adds the paths of the diversions, each with its target.
-pub fn add_diverted(paths: &mut Vec<RootPath>, diversions: &Diversions) -> Result<(), AllocError>
-    ensures { OnOk result
-        (paths.new.items ≡ paths.old.items ++ diverted_paths diversions.now.ways.entries) }
-{
-    for entry in diversions.entries() {
-        paths.push(entry.path.at()?)?;
-        paths.push(entry.target.at()?)?;
-    }
-    Ok(())
-}
-
 fn named_paths(alloc: Global, diversions: &Diversions) -> Result<Vec<RootPath>, AllocError>
     ensures { IfOk result (λ paths. paths.items ≡ named_paths diversions.now.ways.entries) }
 {
     let mut paths = usual_paths(alloc)?;
     add_diverted(&mut paths, diversions)?;
     Ok(paths)
-}
-
-/// Reads the aliases above each of these paths.
-pub fn read_above_each<H: Host>(
-    host: &mut H,
-    paths: &[RootPath],
-    diversions: &mut Diversions,
-) -> Result<(), HostFault>
-    ensures grows { HasMoreAliases (H.state host.new).honest (H.state host.old).world diversions.old
-        diversions.new }
-    ensures whole { Leaves result
-        (λ w _. AreAliasesIn w diversions.old.ways.aliases
-        → AreWhole w paths.now diversions.new.ways.aliases)
-        (H.state host.old) (H.state host.new) }
-    ensures reads { Reads (H.state host.old) (H.state host.new) }
-    ensures silent { Silent (H.state host.old) (H.state host.new) }
-    ensures counts { Counts (H.state host.old) (H.state host.new) result }
-{
-    for path in paths {
-        diversions.read_above(host, path)?;
-    }
-    Ok(())
 }
 
 // Reads those above the usual paths, and above the paths of diversions.
@@ -109,7 +75,7 @@ fn read_named<H: Host>(
     ensures counts { Counts (H.state host.old) (H.state host.new) result }
 {
     let paths = named_paths(alloc, diversions)?;
-    read_above_each(host, paths.as_slice(), diversions)
+    read_above_each(alloc, host, paths.as_slice(), diversions)
 }
 
 // Reads the aliases of the root, above the usual paths and those of diversions, and then above all

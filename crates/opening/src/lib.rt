@@ -34,6 +34,6 @@ mod open;
 mod stopped;
 
 pub use adopting::open_adopted;
-pub use following::{add_diverted, follow, open_followed, read_above_each};
+pub use following::{follow, open_followed};
 pub use laws::{a_stopped_opening_can_be_opened, what_is_fine_has_no_fault};
 pub use open::{Opened, check_root, names_of, open_administration};

@@ -1,11 +1,9 @@
 // The administration as a whole, part by part in the order in which they are opened.
-ghost use Rattle.std.specs.Prelude.{◌≡◌, ◌∷◌, [], true, false, IsTrue, Some, IfOk, OnOk, MatchBool};
+ghost use Rattle.std.specs.Prelude.{◌≡◌, ◌∷◌, [], true, false, IsTrue, Some, IfOk, OnOk};
 ghost use Rattle.host_core.specs.Host.{AtEachMoment, Gives, Leaves, Needs, Reads, Silent};
-ghost use Rattle.host_core.specs.Looks.{Looks};
 ghost use Rattle.host_core.specs.Paths.{is_path};
 ghost use Rattle.host_core.specs.World.{HasParent, IsDirectory, KeepsBut, World};
 ghost use Rattle.administration.specs.Fault.{CountsAdministration};
-ghost use Rattle.administration.specs.Files.{NoDirectory};
 ghost use Rattle.administration.specs.Places.{diversions_path, home_path, status_path, temporary, updates_path, info_path, tmp_path};
 ghost use Rattle.administration.specs.declared.fault.AdministrationFault.TheVariants.{Damaged};
 ghost use Rattle.diversions.specs.Lines.{HasDiversions};
@@ -18,12 +16,12 @@ ghost use Rattle.opening.specs.Stopped.{AfterAStop, IsBrought};
 
 use crate::stopped::bring_to_disk;
 use administration::{
-    AdministrationFault, Flatness, INCOMING, INFO, Standing, UPDATES, inspect_flat, look,
-    make_directory, remove_flat,
+    AdministrationFault, Flatness, INCOMING, INFO, Standing, UPDATES, inspect_flat, is_directory,
+    look, make_directory, remove_flat,
 };
 use diversions::Diversions;
 use file_lists::FileLists;
-use host_core::{Host, HostFault, RootPath};
+use host_core::{Host, RootPath};
 use info_format::bring_names;
 use status_db::{NotedDatabase, RecordFault};
 use status_records::Record;
@@ -65,18 +63,6 @@ fn make_way<H: Host>(alloc: Global, host: &mut H, place: &str) -> Result<(), Adm
         return Ok(());
     }
     Err(damaged(path, 0))
-}
-
-// Whether a directory stands there.
-fn is_directory<H: Host>(host: &mut H, path: &RootPath) -> Result<bool, HostFault>
-    ensures looks { Looks result
-        (λ there w. MatchBool there (IsDirectory (w path.now)) (NoDirectory (w path.now)))
-        (H.state host.old) (H.state host.new) }
-{
-    match look(host, path)? {
-        Standing::Directory => Ok(true),
-        _ => Ok(false),
-    }
 }
 
 /// The root has to be a directory.

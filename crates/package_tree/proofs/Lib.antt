@@ -21,4 +21,5 @@ pub mod OtherPaths
 pub mod OthersTaken
 pub mod Filtered
 pub mod Judged
+pub mod Overs
 pub mod Owning

@@ -20,6 +20,7 @@ use Rattle.control_fields.proofs.OnlyOne.{reads_one_once, no_fault_of_one}
 use Rattle.administration.specs.Scripts.{script_of, file_of}
 use Rattle.stated_relations.specs.Stated.{States}
 use Rattle.package_tree.specs.ControlFile.{key_of, relation_order, IsControlText, HasValue, HasNoBad, HasNoBadRelation, HasBadValue}
+use Rattle.package_tree.specs.ControlLimit.{HasNoneOver, IsOver}
 use Rattle.package_tree.specs.Conffiles.{HasNoEntry, IsFirstEntry, IsOdd}
 use Rattle.package_tree.specs.ConffileFaults.{AreNamed, IsAstray}
 use Rattle.package_tree.proofs.Firsts.{no_bad_path}
@@ -51,7 +52,7 @@ bytes_of (Some (Dir access)) = []
 bytes_of (Some (Link target)) = []
 
 one_text : (w : World) (a b : List ℕ) → HasControl w a → HasControl w b → a ≡ b
-one_text w a b one other = ap bytes_of (sym one.1 ∙ other.1)
+one_text w a b one other = ap bytes_of (sym one.0.1 ∙ other.0.1)
 
 one_control : (w : World) (p : Package) → (t : IsTreeOf w p) → (text : List ℕ) (paragraph : List Field) → HasControl w text → ReadsOne (lines_of text) paragraph → paragraph ≡ p.control
 one_control w p t text paragraph there reads =
@@ -72,10 +73,14 @@ none_of P (e ∷ front) rest entry all holds = none_of P front rest entry all.1 
 first_of_none : (P : Entry → Type 0) (entries : List Entry) (number : ℕ) (entry : Entry) → HasNoEntry P entries → IsFirstEntry P entries number entry → ⊥
 first_of_none P entries number entry all first = none_of P first.front first.rest entry (subst (HasNoEntry P) first.is all) first.holds
 
+over_of_none : (w : World) (before after : List Path) (path : Path) → HasNoneOver w (before ++ path ∷ after) → IsOver (w path) → ⊥
+over_of_none w [] after path all over = all.0 over
+over_of_none w (p ∷ before) after path all over = over_of_none w before after path all.1 over
+
 pub no_fault : (w : World) (p : Package) (fault : TreeFault) → IsTreeOf w p → IsTreeFault w fault → ⊥
 no_fault w p Twice t wrong = wrong
 no_fault w p (NoRoom path) t wrong = wrong
-no_fault w p NoControl t wrong = wrong t.text t.there
+no_fault w p NoControl t wrong = wrong t.text t.there.0
 no_fault w p (Control fault) t wrong = wrong.2.1 (no_fault_of_one (lines_of t.text) p.control fault t.control.reads (subst (λ (b : List ℕ). IsFaultOfOne (lines_of b) fault) (one_text w wrong.0 t.text wrong.1 t.there) wrong.2.0))
 no_fault w p (FieldMissing field.Package) t wrong =
     not_lacked field.Package wrong.2.0 p.name (subst (λ (l : List Field). HasValue field.Package l p.name) (sym (one_control w p t wrong.0 wrong.2.0 wrong.1 wrong.2.1)) t.control.fields.named) wrong.2.2
@@ -98,7 +103,10 @@ no_fault w p (Reserved path) t wrong = t.paths.reserved path wrong.2.holds
 no_fault w p (ConffileNotShipped name) t wrong = first_of_none (IsAstray w) _ wrong.2.1 wrong.2.0 t.lines.named wrong.2.2
 no_fault w p (ConffileShipped path) t wrong = t.lines.flagged path wrong.3.holds
 no_fault w p (ConffileFlag line) t wrong = first_of_none IsOdd _ line wrong.4.0 t.lines.words wrong.4.1
-no_fault w p (TooLarge path) t wrong = t.room path wrong.3.0.holds
+no_fault w p (TooLarge path) t (inl (inl wrong)) = t.there.1 wrong.1
+no_fault w p (TooLarge path) t (inl (inr wrong)) = over_of_none w wrong.1.before wrong.1.after path (subst (HasNoneOver w) wrong.1.is t.members) wrong.1.over
+no_fault w p (TooLarge path) t (inr (_, _, _, inl wrong)) = t.room path wrong.0.holds
+no_fault w p (TooLarge path) t (inr (_, _, _, inr wrong)) = t.small wrong.1.0 wrong.1.2.holds
 no_fault w p TooMany t wrong = t.room wrong.3.0 wrong.3.1.0.holds
 no_fault w p Device t wrong = wrong
 no_fault w p NoMemory t wrong = wrong

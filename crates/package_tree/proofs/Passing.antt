@@ -5,7 +5,9 @@ use Rattle.control_fields.specs.Grammar.{ReadsOne, lines_of}
 use Rattle.control_fields.specs.declared.field.Field.{Field}
 use Rattle.host_core.specs.Host.{State, NoFault}
 use Rattle.host_core.proofs.Counted.{declined_then, no_fault_then}
-use Rattle.package_tree.specs.Fault.{CountsTree}
+use Rattle.host_core.specs.declared.fault.HostFault.{HostFault}
+use Rattle.host_core.specs.declared.fault.HostFault.TheVariants as host
+use Rattle.package_tree.specs.Fault.{fault_of, CountsTree, IsHostFault}
 use Rattle.package_tree.specs.ControlFile.{IsFieldFault, IsTextFault}
 use Rattle.package_tree.specs.declared.fault.TreeFault.{TreeFault}
 use Rattle.package_tree.specs.declared.fault.TreeFault.TheVariants.{Twice, NoRoom, NoControl, Control, FieldMissing, FieldBad, PathBad, Reserved, ConffileNotShipped, ConffileShipped, ConffileFlag, TooLarge, TooMany, Device, NoMemory, Declined}
@@ -14,6 +16,12 @@ use Rattle.package_tree.specs.declared.fault.TreeFault.TheVariants.{Twice, NoRoo
 pub passed_fault : {T : Type 0} (P : TreeFault → Type 0) (r : Result T TreeFault) (fault : TreeFault) → IsErrAnd r (λ e. e ≡ fault) → P fault → IfErr r P
 passed_fault P (Ok x) fault passed told = absurd passed
 passed_fault P (Err e) fault passed told = subst P (sym passed) told
+
+-- a fault of the host is none of the tree
+pub host_fault : (fault : HostFault) → IsHostFault (fault_of fault)
+host_fault host.Device = tt
+host_fault host.NoMemory = tt
+host_fault host.Declined = tt
 
 -- a fault of the fields is one of the text that has them
 pub told_fields : (text : List ℕ) (paragraph : List Field) (fault : TreeFault) → ReadsOne (lines_of text) paragraph → IsFieldFault paragraph fault → IsTextFault text fault

@@ -1,6 +1,7 @@
 pub mod ConffileFaults
 pub mod Conffiles
 pub mod ControlFile
+pub mod ControlLimit
 pub mod Debian
 pub mod Fault
 pub mod LineNames

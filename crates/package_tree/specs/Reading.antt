@@ -5,6 +5,7 @@ use Rattle.std.specs.Str.{IsUtf8}
 use Rattle.std.specs.BTreeSet.{contains_text}
 use Rattle.host_core.specs.World.{World}
 use Rattle.package_tree.specs.ConffileFaults.{HasGoodLines, IsOfBoth}
+use Rattle.package_tree.specs.ControlLimit.{IsOverOther}
 use Rattle.package_tree.specs.LineNames.{is_named}
 use Rattle.package_tree.specs.OtherFiles.{AreOthers, names_of}
 use Rattle.package_tree.specs.Package.{is_trimmed, AreTrimmed}
@@ -34,6 +35,7 @@ pub record IsFound (w : World) (found : Found) : Type 0 where
   pub room : HasNoPath (IsTooLarge w)
   pub files : AreFiles w found.files.items
   pub others : AreOthers w found.others.items
+  pub small : HasNoPath (IsOverOther w)
 
 -- the parts fit one another, whatever the host told
 pub record IsWhole (lines : Lines) (found : Found) : Type 0 where

@@ -79,7 +79,9 @@ pub enum TreeFault {
     /// A line of `DEBIAN/conffiles` is neither a path nor a flagged one.
     #[error("ConffileFlag {0}")]
     ConffileFlag(u64),
-    /// A shipped file has more than 16 GiB.
+    /// A shipped file has more than 16 GiB, or one of `DEBIAN` that is read more than 16 MiB. The
+    /// latter is told where its length is looked at first: of the control file before its text, of
+    /// `conffiles` and the scripts before the paths, and of another kept file behind all.
     #[error("TooLarge {0}")]
     TooLarge(RootPath),
     /// More than 65,536 paths are shipped.

@@ -9,9 +9,11 @@
 //! other files of `DEBIAN` that are kept, and what its six relation fields state, as read
 //! (`relations`).
 //!
-//! Its faults come in one order: the control file, a bad path, a reserved one, a conffile that
-//! isn't shipped, one that is flagged and shipped, an odd line, a file above 16 GiB or more than
-//! 65,536 paths; by line or in path order within each.
+//! Its faults come in one order: the control file (above 16 MiB, then its text), `conffiles` or a
+//! script above 16 MiB, a bad path, a reserved one, a conffile that isn't shipped, one that is
+//! flagged and shipped, an odd line, a shipped file above 16 GiB or more than 65,536 paths, another
+//! kept file of `DEBIAN` above 16 MiB; by line or in path order within each. No file of `DEBIAN`
+//! above its limit was read of a tree that is read as a package (`members`, `small`).
 //!
 //! A device fault is told exactly where the device failed, once and last (`counts`); nothing is
 //! changed (`reads`); what a package's type promises holds whatever the host told (`AreFitting`:
@@ -27,6 +29,7 @@
 mod collecting;
 mod conffile_lines;
 mod control_file;
+mod control_limit;
 mod fault;
 mod laws;
 mod line_faults;

@@ -12,6 +12,8 @@ ghost use Rattle.administration.specs.Scripts.{script_of, file_of};
 ghost use Rattle.package_tree.specs.Fault.{CountsTree};
 ghost use Rattle.package_tree.specs.Debian.{is_wrong, is_entry, is_shipped, lists_conffiles, script_path, conffiles_path, member_paths, Ships, HasNoneWrong, IsFirstWrong, AreContents};
 ghost use Rattle.package_tree.specs.Conffiles.{is_white, entries_at};
+ghost use Rattle.package_tree.specs.ControlLimit.{HasNoneOver, IsFirstOver, IsOverOther, IsOverTold};
+ghost use Rattle.package_tree.specs.OtherFiles.{names_of as other_names_of, AreOthers};
 ghost use Rattle.package_tree.specs.ConffileFaults.{HasGoodLines, IsOfBoth};
 ghost use Rattle.package_tree.specs.ControlFile.{IsControlText};
 ghost use Rattle.package_tree.specs.Owners.{root_at};
@@ -19,11 +21,12 @@ ghost use Rattle.package_tree.specs.PathFaults.{AreGoodPaths, HasGoodPaths, IsBa
 ghost use Rattle.package_tree.specs.Reading.{AreLinesOf, AreTrimmedLines, IsFound, IsWhole};
 ghost use Rattle.package_tree.specs.ShipMap.{paths_of, AreFiles, IsTooLarge};
 ghost use Rattle.package_tree.specs.Shipped.{AreInOrder, ArePathTexts, AreShipped, HasNoPath, IsBadBeside, IsFirstPath};
-ghost use Rattle.package_tree.specs.Tree.{HasControl, HasGoodControl, IsTreeOf, IsReadingFault};
+ghost use Rattle.package_tree.specs.Tree.{HasControl, HasGoodControl, HasGoodFiles, IsTreeOf, IsReadingFault};
 
 use crate::collecting::{Excess, collect};
 use crate::conffile_lines::{Entry, entries_at, first_odd, is_white};
 use crate::control_file::{ControlFile, read_control};
+use crate::control_limit::{first_over, is_over, member_path};
 use crate::fault::TreeFault;
 use crate::line_faults::{first_astray, first_flagged};
 use crate::line_names::{LineKind, files_in, in_order, names_of};
@@ -184,6 +187,31 @@ fn first_wrong(contents: &Contents) -> Option<&'static str>
     None
 }
 
+// The first path in path order where a file of more bytes stands than may be.
+fn first_over_member(contents: &Contents) -> Option<&'static str>
+    ensures found { (w : World) → AreContents w contents.now
+        → MatchOption result (HasNoneOver w member_paths)
+        (λ path. IsFirstOver w member_paths path.now) }
+    ensures path { IfSome result (λ path. is_path path.now ≡ true) }
+{
+    if is_over(&contents.conffiles) {
+        return Some("/DEBIAN/conffiles");
+    }
+    if is_over(&contents.postinst) {
+        return Some("/DEBIAN/postinst");
+    }
+    if is_over(&contents.postrm) {
+        return Some("/DEBIAN/postrm");
+    }
+    if is_over(&contents.preinst) {
+        return Some("/DEBIAN/preinst");
+    }
+    if is_over(&contents.prerm) {
+        return Some("/DEBIAN/prerm");
+    }
+    None
+}
+
 // The script that a node is, which root will run and so owns; one that isn't a file was ruled out.
 fn script_at(node: Option<Node>) -> Option<ScriptFile>
     ensures { is_wrong node ≡ false → file_of result ≡ root_at node }
@@ -259,6 +287,18 @@ fn wrong_path(alloc: Global, contents: &Contents) -> Result<Option<RootPath>, Al
     }
 }
 
+// The same of the first path with too many bytes.
+fn over_path(alloc: Global, contents: &Contents) -> Result<Option<RootPath>, AllocError>
+    ensures { IfOk result
+        (λ found. (w : World) → AreContents w contents.now
+        → MatchOption found (HasNoneOver w member_paths) (IsFirstOver w member_paths)) }
+{
+    match first_over_member(contents) {
+        Some(path) => Ok(Some(RootPath::from_str(alloc, path)?)),
+        None => Ok(None),
+    }
+}
+
 fn bytes_of(node: Option<Node>) -> Option<Content>
     ensures { MatchOption result
         ((bytes : List ℕ) (access : Access) → node ≡ Some (Node.File bytes access) → ⊥)
@@ -282,6 +322,9 @@ fn control_text<H: Host>(alloc: Global, host: &mut H) -> Result<Content, TreeFau
     ensures counts { CountsTree (H.state host.old) (H.state host.new) result }
 {
     let found = node_at(alloc, host, "/DEBIAN/control")?;
+    if is_over(&found) {
+        return Err(TreeFault::TooLarge(RootPath::from_str(alloc, "/DEBIAN/control")?));
+    }
     match bytes_of(found) {
         Some(bytes) => Ok(bytes),
         None => Err(TreeFault::NoControl),
@@ -342,7 +385,7 @@ fn read_paths<H: Host>(
     contents: &Contents,
     paths: &mut Vec<RootPath>,
 ) -> Result<(), TreeFault>
-    requires control { Needs (H.state host.old) HasGoodControl }
+    requires control { Needs (H.state host.old) HasGoodFiles }
     requires empty { paths.old.items ≡ [] }
     requires contents { Needs (H.state host.old) (λ w. AreContents w contents.now) }
     ensures paths { Leaves result (λ w now. HasGoodPaths w × AreShipped w paths.new.items)
@@ -364,6 +407,30 @@ fn read_paths<H: Host>(
     }
 }
 
+// Looks at the other files of `DEBIAN` that are read before the paths, if none is too large.
+fn look_within<H: Host>(
+    alloc: Global,
+    host: &mut H,
+    contents: &mut Contents,
+) -> Result<(), TreeFault>
+    requires control { Needs (H.state host.old) HasGoodControl }
+    ensures found { Leaves result (λ w now. AreContents w contents.new) (H.state host.old)
+        (H.state host.new) }
+    ensures files { Leaves result (λ w now. HasGoodFiles w) (H.state host.old)
+        (H.state host.new) }
+    ensures fault { IsTrue (H.state host.new).honest
+        → IfErr result (IsReadingFault (H.state host.old).world) }
+    ensures reads { Reads (H.state host.old) (H.state host.new) }
+    ensures silent { Silent (H.state host.old) (H.state host.new) }
+    ensures counts { CountsTree (H.state host.old) (H.state host.new) result }
+{
+    look(alloc, host, contents)?;
+    match over_path(alloc, contents)? {
+        Some(path) => Err(TreeFault::TooLarge(path)),
+        None => Ok(()),
+    }
+}
+
 // Reads what stands beside a control file in which nothing is wrong.
 #[tactic(auto, using(host_core::proofs::Moments::reads_then))]
 fn read_contents<H: Host>(
@@ -376,6 +443,8 @@ fn read_contents<H: Host>(
     requires empty { paths.old.items ≡ [] }
     ensures found { Leaves result (λ w now. AreContents w contents.new) (H.state host.old)
         (H.state host.new) }
+    ensures files { Leaves result (λ w now. HasGoodFiles w) (H.state host.old)
+        (H.state host.new) }
     ensures paths { Leaves result (λ w now. HasGoodPaths w × AreShipped w paths.new.items)
         (H.state host.old) (H.state host.new) }
     ensures texts { OnOk result (ArePathTexts paths.new.items) }
@@ -386,7 +455,7 @@ fn read_contents<H: Host>(
     ensures silent { Silent (H.state host.old) (H.state host.new) }
     ensures counts { CountsTree (H.state host.old) (H.state host.new) result }
 {
-    look(alloc, host, contents)?;
+    look_within(alloc, host, contents)?;
     read_paths(alloc, host, contents, paths)?;
     Ok(())
 }
@@ -426,7 +495,7 @@ fn check_lines<H: Host>(
     requires paths { AreInOrder paths.now }
     requires texts { ArePathTexts paths.now }
     requires flagged { AreInOrder lines.now.flagged.items }
-    requires control { Needs (H.state host.old) HasGoodControl }
+    requires control { Needs (H.state host.old) HasGoodFiles }
     requires good { Needs (H.state host.old) (λ w. AreGoodPaths w paths.now) }
     requires lines { Needs (H.state host.old)
         (λ w. AreLinesOf (entries_at (w conffiles_path)) lines.now) }
@@ -458,7 +527,7 @@ fn collect_files<H: Host>(
     files: &mut Vec<Shipped>,
 ) -> Result<(), TreeFault>
     requires empty { files.old.items ≡ [] }
-    requires control { Needs (H.state host.old) HasGoodControl }
+    requires control { Needs (H.state host.old) HasGoodFiles }
     requires shipped { Needs (H.state host.old) (λ w. AreGoodPaths w paths.now) }
     requires lines { Needs (H.state host.old) HasGoodLines }
     ensures found { Leaves result (λ w now. AreFiles w files.new.items × HasNoPath (IsTooLarge w))
@@ -474,6 +543,44 @@ fn collect_files<H: Host>(
     match collect(alloc, host, paths, files)? {
         Some(Excess::Large(path)) => Err(TreeFault::TooLarge(path)),
         Some(Excess::Many(_)) => Err(TreeFault::TooMany),
+        None => Ok(()),
+    }
+}
+
+// The path of the first of some files that has too many bytes.
+fn over_other(alloc: Global, others: &[OtherFile]) -> Result<Option<RootPath>, AllocError>
+    ensures { IfOk result (IsOverTold others.now) }
+{
+    match first_over(others) {
+        Some(other) => Ok(Some(member_path(alloc, &other.name)?)),
+        None => Ok(None),
+    }
+}
+
+// Collects the files of `DEBIAN` that are stored as they are, if none is too large.
+fn collect_others<H: Host>(
+    alloc: Global,
+    host: &mut H,
+    others: &mut Vec<OtherFile>,
+) -> Result<(), TreeFault>
+    requires empty { others.old.items ≡ [] }
+    requires control { Needs (H.state host.old) HasGoodFiles }
+    requires paths { Needs (H.state host.old) HasGoodPaths }
+    requires lines { Needs (H.state host.old) HasGoodLines }
+    requires room { Needs (H.state host.old) (λ w. HasNoPath (IsTooLarge w)) }
+    ensures found { Leaves result
+        (λ w now. AreOthers w others.new.items × HasNoPath (IsOverOther w)) (H.state host.old)
+        (H.state host.new) }
+    ensures order { OnOk result (AreInOrder (other_names_of others.new.items)) }
+    ensures fault { IsTrue (H.state host.new).honest
+        → IfErr result (IsReadingFault (H.state host.old).world) }
+    ensures reads { Reads (H.state host.old) (H.state host.new) }
+    ensures silent { Silent (H.state host.old) (H.state host.new) }
+    ensures counts { CountsTree (H.state host.old) (H.state host.new) result }
+{
+    read_others(alloc, host, others)?;
+    match over_other(alloc, others.as_slice())? {
+        Some(path) => Err(TreeFault::TooLarge(path)),
         None => Ok(()),
     }
 }
@@ -513,7 +620,7 @@ fn read_found<H: Host>(
     requires paths { AreInOrder paths.now }
     requires texts { ArePathTexts paths.now }
     requires flagged { AreInOrder lines.now.flagged.items }
-    requires control { Needs (H.state host.old) HasGoodControl }
+    requires control { Needs (H.state host.old) HasGoodFiles }
     requires good { Needs (H.state host.old) (λ w. AreGoodPaths w paths.now) }
     requires lines { Needs (H.state host.old)
         (λ w. AreLinesOf (entries_at (w conffiles_path)) lines.now) }
@@ -528,7 +635,7 @@ fn read_found<H: Host>(
 {
     check_lines(alloc, host, paths, lines)?;
     collect_files(alloc, host, paths, &mut found.files)?;
-    read_others(alloc, host, &mut found.others)?;
+    collect_others(alloc, host, &mut found.others)?;
     found.conffiles = files_in(alloc, found.files.as_slice(), &lines.plain)?;
     Ok(())
 }
@@ -546,7 +653,7 @@ fn assemble(
     requires listed { has_conffiles ≡ lists_conffiles contents.conffiles }
     ensures { (w : World) (text : List ℕ) → HasControl w text
         → IsControlText text control.paragraph control.name control.version → AreContents w contents
-        → HasGoodPaths w → AreLinesOf (entries_at (w conffiles_path)) lines → IsFound w found
+        → HasNoneOver w member_paths → HasGoodPaths w → AreLinesOf (entries_at (w conffiles_path)) lines → IsFound w found
         → IsTreeOf w result }
 {
     let ships = contents.ships;

@@ -24,12 +24,14 @@ pub named : (asked : Change) (r : Record) → (changed asked r).name ≡ r.name
 named (change.Want want) r = refl
 named (change.Activate names) r = refl
 named (change.Abandon trigger) r = refl
+named (change.Await names) r = refl
 
 -- its package isn't gone
 pub still_stands : (asked : Change) (r : Record) → is_not_installed r.state ≡ false → is_not_installed (changed asked r).state ≡ false
 still_stands (change.Want want) r stands = stands
 still_stands (change.Activate names) r stands = stands
 still_stands (change.Abandon trigger) r stands = refl
+still_stands (change.Await names) r stands = stands
 
 is_on : (on rest : Bool) → (not on || rest ≡ true → ⊥) → on ≡ true
 is_on true rest other = refl

@@ -118,11 +118,12 @@ activated_same names old awaited root p is = record {
   replaces = is.replaces;
 }
 
--- no packages are held behind one that was abandoned
+-- no packages are held behind one that was abandoned or awaits others
 still_behind : (asked : Change) (rs : List Record) (old : Record) → AreInOrder rs → record_in rs old.name ≡ Some old → (IsMade asked old → ⊥) → (o : Option (List Package)) → IfSome o (ArePackagesOf rs) → IfSome (packages_behind asked o) (ArePackagesOf (put_record (changed asked old) rs))
 still_behind (change.Want want) rs old order found other o are = still rs old (wanting want old) order found refl (wanted_same want old) o are
 still_behind (change.Activate names) rs old order found other o are = still rs old (activated names old) order found refl (activated_same names old (awaited_stays names old other)) o are
 still_behind (change.Abandon trigger) rs old order found other o are = tt
+still_behind (change.Await names) rs old order found other o are = tt
 
 pub still_indexed : (rs new : List Record) (asked : Change) (old : Record) → AreInOrder rs → record_in rs old.name ≡ Some old → (IsMade asked old → ⊥) → new ≡ put_record (changed asked old) rs → (o behind : Option (List Package)) → behind ≡ packages_behind asked o
     → IfSome o (ArePackagesOf rs) → IfSome behind (ArePackagesOf new)

@@ -1,5 +1,5 @@
 -- Names behind others are names too.
-use Rattle.std.proofs.Common.{◌≡◌, ◌≢◌, ◌⊎◌, inl, inr, ℕ, ◌==◌, ◌&&◌, ◌||◌, Bool, true, false, cond, not, List, [], ◌∷◌, ◌++◌, nat_eq, refl, sym, ap, ◌∙◌, codes}
+use Rattle.std.proofs.Common.{◌≡◌, ◌≢◌, ◌⊎◌, inl, inr, ℕ, ◌==◌, ◌&&◌, ◌||◌, Bool, true, false, cond, not, List, [], ◌∷◌, ◌++◌, filter, nat_eq, refl, sym, ap, ◌∙◌, codes}
 use Rattle.std.specs.List.{AllByRecursion, list_all, list_any, onto_first}
 use Rattle.std.specs.Str.{bytes_eq}
 use Rattle.std.proofs.lemmas.Bool.{true≢false, and_parts, eqb-true}
@@ -159,3 +159,18 @@ all_names text names pending are =
 pub with_more : (words : List (List ℕ)) (text word : List ℕ) → with_names text (words ++ word ∷ []) ≡ with_name (with_names text words) word
 with_more [] text word = refl
 with_more (first ∷ words) text word = with_more words (with_name text first) word
+
+-- of the words of names, those that pass a test are names too
+
+clear_kept : (test : List ℕ → Bool) (words : List (List ℕ)) → AllByRecursion AreClear words → AllByRecursion AreClear (filter test words)
+clear_kept test [] all = tt
+clear_kept test (word ∷ words) all = by (test word) (clear_kept test words all.1)
+  where
+    by : (b : Bool) → AllByRecursion AreClear (filter test words) → AllByRecursion AreClear (cond b (word ∷ filter test words) (filter test words))
+    by true rest = (all.0, rest)
+    by false rest = rest
+
+pub kept_names : (first second : List ℕ → Bool) (text : List ℕ) → are_trigger_names text ≡ true → AreNames (with_names [] (filter second (filter first (words_of text))))
+kept_names first second text are =
+    with_names_names (filter second (filter first (words_of text))) [] (inl refl)
+    (clear_kept second (filter first (words_of text)) (clear_kept first (words_of text) (words_clear text (sound_parts text are).printed)))

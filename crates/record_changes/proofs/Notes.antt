@@ -37,6 +37,7 @@ reply_counts : (name : List ℕ) (asked : Change) (a b : State) → NoFault a b 
 reply_counts name (change.Want want) a b same = same
 reply_counts name (change.Activate names) a b same = same
 reply_counts name (change.Abandon trigger) a b same = same
+reply_counts name (change.Await names) a b same = same
 
 pub noted_counts : (asked : RecordChange) (records : List Record) (u : AUnit) (a b : State) → NoFault a b → IsBrokenBy NoMemory u.reply ⊎ IsAnsweredBy (reply_to asked) asked.name records u → CountsReply a b u.reply
 noted_counts asked records u a b same (inl broken) = counts_no_memory u.reply a b same broken
@@ -46,6 +47,7 @@ reply_within : (name : List ℕ) (asked : Change) → IsFromBefore (reply_by nam
 reply_within name (change.Want want) before = before
 reply_within name (change.Activate names) before = before
 reply_within name (change.Abandon trigger) before = before
+reply_within name (change.Await names) before = before
 
 pub answered_within : (reply : Reply) (name : List ℕ) (records : List Record) (u : AUnit) → (IsFromBefore reply → ⊥) → IsBrokenBy NoMemory u.reply ⊎ IsAnsweredBy reply name records u → IsFromBefore u.reply → ⊥
 answered_within reply name records u within (inl broken) before = no_memory_within u.reply broken before

@@ -1,9 +1,10 @@
--- What is changed of a record: what is wanted of its package, or the triggers that it is to process, or not any more (deb-triggers).
+-- What is changed of a record: what is wanted of its package, or the triggers that it is to process, or not any more, or those that it
+-- awaits (deb-triggers).
 use Rattle.std.specs.Prelude.{◌≡◌, ◌==◌, ◌&&◌, ◌||◌, ℕ, Bool, true, false, not, cond, List, [], ◌∷◌, ◌++◌, Option, Some, None, is_some, codes}
 use Rattle.std.specs.List.{list_all, list_any, slice_split}
 use Rattle.std.specs.Str.{bytes_eq}
 use Rattle.std.proofs.Common.{refl}
-use Rattle.status_records.specs.Standings.{standing_as, wanting}
+use Rattle.status_records.specs.Standings.{standing_as, version_beside, wanting}
 use Rattle.status_records.specs.Triggers.{is_configured, left_may_stand, triggers_beside}
 use Rattle.status_records.specs.Words.{is_installed}
 use Rattle.status_records.specs.declared.record.Record.{Record}
@@ -66,15 +67,40 @@ activated names r = record r {
 abbrev pub abandoned : Record → Record
 abandoned r = standing_as r.flag state.HalfConfigured r
 
+-- what is left of the triggers in its state where the package awaits what is pending of these
+abbrev pub awaiting_triggers : Option (List ℕ) → Record → Triggers
+awaiting_triggers names r = triggers_beside r.state (record { pending = r.triggers.pending; awaited = names })
+
+-- what is kept of a record beside these triggers, where they are others
+abbrev pub kept_beside : Triggers → Record → Record
+kept_beside t r = cond (is_configured r.state t) (standing_as r.flag r.state r) r
+
+-- a configured package has no version last configured beside its own
+pub none_beside : (configured : Bool) (last : Option (List ℕ)) → configured && is_some (version_beside configured last) ≡ false
+none_beside true last = refl
+none_beside false last = refl
+
+-- It awaits what is pending of these. All else of it is as before, but that its version is the one last configured where it is
+-- installed and awaits nothing any more.
+abbrev pub awaiting : Option (List ℕ) → Record → Record
+awaiting names r = record r {
+  config_version = version_beside (is_configured r.state (awaiting_triggers names r)) r.config_version;
+  current = none_beside (is_configured r.state (awaiting_triggers names r)) r.config_version;
+  triggers = awaiting_triggers names r;
+  beside = left_may_stand r.state (record { pending = r.triggers.pending; awaited = names });
+}
+
 -- a record that is changed
 abbrev pub changed : Change → Record → Record
 changed (change.Want want) r = wanting want r
 changed (change.Activate names) r = activated names r
 changed (change.Abandon trigger) r = abandoned r
+changed (change.Await names) r = awaiting names r
 
--- Nothing is to be done: what is asked is wanted already; or the package isn't installed, or each of the names is pending; or none is.
--- Only of an installed package names are pending.
+-- Nothing is to be done: what is asked is wanted already; or the package isn't installed, or each of the names is pending; or none is;
+-- or these are awaited. Only of an installed package names are pending.
 abbrev pub IsMade : Change → Record → Type 0
 IsMade (change.Want want) r = r.want ≡ want
 IsMade (change.Activate names) r = not (is_installed r.state) || list_all (has_name (pending_text r.triggers.pending)) (words_of names) ≡ true
 IsMade (change.Abandon trigger) r = not (is_some r.triggers.pending) ≡ true
+IsMade (change.Await names) r = r.triggers.awaited ≡ names

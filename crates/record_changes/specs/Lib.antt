@@ -1,5 +1,6 @@
 pub mod Activated
 pub mod Pending
+pub mod Awaits
 pub mod Units
 pub mod Turns
 pub mod Run

@@ -27,11 +27,13 @@ HasDecided asked records Refused = entry_of asked records ≡ None
 HasDecided asked records Made = (r : Record) × (entry_of asked records ≡ Some r) × IsMade asked.change r
 HasDecided asked records (Changed entry) = (r : Record) × (entry_of asked records ≡ Some r) × (IsMade asked.change r → ⊥) × (entry ≡ changed asked.change r)
 
--- the packages that are held behind a change that was recorded: none where one was abandoned, since its state is another one
+-- The packages that are held behind a change that was recorded: none where one was abandoned, since its state is another one, nor where
+-- one awaits other triggers, since it may be configured by that.
 abbrev pub packages_behind : Change → Option (List Package) → Option (List Package)
 packages_behind (change.Want want) held = held
 packages_behind (change.Activate names) held = held
 packages_behind (change.Abandon trigger) held = None
+packages_behind (change.Await names) held = None
 
 -- the packages that are held are those of the records
 abbrev pub IsIndexed : Administration → Type 0

@@ -1,5 +1,5 @@
--- One change: what is wanted of a package is recorded (Policy 6.8 speaks of what is done with it), what activates its triggers, or that
--- these are abandoned.
+-- One change: what is wanted of a package is recorded (Policy 6.8 speaks of what is done with it), what activates its triggers, that
+-- these are abandoned, or what it awaits.
 use Rattle.std.specs.Prelude.{◌≡◌, ◌⊎◌, ℕ, IsTrue, List, [], ◌∷◌, Option, Some, None}
 use Rattle.held_administration.specs.Order.{IsInOrder}
 use Rattle.host_core.specs.Events.{Event, scripts_of}
@@ -47,6 +47,7 @@ pub record IsRecorded (asked : RecordChange) (r : Record) (before after : Held) 
 abbrev pub reply_by : List ℕ → Change → Reply
 reply_by name (change.Want want) = Done
 reply_by name (change.Activate names) = Done
+reply_by name (change.Await names) = Done
 reply_by name (change.Abandon trigger) = Looped (record { «package» = name; trigger = trigger })
 
 abbrev pub reply_to : RecordChange → Reply

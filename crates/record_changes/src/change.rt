@@ -12,6 +12,8 @@ pub enum Change {
     /// What is pending of it isn't processed, since it would lead to this trigger of it again and again: where something is pending, it
     /// is half-configured.
     Abandon(Text),
+    /// It awaits what is pending of these packages, and of no others; with none it awaits nothing. Blanks stand between the names.
+    Await(Option<TriggerNames>),
 }
 
 /// A change of the record of the package of this name.

@@ -1,7 +1,7 @@
 // What is changed of a record.
 ghost use Rattle.std.specs.Prelude.{◌≡◌, ◌⊎◌, [], true, map, MatchBool, IfOk, OnOk};
 ghost use Rattle.std.specs.List.{list_all};
-ghost use Rattle.record_changes.specs.Activated.{IsMade, activated, changed, has_name, pending_text, with_name, with_names, with_pending, words_of};
+ghost use Rattle.record_changes.specs.Activated.{IsMade, activated, awaiting, awaiting_triggers, changed, has_name, kept_beside, pending_text, with_name, with_names, with_pending, words_of};
 ghost use Rattle.status_records.specs.TriggerNames.{are_trigger_names};
 ghost use Rattle.status_records.specs.Words.{is_installed};
 
@@ -13,6 +13,17 @@ fn is_same(one: Want, other: Want) -> bool
     ensures { MatchBool result (one ≡ other) (one ≡ other → ⊥) }
 {
     one.name() == other.name()
+}
+
+fn are_same(one: &Option<TriggerNames>, other: &Option<TriggerNames>) -> bool
+    ensures { MatchBool result (one.now ≡ other.now) (one.now ≡ other.now → ⊥) }
+{
+    match (one, other) {
+        (Some(one), Some(other)) => one.text() == other.text(),
+        (Some(_), None) => false,
+        (None, Some(_)) => false,
+        (None, None) => true,
+    }
 }
 
 fn words_of(alloc: Global, text: &[u8]) -> Result<Vec<&[u8]>, AllocError>
@@ -27,7 +38,8 @@ fn has_name(text: &[u8], name: &[u8]) -> bool
     name.is_empty() || text.split(|byte| *byte == b' ').any(|word| name == word)
 }
 
-fn add_name(text: &mut Vec<u8>, name: &[u8]) -> Result<(), AllocError>
+/// Puts a name behind those of a text, where it isn't one of them.
+pub(crate) fn add_name(text: &mut Vec<u8>, name: &[u8]) -> Result<(), AllocError>
     ensures { OnOk result (text.new.items ≡ with_name text.old.items name.now) }
 {
     if has_name(text.as_slice(), name) {
@@ -81,6 +93,7 @@ pub(crate) fn is_made(asked: &Change, entry: &Record) -> bool
             !entry.state.is_installed() || are_pending(&entry.triggers, names.text())
         }
         Change::Abandon(_) => !entry.triggers.pending.is_some(),
+        Change::Await(names) => are_same(&entry.triggers.awaited, names),
     }
 }
 
@@ -122,6 +135,62 @@ fn activated(alloc: Global, entry: &Record, names: &TriggerNames) -> Result<Reco
     })
 }
 
+fn copied_names(names: &Option<TriggerNames>) -> Result<Option<TriggerNames>, AllocError>
+    ensures { IfOk result (λ copy. copy ≡ names.now) }
+{
+    match names {
+        Some(names) => Ok(Some(names.copy()?)),
+        None => Ok(None),
+    }
+}
+
+fn awaiting_triggers(entry: &Record, names: &Option<TriggerNames>) -> Result<Triggers, AllocError>
+    ensures { IfOk result (λ t. t ≡ awaiting_triggers names.now entry.now) }
+{
+    match entry.state {
+        State::NotInstalled | State::ConfigFiles => Ok(Triggers::none()),
+        State::HalfInstalled | State::Unpacked | State::HalfConfigured => Ok(Triggers {
+            pending: None,
+            awaited: copied_names(names)?,
+        }),
+        State::Installed => Ok(Triggers {
+            pending: copied_names(&entry.triggers.pending)?,
+            awaited: copied_names(names)?,
+        }),
+    }
+}
+
+// What is kept of a record beside other triggers: with them its package may be configured.
+fn kept_beside(entry: &Record, triggers: &Triggers) -> Result<Record, AllocError>
+    ensures { IfOk result (λ kept. kept ≡ kept_beside triggers.now entry.now) }
+{
+    if entry.state.is_installed() && !triggers.awaited.is_some() {
+        return entry.standing_as(entry.flag, entry.state);
+    }
+    entry.copy()
+}
+
+// The record of a package that awaits what is pending of these.
+fn awaiting(entry: &Record, names: &Option<TriggerNames>) -> Result<Record, AllocError>
+    ensures { IfOk result (λ r. r ≡ awaiting names.now entry.now) }
+{
+    let triggers = awaiting_triggers(entry, names)?;
+    let kept = kept_beside(entry, &triggers)?;
+    Ok(Record {
+        name: kept.name,
+        want: kept.want,
+        flag: kept.flag,
+        state: kept.state,
+        version: kept.version,
+        config_version: kept.config_version,
+        removed_since: kept.removed_since,
+        conffiles: kept.conffiles,
+        pending: kept.pending,
+        triggers,
+        fields: kept.fields,
+    })
+}
+
 /// The record, changed, where that isn't made already.
 pub(crate) fn changed(alloc: Global, asked: &Change, entry: &Record) -> Result<Record, AllocError>
     requires { IsMade asked.now entry.now → ⊥ }
@@ -131,5 +200,6 @@ pub(crate) fn changed(alloc: Global, asked: &Change, entry: &Record) -> Result<R
         Change::Want(want) => entry.wanting(*want),
         Change::Activate(names) => activated(alloc, entry, names),
         Change::Abandon(_) => entry.standing_as(entry.flag, State::HalfConfigured),
+        Change::Await(names) => awaiting(entry, names),
     }
 }

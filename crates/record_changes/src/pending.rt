@@ -1,7 +1,8 @@
 // What is pending, as records tell of it.
-ghost use Rattle.std.specs.Prelude.{◌≡◌, ◌++◌, filter, map, IfOk, OnOk};
+ghost use Rattle.std.specs.Prelude.{◌≡◌, ◌++◌, filter, map, true, IfOk, OnOk};
 ghost use Rattle.record_changes.specs.Activated.{pending_text, words_of};
-ghost use Rattle.record_changes.specs.Pending.{is_name, pending_by, pending_of, pending_triggers};
+ghost use Rattle.status_records.specs.TriggerNames.{are_trigger_names};
+ghost use Rattle.record_changes.specs.Pending.{is_name, names_in, pending_by, pending_of, pending_triggers};
 
 use status_db::NotedDatabase;
 use status_records::{Record, TriggerNames, Triggers};
@@ -16,8 +17,9 @@ pub struct PendingTrigger {
     pub trigger: Text,
 }
 
-fn names_text(names: &TriggerNames) -> &str
-    ensures { result.now ≡ names.now }
+pub(crate) fn names_text(names: &TriggerNames) -> &str
+    ensures text { result.now ≡ names.now }
+    ensures names { are_trigger_names names.now ≡ true }
 {
     str::from_utf8(names.text()).unwrap()
 }
@@ -49,6 +51,14 @@ fn names_among(alloc: Global, words: &[&str]) -> Result<Texts, AllocError>
     Ok(names)
 }
 
+/// The names of a text, in their order.
+pub(crate) fn names_in(alloc: Global, text: &str) -> Result<Texts, AllocError>
+    ensures { IfOk result (λ names. names ≡ names_in text.now) }
+{
+    let words = words_of(alloc, text)?;
+    names_among(alloc, words.as_slice())
+}
+
 fn push_pending(
     found: &mut Vec<PendingTrigger>,
     package: &Text,
@@ -73,8 +83,7 @@ fn push_pending_of(
 ) -> Result<(), AllocError>
     ensures { OnOk result (found.new.items ≡ found.old.items ++ pending_of entry.now) }
 {
-    let words = words_of(alloc, pending_text(&entry.triggers))?;
-    let names = names_among(alloc, words.as_slice())?;
+    let names = names_in(alloc, pending_text(&entry.triggers))?;
     push_pending(found, &entry.name, names.as_slice())
 }
 

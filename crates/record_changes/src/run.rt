@@ -19,8 +19,8 @@ use host_core::Host;
 use unit_reports::{Report, Watcher};
 use unit_runs::run_units;
 
-/// Changes records, one after another: what is wanted of packages, which triggers they are to process, and whose are abandoned. The
-/// watcher is told each unit as it is finished; the one that was broken off it isn't told.
+/// Changes records, one after another: what is wanted of packages, which triggers they are to process, whose are abandoned, and what they
+/// await. The watcher is told each unit as it is finished; the one that was broken off it isn't told.
 pub fn change_records<H: Host, W: Watcher>(
     host: &mut H,
     administration: &mut Administration,

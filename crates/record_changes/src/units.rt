@@ -85,7 +85,7 @@ fn reply_to(asked: &RecordChange) -> Result<Reply, AllocError>
     ensures whole { IfOk result (λ reply. IsBroken reply → ⊥) }
 {
     match &asked.change {
-        Change::Want(_) | Change::Activate(_) => Ok(Reply::Done),
+        Change::Want(_) | Change::Activate(_) | Change::Await(_) => Ok(Reply::Done),
         Change::Abandon(trigger) => Ok(Reply::Looped(Cycle {
             package: asked.name.copy()?,
             trigger: trigger.copy()?,
@@ -146,13 +146,15 @@ fn unknown(alloc: Global, name: &Text) -> Unit
     }
 }
 
-// An abandoned package meets no relation any more, so that what the packages state is to be read anew.
-fn forget_abandoned(asked: &Change, packages: &mut Option<Packages>)
+// An abandoned package meets no relation any more, and one that awaits nothing any more meets some: what the packages state is to be
+// read anew.
+fn forget_changed(asked: &Change, packages: &mut Option<Packages>)
     ensures { packages.new ≡ packages_behind asked.now packages.old }
 {
     match asked {
         Change::Want(_) | Change::Activate(_) => {}
         Change::Abandon(_) => *packages = None,
+        Change::Await(_) => *packages = None,
     }
 }
 
@@ -181,7 +183,7 @@ fn note<H: Host>(
     let alloc = administration.alloc;
     match note_record(alloc, host, &mut administration.database, entry) {
         Ok(()) => {
-            forget_abandoned(&asked.change, &mut administration.packages);
+            forget_changed(&asked.change, &mut administration.packages);
             noted(alloc, &administration.database, asked)
         }
         Err(fault) => broken(alloc, Vec::new(alloc), breakage_of(fault)),

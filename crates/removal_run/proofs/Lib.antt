@@ -1,4 +1,5 @@
 mod Once
+mod Sets
 mod Replies
 mod Barriers
 mod Removals

@@ -67,3 +67,15 @@ seen_first seen name names e =
 pub none_seen : (names : List (List ℕ)) → new_of [] names ≡ names
 none_seen [] = refl
 none_seen (name ∷ names) = ap (λ (l : List (List ℕ)). name ∷ l) (none_seen names)
+
+-- a name goes to those seen unless it is one of them
+pub seen_or_not : (seen now : List (List ℕ)) (name : List ℕ) (names : List (List ℕ)) → now ≡ cond (is_among seen name) seen (seen ++ name ∷ []) → seen ++ new_of seen (name ∷ without name names) ≡ now ++ new_of now names
+seen_or_not seen now name names is = by (is_among seen name) refl
+  where
+    by : (b : Bool) → is_among seen name ≡ b → seen ++ new_of seen (name ∷ without name names) ≡ now ++ new_of now names
+    by true e =
+        let same : now ≡ seen = is ∙ ap (λ b. cond b seen (seen ++ name ∷ [])) e in
+        ap (λ (l : List (List ℕ)). seen ++ l) (seen_again seen name names e) ∙ ap (λ (l : List (List ℕ)). l ++ new_of l names) (sym same)
+    by false e =
+        let same : now ≡ seen ++ name ∷ [] = is ∙ ap (λ b. cond b seen (seen ++ name ∷ [])) e in
+        seen_first seen name names e ∙ ap (λ (l : List (List ℕ)). l ++ new_of l names) (sym same)

@@ -1,5 +1,6 @@
 // The packages that wait to be removed, and the next of them.
 ghost use Rattle.std.specs.Prelude.{◌≡◌, ◌<◌, ℕ, List, false, true, IfOk, IsTrue, MatchOption, length, map};
+ghost use Rattle.std.specs.BTreeSet.{contains_text};
 ghost use Rattle.dependency_check.specs.Waiting.{IsRemovableNow};
 ghost use Rattle.dependency_sets.specs.Choices.{IsFirst};
 ghost use Rattle.dependency_sets.specs.Sets.{has};
@@ -12,13 +13,20 @@ ghost use Rattle.removal_run.specs.Waiting.{IsEven, IsQueueNow, is_installed_in,
 ghost use Rattle.removal_run.specs.Whose.{IsNobodysTurn, IsWhoseTurn};
 ghost use Rattle.status_records.specs.declared.record.Record.{Record as ARecord};
 
-use crate::names::is_among;
+use crate::names::set_of;
 use dependency_check::RemoveQueue;
 use dependency_sets::{first_of_both, has};
 use relation_index::{Package, Packages};
 use status_db::NotedDatabase;
 use std::alloc::{AllocError, Global};
+use std::collections::BTreeSet;
 use texts::Text;
+
+fn is_in(names: &BTreeSet<String>, of: &Package) -> bool
+    ensures { result ≡ contains_text names.now of.now.name }
+{
+    names.contains(of.name.as_str())
+}
 
 /// Which packages have one of these names.
 pub(crate) fn marks_of(
@@ -28,9 +36,10 @@ pub(crate) fn marks_of(
 ) -> Result<Vec<bool>, AllocError>
     ensures { IfOk result (λ marks. marks.items ≡ map (is_named waiting.now) packages.now) }
 {
+    let names = set_of(alloc, waiting)?;
     let mut marks = Vec::new(alloc);
     for package in packages {
-        marks.push(is_among(waiting, &package.name))?;
+        marks.push(is_in(&names, package))?;
     }
     Ok(marks)
 }

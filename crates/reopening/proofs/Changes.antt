@@ -13,7 +13,7 @@ use Rattle.record_changes.specs.Run.{HasRun}
 use Rattle.record_changes.specs.Turns.{IsAmidTurn, IsTurn}
 use Rattle.record_changes.specs.Units.{IsAmidChange, IsChange, entry_of, recorded}
 use Rattle.record_changes.specs.declared.change.Change.{Change}
-use Rattle.record_changes.specs.declared.change.Change.TheVariants.{Want, Activate, Abandon}
+use Rattle.record_changes.specs.declared.change.Change.TheVariants.{Want, Activate, Abandon, Await}
 use Rattle.record_changes.specs.declared.change.RecordChange.{RecordChange}
 use Rattle.status_db.specs.Held.{HasRecords, is_record_place}
 use Rattle.status_records.specs.Records.{record_in}
@@ -45,6 +45,7 @@ changed_one : (names : List (List ℕ)) (change : Change) (r : Record) → IsOne
 changed_one names (Want want) r one = record { stands = one.stands; named = one.named }
 changed_one names (Activate triggers) r one = record { stands = one.stands; named = one.named }
 changed_one names (Abandon trigger) r one = record { stands = refl; named = one.named }
+changed_one names (Await others) r one = record { stands = one.stands; named = one.named }
 
 module _ (asked : RecordChange) (before : Held) (old now : World) (sound : IsSound before old) where
   abbrev names : List (List ℕ)

@@ -2,7 +2,7 @@
 use crate::root::{names_in, path_of, root_of, text_at};
 use file_removal::{Leaving, remove_owned};
 use host_core::{Call, Host, HostFault, Keep, Outcome, Places, Script, Side};
-use host_overlay::{AssumedFailure, Overlay};
+use host_overlay::{AssumedFailure, Overlay, Plan};
 use opening::open_administration;
 use std::alloc::{AllocError, Global};
 use std::test::Fail;
@@ -120,7 +120,7 @@ fn is_exit(outcome: Outcome, code: i32) -> bool {
 #[test]
 fn the_root_holds_what_it_held(rt: HostRuntime) -> Result<(), Fail> {
     let alloc = rt.alloc();
-    let mut overlay = Overlay::over(alloc, root_of(alloc, HELD)?, Vec::new(alloc));
+    let mut overlay = Overlay::over(alloc, root_of(alloc, HELD)?);
     assert!(rt; open_administration(alloc, &mut overlay).is_ok());
     assert!(rt; remove_owned(&mut overlay, leaving(alloc)?.as_slice()).is_ok());
     for (path, text) in FOUND {
@@ -155,7 +155,7 @@ fn the_root_holds_what_it_held(rt: HostRuntime) -> Result<(), Fail> {
 #[test]
 fn the_changed_paths_are_told(rt: HostRuntime) -> Result<(), Fail> {
     let alloc = rt.alloc();
-    let mut overlay = Overlay::over(alloc, root_of(alloc, HELD)?, Vec::new(alloc));
+    let mut overlay = Overlay::over(alloc, root_of(alloc, HELD)?);
     assert!(rt; open_administration(alloc, &mut overlay).is_ok());
     assert!(rt; remove_owned(&mut overlay, leaving(alloc)?.as_slice()).is_ok());
     let changes = overlay.changes()?;
@@ -173,7 +173,9 @@ fn calls_fail_once_where_that_is_assumed(rt: HostRuntime) -> Result<(), Fail> {
     let mut failing = Vec::new(alloc);
     failing.push(named(alloc, "alpha", "install")?)?;
     failing.push(named(alloc, "beta", "upgrade")?)?;
-    let mut overlay = Overlay::over(alloc, root_of(alloc, HELD)?, failing);
+    let plan = Plan::new(alloc, failing)?;
+    let mut overlay = Overlay::rehearsing(alloc, root_of(alloc, HELD)?, plan);
+    assert_eq!(rt; overlay.events().len(), 3);
     for (package, script, word, code) in [
         ("alpha", Script::Preinst, "upgrade", 0),
         ("alpha", Script::Postinst, "install", 0),
@@ -186,7 +188,7 @@ fn calls_fail_once_where_that_is_assumed(rt: HostRuntime) -> Result<(), Fail> {
         assert!(rt; is_exit(outcome, code), "{package} {word}");
     }
     assert_eq!(rt; overlay.unmet().len(), 1);
-    assert_eq!(rt; overlay.events().len(), 4);
+    assert_eq!(rt; overlay.events().len(), 7);
     Ok(())
 }
 
@@ -195,7 +197,7 @@ fn a_fault_below_is_told(rt: HostRuntime) -> Result<(), Fail> {
     let alloc = rt.alloc();
     let mut below = root_of(alloc, HELD)?;
     below.fail_read(1);
-    let mut overlay = Overlay::over(alloc, below, Vec::new(alloc));
+    let mut overlay = Overlay::over(alloc, below);
     assert_eq!(rt; text_at(alloc, &mut overlay, "/usr/share/b")?.as_str(), "b");
     assert!(rt; overlay.node(&path_of(alloc, "/usr/share/b")?).is_err());
     assert_eq!(rt; overlay.events().len(), 1);

@@ -11,7 +11,7 @@ ghost use Rattle.undo_rows.specs.Place.{is_declined};
 ghost use Rattle.undo_rows.specs.Stops.{AtEachStop};
 
 use crate::stack_calls::RowOf;
-use administration::{Standing, look, replace};
+use administration::{Standing, is_directory, look, replace};
 use host_core::{Access, Content, Host, HostFault, Node, Places, RootPath};
 use std::alloc::{AllocError, Global};
 use texts::Text;
@@ -61,19 +61,6 @@ fn file(alloc: Global, text: &str) -> Result<Node, AllocError>
     let bytes = Content::from_slice(alloc, text.as_bytes())?;
     let access = Access::own(0o644);
     Ok(Node::File { bytes, access })
-}
-
-fn is_directory<H: Host>(host: &mut H, path: &RootPath) -> Result<bool, HostFault>
-    ensures found { Tells result (λ is w. IsTrue is → IsDirectory (w path.now)) (H.state host.old)
-        (H.state host.new) }
-    ensures reads { Reads (H.state host.old) (H.state host.new) }
-    ensures silent { Silent (H.state host.old) (H.state host.new) }
-    ensures counts { Counts (H.state host.old) (H.state host.new) result }
-{
-    match look(host, path)? {
-        Standing::Directory => Ok(true),
-        Standing::Nothing | Standing::Loose => Ok(false),
-    }
 }
 
 fn is_free<H: Host>(host: &mut H, path: &RootPath) -> Result<bool, HostFault>

@@ -1,4 +1,5 @@
-// Trees in memory that ship as many paths as a tree may, and one more; and a file of more than 64 MiB, as a compiler's library may be.
+// Trees in memory that ship as many paths as a tree may, and one more; a file of more than 64 MiB, as a compiler's library may be;
+// and files of `DEBIAN` that have as many bytes as they may, and one more.
 use host_core::{
     Access, Call, Content, Host, HostFault, Keep, Node, Outcome, Places, RootPath, Script, Side,
 };
@@ -14,6 +15,8 @@ const FIRST: usize = 100_000;
 const MOST_PATHS: usize = 65_536;
 
 const MANY_BYTES: usize = 64 * 1024 * 1024 + 1;
+
+const MOST_CONTROL_BYTES: usize = 16 * 1024 * 1024;
 
 fn path_of(alloc: Global, text: &str) -> Result<RootPath, AllocError> {
     match RootPath::parse(alloc, text)? {
@@ -112,5 +115,50 @@ fn read_large(alloc: Global, length: usize) -> Result<String, AllocError> {
 fn a_file_may_have_many_bytes(rt: HostRuntime) -> Result<(), Fail> {
     let read = read_large(rt.alloc(), MANY_BYTES)?;
     assert_eq!(rt; read.as_str(), "1 paths, 67108865 bytes");
+    Ok(())
+}
+
+// The tree with a file of `DEBIAN` of so many bytes, all of them newlines.
+fn read_member(alloc: Global, path: &str, length: usize) -> Result<String, AllocError> {
+    let mut host = bare_tree(alloc)?;
+    let bytes = Content::new(vec![in alloc; b'\n'; length]?);
+    host.place(&path_of(alloc, path)?, file(bytes))?;
+    read(alloc, &mut host)
+}
+
+#[test]
+fn a_control_file_has_at_most_so_many_bytes(rt: HostRuntime) -> Result<(), Fail> {
+    let alloc = rt.alloc();
+    let more = read_member(alloc, "/DEBIAN/control", MOST_CONTROL_BYTES + 1)?;
+    assert_eq!(rt; more.as_str(), "TooLarge /DEBIAN/control");
+    Ok(())
+}
+
+#[test]
+fn a_script_has_at_most_so_many_bytes(rt: HostRuntime) -> Result<(), Fail> {
+    let alloc = rt.alloc();
+    let most = read_member(alloc, "/DEBIAN/prerm", MOST_CONTROL_BYTES)?;
+    assert_eq!(rt; most.as_str(), "0 paths, 0 bytes");
+    let more = read_member(alloc, "/DEBIAN/prerm", MOST_CONTROL_BYTES + 1)?;
+    assert_eq!(rt; more.as_str(), "TooLarge /DEBIAN/prerm");
+    Ok(())
+}
+
+#[test]
+fn conffiles_has_at_most_so_many_bytes(rt: HostRuntime) -> Result<(), Fail> {
+    let more = read_member(rt.alloc(), "/DEBIAN/conffiles", MOST_CONTROL_BYTES + 1)?;
+    assert_eq!(rt; more.as_str(), "TooLarge /DEBIAN/conffiles");
+    Ok(())
+}
+
+#[test]
+fn another_kept_file_has_at_most_so_many_bytes(rt: HostRuntime) -> Result<(), Fail> {
+    let alloc = rt.alloc();
+    let most = read_member(alloc, "/DEBIAN/md5sums", MOST_CONTROL_BYTES)?;
+    assert_eq!(rt; most.as_str(), "0 paths, 0 bytes");
+    let more = read_member(alloc, "/DEBIAN/md5sums", MOST_CONTROL_BYTES + 1)?;
+    assert_eq!(rt; more.as_str(), "TooLarge /DEBIAN/md5sums");
+    let left_out = read_member(alloc, "/DEBIAN/a.b", MOST_CONTROL_BYTES + 1)?;
+    assert_eq!(rt; left_out.as_str(), "0 paths, 0 bytes");
     Ok(())
 }

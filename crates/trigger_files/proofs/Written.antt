@@ -1,6 +1,6 @@
 -- What putting one file after another leaves.
 use Rattle.std.proofs.Common.{◌≡◌, ◌≢◌, ◌⊎◌, ◌+◌, ◌<◌, ◌==◌, ◌&&◌, ◌||◌, inl, inr, not, ℕ, Bool, true, false, List, [], ◌∷◌, ◌++◌, length, take, drop, get_or, Option, Some, None, Result, Ok, Err, codes, refl, sym, ap, subst, ◌∙◌, arith}
-use Rattle.std.specs.Prelude.{IfOk}
+use Rattle.std.specs.Prelude.{IfOk, MatchBool}
 use Rattle.std.specs.List.{list_any}
 use Rattle.std.specs.Str.{bytes_eq}
 use Rattle.std.proofs.lemmas.Bool.{eqb-true, or_parts, true≢false}
@@ -84,11 +84,16 @@ pub file_none : (lines : List (List ℕ)) → length lines ≡ 0 → None ≡ fi
 file_none [] none = refl
 file_none (line ∷ lines) none = absurd (omega (arith, none))
 
+-- whether a directory stands there, as a call tells it
+told_directory : (is : Bool) (n : Option Node) → MatchBool is (IsDirectory n) (NoDirectory n) → is ≡ is_directory n
+told_directory true n there = sym (directory_is n there)
+told_directory false n none = sym (directory_isnt n none)
+
 -- no file can be written
 pub hindered_by : {E : Type 0} (result : Result Bool E) (w v : World) (path spare : Path) (kind : Option Kind) (in_way : Bool) → v ≡ w → spare ≡ temporary path → in_way ≡ false → in_way ≡ is_in_way kind → kind ≡ kind_of (w path)
-    → IfOk result (λ is. is ≡ is_directory (v spare)) → IfOk result (λ is. is ≡ is_hindered w path)
+    → IfOk result (λ is. MatchBool is (IsDirectory (v spare)) (NoDirectory (v spare))) → IfOk result (λ is. is ≡ is_hindered w path)
 hindered_by (Ok is) w v path spare kind in_way same beside free by at e =
-    e ∙ ap (λ (u : World). is_directory (u spare)) same ∙ ap (λ (q : Path). is_directory (w q)) beside
+    told_directory is (v spare) e ∙ ap (λ (u : World). is_directory (u spare)) same ∙ ap (λ (q : Path). is_directory (w q)) beside
     ∙ sym (ap (λ (t : Bool). t || is_directory (w (temporary path))) (ap is_in_way (sym at) ∙ sym by ∙ free))
 hindered_by (Err e) w v path spare kind in_way same beside free by at is = tt
 

@@ -7,10 +7,10 @@ ghost use Rattle.trigger_files.specs.Places.{is_register, paths_name, place};
 ghost use Rattle.trigger_files.specs.Registered.{is_hindered, is_in_way, is_unsettled};
 ghost use Rattle.trigger_files.specs.Steps.{AreRegisters, AreUnsettled, names_for, open_of};
 ghost use Rattle.administration.specs.Places.{temporary};
-ghost use Rattle.host_core.specs.World.{is_directory, kind_of};
 
 use crate::lines::{is_settled, lines_for};
 use crate::places::{is_register, place, triggers_directory};
+use administration::is_directory;
 use host_core::{Host, HostFault, Kind, RootPath};
 use std::alloc::{AllocError, Global};
 use texts::Text;
@@ -148,17 +148,6 @@ fn is_in_way(kind: Option<Kind>) -> bool
     match kind {
         None | Some(Kind::File) => false,
         Some(Kind::Directory) | Some(Kind::SymbolicLink) => true,
-    }
-}
-
-// Whether a directory stands at a path.
-fn is_directory<H: Host>(host: &mut H, path: &RootPath) -> Result<bool, HostFault>
-    ensures looks { Looks result (λ is w. is ≡ is_directory (w path.now)) (H.state host.old)
-        (H.state host.new) }
-{
-    match host.kind(path)? {
-        Some(Kind::Directory) => Ok(true),
-        None | Some(Kind::File) | Some(Kind::SymbolicLink) => Ok(false),
     }
 }
 

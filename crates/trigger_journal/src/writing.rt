@@ -10,7 +10,7 @@ ghost use Rattle.trigger_journal.specs.Places.{journal_path};
 ghost use Rattle.trigger_journal.specs.Writing.{HasText, IsUnwritten, IsWriting, journal_file};
 
 use crate::requests::journal_path;
-use administration::{Standing, look, make_directory, replace};
+use administration::{is_directory, make_directory, replace};
 use host_core::{Access, Content, Host, HostFault, Node, RootPath};
 use std::alloc::{AllocError, Global};
 
@@ -20,17 +20,6 @@ fn journal_file(text: Vec<u8>) -> Node
     Node::File {
         bytes: Content::new(text),
         access: Access::own(0o644),
-    }
-}
-
-fn is_directory<H: Host>(host: &mut H, path: &RootPath) -> Result<bool, HostFault>
-    ensures looks { Looks result (λ is w. MatchBool is (IsDirectory (w path.now))
-        (NoDirectory (w path.now))) (H.state host.old) (H.state host.new) }
-{
-    match look(host, path)? {
-        Standing::Directory => Ok(true),
-        Standing::Nothing => Ok(false),
-        Standing::Loose => Ok(false),
     }
 }
 

@@ -1,3 +1,4 @@
 mod Turned
 pub mod Steps
 pub mod Abandoned
+pub mod Settled

@@ -1,2 +1,3 @@
 pub mod Told
 pub mod Turns
+pub mod Settled

@@ -154,7 +154,7 @@ pub(crate) fn answered(ended: Result<(), Unit>) -> Result<bool, Unit>
 }
 
 // Notes these changes. There may be no room for their units.
-fn note_those<H: Host, W: Watcher>(
+pub(crate) fn note_those<H: Host, W: Watcher>(
     alloc: Global,
     session: &mut Session<H>,
     changes: Vec<RecordChange>,

@@ -14,8 +14,10 @@
 #![tactic(auto)]
 
 mod asking;
+mod settling;
 mod turns;
 mod wishing;
 
+pub use settling::process_pending;
 pub use turns::process_in_turns;
 pub use wishing::pending_owners;

@@ -25,8 +25,8 @@ later_then a b c first second = since_then (λ so_far w. Unit {0}) a b c first s
 pub later_reads : (a b : State) → Reads a b → IsLater a b
 later_reads a b reads = since_reads (λ so_far w. Unit {0}) a b reads (λ es all. tt)
 
-module _ (plan : Planned) (first late : Ways) (a b c : State) where
-  pub read_longer : IsReadAgain plan first late a b → IsLater b c → IsReadAgain plan first late a c
+module _ (lists : List PackageList) (plan : Planned) (first late : Ways) (a b c : State) where
+  pub read_longer : IsReadAgain lists plan first late a b → IsLater b c → IsReadAgain lists plan first late a c
   read_longer r later = record {
     before = r.before;
     files = r.files;
@@ -41,11 +41,11 @@ module _ (plan : Planned) (first late : Ways) (a b c : State) where
     aliases = r.aliases;
   }
 
-  pub either_longer : (late ≡ first) ⊎ IsReadAgain plan first late a b → IsLater b c → (late ≡ first) ⊎ IsReadAgain plan first late a c
+  pub either_longer : (late ≡ first) ⊎ IsReadAgain lists plan first late a b → IsLater b c → (late ≡ first) ⊎ IsReadAgain lists plan first late a c
   either_longer (inl same) later = inl same
   either_longer (inr again) later = inr (read_longer again later)
 
-  pub read_earlier : Reads a b → Silent a b → IsReadAgain plan first late b c → IsReadAgain plan first late a c
+  pub read_earlier : Reads a b → Silent a b → IsReadAgain lists plan first late b c → IsReadAgain lists plan first late a c
   read_earlier reads silent r = record {
     before = r.before;
     files = r.files;

@@ -41,8 +41,8 @@ module _ (g : Given) (ways : Ways) (places : List Path) (old mid : State) (reads
   late = record g { ways = ways }
 
   -- the table was read again in the whole unit, which began with that of what was given
-  pub reads_late : IsReadAgain plan g.ways ways mid new → (other : Planned) × IsPlanFor g old.world new.honest other × IsReadAgain other g.ways ways old new
-  reads_late read = (plan, record { stored = plan_for.stored; seen = λ h. plan_for.seen (falls h); planned = plan_for.planned }, read_earlier plan g.ways ways old mid new reads silent read)
+  pub reads_late : IsReadAgain g.lists plan g.ways ways mid new → (other : Planned) × IsPlanFor g old.world new.honest other × IsReadAgain g.lists other g.ways ways old new
+  reads_late read = (plan, record { stored = plan_for.stored; seen = λ h. plan_for.seen (falls h); planned = plan_for.planned }, read_earlier g.lists plan g.ways ways old mid new reads silent read)
 
   module _ (told now : List Called) (ended : Ended) (before after : Recorded) (lists : List PackageList) (rows : List Row) (same : before.records ≡ g.records)
       (has : HasCarriedOutPlan (job_of late plan_for.stored) (ground_of late places) rows ended after lists mid new told now) where

@@ -14,6 +14,7 @@ pub mod Carrying
 pub mod Losing
 pub mod Leaving
 pub mod AfterRows
+pub mod Linked
 pub mod ListEnds
 pub mod EndNames
 pub mod EndOthers

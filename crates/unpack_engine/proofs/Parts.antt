@@ -15,6 +15,7 @@ use Rattle.control_members.proofs.LaidOut.{incoming_absent}
 use Rattle.control_members.specs.LaidOut.{IsIncoming, IsLaying}
 use Rattle.control_members.specs.declared.member.Member.{Member}
 use Rattle.diversions.specs.Ways.{Ways}
+use Rattle.file_lists.specs.declared.paths.PackageList.{PackageList}
 use Rattle.held_administration.specs.declared.held.Administration.{Administration}
 use Rattle.package_files.specs.declared.work.Work.{Work}
 use Rattle.undo_rows.proofs.FirstRows.{cause_of_all, runs_as_all, unwinds_of_all}
@@ -39,6 +40,7 @@ use Rattle.unpack_steps.specs.At.{AreWorksAt, At, Holding, IsFileFault, Stops}
 use Rattle.unpack_steps.specs.Stays.{holds_at}
 use Rattle.unpack_steps.specs.Task.{IsSound, Task, lists_at, task_by}
 use Rattle.unpack_steps.specs.declared.plan.Rows.{Rows}
+use Rattle.unpack_engine.specs.Followed.{AreFollowedAgain, paths_in_hand}
 use Rattle.unpack_engine.specs.Tables.{IsJobOf, IsOther, IsReadHere, IsRunningByEither, StopsByEither}
 use Rattle.unpack_engine.specs.Units.{HasBegun, HasCalledRows, HasRunRows, IsReadAgain, IsRunning}
 use Rattle.unpack_engine.proofs.Again.{calls_silent, later_then}
@@ -198,9 +200,9 @@ module _ (here : Administration) (rows : Rows) (works : List Work) (first : Ways
     pub called_then_all : Begun (MayRun (stack ++ files)) ran.begun end told now → HasCalledRows calls old end told now
     called_then_all is = HasCalledRows.some (begun_behind (MayRun calls) old ran.begun end told now ran.quiet (subst (λ (l : List Row). Begun (MayRun l) ran.begun end told now) all_then is))
 
-    pub read_then : has_files (take (length before) rows.kinds.items) ≡ false → has_files (take (length before + 1) rows.kinds.items) ≡ has_files rows.kinds.items → (late : Ways) → late.aliases ≡ first.aliases
-        → IsReadHere first late mid end → IsReadAgain (planned_from rows works calls commit) first late old end
-    read_then none_here next late aliases read =
+    pub read_then : has_files (take (length before) rows.kinds.items) ≡ false → has_files (take (length before + 1) rows.kinds.items) ≡ has_files rows.kinds.items → (late : Ways)
+        → IsReadHere g.lists rows.union first late mid end → IsReadAgain here.lists.lists (planned_from rows works calls commit) first late old end
+    read_then none_here next late read =
         let made = made_calls (Succeed (IfHonest mid (IsFileFault t)) (calls_of_host ran.begun) before) ran.begun mid told then ran.run in
         record {
           before = before;
@@ -213,7 +215,7 @@ module _ (here : Administration) (rows : Rows) (works : List Work) (first : Ways
           calls_are = calls_silent mid read.m read.silent ∙ made.1 ∙ ap (λ (l : List Ran). l ++ made.0) (calls_silent old ran.begun ran.quiet);
           all = succeed_anyhow (IfHonest mid (IsFileFault t)) (calls_of_host ran.begun) [] before made.0 made.2.0;
           table = read.table;
-          aliases = aliases;
+          aliases = λ h. subst (λ (l : List PackageList). AreFollowedAgain l (paths_in_hand first.aliases rows.union late.entries) first late read.m.world) lists_same (read.aliases h);
         }
 
   module _ (j : Job) (late : Ways) (end : State) (moments : AtEachMomentOf (IsRunningByEither j here rows calls works first late commit) old mid)

@@ -4,7 +4,7 @@ use Rattle.std.specs.Prelude.{Bool, Err, IfOk, Ok, Result}
 use Rattle.administration.specs.Fault.{CountsAdministration}
 use Rattle.administration.specs.declared.fault.AdministrationFault.{AdministrationFault}
 use Rattle.administration.specs.declared.fault.AdministrationFault.TheVariants.{Damaged, Device, NoMemory, Declined}
-use Rattle.diversions.specs.Lines.{IsDiversionsDamage}
+use Rattle.diversions.specs.Lines.{HasDiversions, IsDiversionsDamage}
 use Rattle.diversions.specs.Ways.{Ways}
 use Rattle.host_core.specs.Host.{Counts, State}
 use Rattle.host_core.specs.World.{World}
@@ -27,3 +27,8 @@ counts_in T Declined s t counts = counts
 pub if_ok_when : {T E N : Type 0} (result : Result T E) (P : T → Type 0) → (N → IfOk result P) → IfOk result (λ x. N → P x)
 if_ok_when (Ok x) P is = is
 if_ok_when (Err e) P is = tt
+
+-- the same table, beside other aliases
+pub table_beside : (w : World) (first mid late : Ways) → late.entries ≡ mid.entries → IsTableIn w first mid → IsTableIn w first late
+table_beside w first mid late same (IsTableIn.read is) = IsTableIn.read (subst (HasDiversions w) (sym same) is)
+table_beside w first mid late same (IsTableIn.damaged line at is) = IsTableIn.damaged line at (same ∙ is)

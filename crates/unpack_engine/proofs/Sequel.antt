@@ -5,8 +5,6 @@ use Rattle.host_core.specs.World.{World}
 use Rattle.host_core.specs.Events.{Event, Ran, scripts_of}
 use Rattle.host_core.specs.Host.{State, Silent, Since, AtEachMoment, AtEachMomentOf, Counts, NoFault, finished}
 use Rattle.host_core.specs.declared.fault.HostFault.{HostFault}
-use Rattle.host_core.specs.declared.fault.HostFault.TheVariants.{Device, NoMemory, Declined}
-use Rattle.host_core.proofs.Counted.{declined_then, no_fault_then}
 use Rattle.host_core.specs.Loss.{IsLater}
 use Rattle.host_core.proofs.Moments.{since_then, since_weaker, since_weaker_if, silent_then}
 use Rattle.host_core.proofs.Scripts.{silent_added, since_silent}
@@ -92,10 +90,3 @@ denied_then (Some one) a b c first second = λ is. omega (arith, first is, secon
 pub if_ok_counted : {T : Type 0} (result : Result T HostFault) (a b : State) (P R : T → Type 0) → ((x : T) → NoFault a b → P x → R x) → Counts a b result → IfOk result P → IfOk result R
 if_ok_counted (Ok x) a b P R so counts p = so x counts p
 if_ok_counted (Err e) a b P R so counts p = tt
-
--- behind calls in which nothing failed the count is that of what followed
-pub counts_behind : {T : Type 0} (a b c : State) (result : Result T HostFault) → NoFault a b → Counts b c result → Counts a c result
-counts_behind a b c (Ok x) first second = no_fault_then a b c first second
-counts_behind a b c (Err Device) first failed = record { once = failed.once ∙ ap (λ n. n + 1) first.faults; last = failed.last }
-counts_behind a b c (Err NoMemory) first second = no_fault_then a b c first second
-counts_behind a b c (Err Declined) first declined = declined_then a b c first declined

@@ -1,4 +1,5 @@
 pub mod Others
+pub mod Followed
 pub mod Units
 pub mod Endings
 pub mod Touched

@@ -10,6 +10,7 @@ use Rattle.host_core.specs.declared.fault.HostFault.TheVariants as host
 use Rattle.host_core.specs.Events.{Event}
 use Rattle.host_core.specs.Host.{Silent, State}
 use Rattle.host_core.specs.Loss.{IsLater}
+use Rattle.host_core.specs.Paths.{Path}
 use Rattle.host_core.specs.World.{World}
 use Rattle.control_members.specs.LaidOut.{IsLaying}
 use Rattle.diversions.specs.Ways.{Ways}
@@ -27,6 +28,7 @@ use Rattle.unpack_plan.specs.declared.plan.PlannedCommit.{PlannedCommit}
 use Rattle.unpack_steps.specs.At.{Stops}
 use Rattle.unpack_steps.specs.Task.{Task, task_by}
 use Rattle.unpack_steps.specs.declared.plan.Rows.{Rows}
+use Rattle.unpack_engine.specs.Followed.{AreFollowedAgain, paths_in_hand}
 use Rattle.unpack_engine.specs.Others.{AreOthers}
 use Rattle.unpack_engine.specs.Units.{Ground, HasBegun, HasCarriedOut, IsRunning, IsTableIn, IsUnderWay}
 
@@ -48,13 +50,14 @@ pub record IsPlanWith (records : List Record) (lists : List PackageList) (ways :
   pub records_are : of.job.records ≡ records
   pub others : AreOthers of.job.«package».name records of.job.others
 
--- the table was read again here, where nothing was called since
-pub record IsReadHere (first late : Ways) (old new : State) : Type 0 where
+-- the table was read again here, and the links were looked at again, where nothing was called since
+pub record IsReadHere (lists : List PackageList) (union : List Path) (first late : Ways) (old new : State) : Type 0 where
   pub m : State
   pub since : IsLater old m
   pub until : IsLater m new
   pub silent : Silent old m
   pub table : IsTrue m.honest → IsTableIn m.world first late
+  pub aliases : IsTrue m.honest → AreFollowedAgain lists (paths_in_hand first.aliases union late.entries) first late m.world
 
 -- a plan for this, with these rows, was carried out
 pub record HasCarriedOutPlan (j : Job) (g : Ground) (rows : List Row) (ended : Ended) (after : Recorded) (lists : List PackageList) (old new : State) (told now : List Called) : Type 0 where

@@ -47,6 +47,7 @@ use Rattle.unpack_steps.specs.At.{AreWorksAt, At, Holding, IsFileFault, Stops}
 use Rattle.unpack_commit.specs.Commit.{Changes, HasCommitted, HasCommittedUnless, MayCommit, committed_lists}
 use Rattle.unpack_commit.specs.Takeover.{losers, losing_records, put_records, taken_places, yields_of}
 use Rattle.unpack_plan.specs.Planned.{Job, Planned, IsPlanned}
+use Rattle.unpack_engine.specs.Followed.{AreFollowedAgain, paths_in_hand}
 use Rattle.unpack_engine.specs.Others.{AreOthers, yields_beside}
 
 -- the tree, and what the administration says of records and lists when the unit begins, and of diversions as it begins and as its
@@ -357,17 +358,17 @@ pub record ArePartedRows (plan : Planned) (before files : List Row) : Type 0 whe
   pub none : has_files (take (length before) plan.kinds) ≡ false
   pub next : has_files (take (length before + 1) plan.kinds) ≡ has_files plan.kinds
 
--- a table with the entries of another; its aliases stay
-abbrev pub with_entries_of : Diverted → Diverted → Diverted
-with_entries_of read held = record held { ways = record held.ways { entries = read.ways.entries } }
+-- a table with the ways of another
+abbrev pub with_ways_of : Diverted → Diverted → Diverted
+with_ways_of read held = record held { ways = read.ways }
 
 -- the table of diversions as it stands in a world; one that can't be read leaves that of before
 pub data IsTableIn (w : World) (first late : Ways) : Type 0 where
   read : HasDiversions w late.entries → IsTableIn w first late
-  damaged : (line : ℕ) → IsDamageAt (w diversions_path) line → late ≡ first → IsTableIn w first late
+  damaged : (line : ℕ) → IsDamageAt (w diversions_path) line → late.entries ≡ first.entries → IsTableIn w first late
 
--- Behind all script calls before the files the table was read again; the aliases stay as they were known.
-pub record IsReadAgain (plan : Planned) (first late : Ways) (old new : State) : Type 0 where
+-- Behind all script calls before the files the table was read again, and the links above the paths in hand were looked at again.
+pub record IsReadAgain (lists : List PackageList) (plan : Planned) (first late : Ways) (old new : State) : Type 0 where
   pub before : List Row
   pub files : List Row
   pub parted : ArePartedRows plan before files
@@ -378,7 +379,7 @@ pub record IsReadAgain (plan : Planned) (first late : Ways) (old new : State) : 
   pub calls_are : calls m ≡ calls old ++ ran
   pub all : Succeed Anyhow [] before ran
   pub table : IsTrue m.honest → IsTableIn m.world first late
-  pub aliases : late.aliases ≡ first.aliases
+  pub aliases : IsTrue m.honest → AreFollowedAgain lists (paths_in_hand first.aliases plan.union late.entries) first late m.world
 
 -- what is given, with the diversions as the unit began
 abbrev pub as_begun : Given → Given
@@ -386,7 +387,7 @@ as_begun g = record g { ways = g.begun }
 
 -- that of a plan as the unit began
 abbrev pub HasReadAgain : Given → State → State → Type 0
-HasReadAgain g old new = (plan : Planned) × IsPlanFor (as_begun g) old.world new.honest plan × IsReadAgain plan g.begun g.ways old new
+HasReadAgain g old new = (plan : Planned) × IsPlanFor (as_begun g) old.world new.honest plan × IsReadAgain g.lists plan g.begun g.ways old new
 
 -- The diversions by which the files of a unit go: those as it began, as long as not all scripts before its files have succeeded; else those
 -- as they are behind these scripts, where the new preinst is one.

@@ -16,7 +16,9 @@
 //! before (`places`).
 //!
 //! Behind the scripts that are called before the files the table of diversions is read again, and the
-//! files go by it (`table`: `GoesByTable`); one that can't be read leaves that of before.
+//! links above what the unit ships, what its package lists and what diversions name are looked at again;
+//! the files go by these (`table`: `GoesByTable`, specs/Followed). A table that can't be read leaves that
+//! of before.
 //!
 //! Where it is broken off, its calls are the first of some that are legal for the plan's rows
 //! (`told`). What is done before a record is noted is on the disk before the places of records
@@ -30,6 +32,7 @@
 
 mod committed;
 mod finishing;
+mod following;
 mod looks;
 mod path_texts;
 mod renewing;

@@ -1,16 +1,19 @@
-// The table of diversions, read again behind the scripts that are called before the files of a unit; and what of its plan goes by it.
+// The table of diversions and the links above the paths in hand, read again behind the scripts that are called before the files of a
+// unit; and what of its plan goes by them.
 ghost use Rattle.std.specs.Prelude.{◌≡◌, IfOk, IfSome, IsTrue, List, OnOk, false, is_some, true};
 ghost use Rattle.diversions.specs.Diverted.{Diverted};
 ghost use Rattle.host_core.specs.Host.{Counts, Reads, Silent};
 ghost use Rattle.undo_rows.specs.declared.rows.Row.{Row};
 ghost use Rattle.unpack_plan.specs.Planned.{IsPlanned, Job, planned_from};
 ghost use Rattle.unpack_engine.specs.Tables.{fault_in};
-ghost use Rattle.unpack_engine.specs.Units.{IsTableIn, with_entries_of};
+ghost use Rattle.unpack_engine.specs.Followed.{AreFollowedAgain, paths_in_hand, with_entries_of};
+ghost use Rattle.unpack_engine.specs.Units.{IsTableIn, with_ways_of};
 
+use crate::following::follow_in_hand;
 use administration::AdministrationFault;
 use diversions::Diversions;
 use file_lists::FileLists;
-use host_core::{Host, HostFault};
+use host_core::{Host, HostFault, RootPath};
 use package_files::Work;
 use package_tree::Package;
 use std::alloc::{AllocError, Global};
@@ -62,6 +65,35 @@ fn read_again<H: Host>(
     }
 }
 
+// Reads the table again, and looks again at the links above the paths in hand. The answer is whether a place may be another.
+fn read_ways<H: Host>(
+    alloc: Global,
+    host: &mut H,
+    lists: &FileLists,
+    diversions: &mut Diversions,
+    union: &[RootPath],
+) -> Result<bool, HostFault>
+    ensures table { IfOk result (λ changed. IsTrue (H.state host.new).honest
+        → IsTableIn (H.state host.old).world diversions.old.ways diversions.new.ways) }
+    ensures aliases { IfOk result (λ changed. IsTrue (H.state host.new).honest
+        → AreFollowedAgain lists.now.lists
+        (paths_in_hand diversions.old.ways.aliases union.now diversions.new.ways.entries)
+        diversions.old.ways diversions.new.ways (H.state host.old).world) }
+    ensures kept { diversions.new ≡ with_ways_of diversions.new diversions.old }
+    ensures same { IfOk result (λ changed. changed ≡ false → diversions.new ≡ diversions.old) }
+    ensures reads { Reads (H.state host.old) (H.state host.new) }
+    ensures silent { Silent (H.state host.old) (H.state host.new) }
+    ensures counts { Counts (H.state host.old) (H.state host.new) result }
+{
+    match read_again(alloc, host, diversions) {
+        Ok(changed) => match follow_in_hand(alloc, host, lists, diversions, union) {
+            Ok(moved) => Ok(changed || moved),
+            Err(fault) => Err(fault),
+        },
+        Err(fault) => Err(fault),
+    }
+}
+
 // Plans the files again, where the tree is there, which is used up.
 fn replan(
     alloc: Global,
@@ -91,8 +123,8 @@ fn replan(
     Ok(())
 }
 
-/// Reads the table again, where scripts may have changed it: the tree is there then. Where it is another, the files are planned again
-/// by it; the answer is whether that was done.
+/// Reads the table again, and looks again at the links above the paths in hand, where scripts may have changed them: the tree is
+/// there then. Where a place may be another, the files are planned again; the answer is whether that was done.
 pub(crate) fn renew_files<H: Host>(
     alloc: Global,
     host: &mut H,
@@ -113,7 +145,12 @@ pub(crate) fn renew_files<H: Host>(
     ensures table { IfOk result (λ anew. is_some spare.old ≡ true
         → IsTrue (H.state host.new).honest
         → IsTableIn (H.state host.old).world diversions.old.ways diversions.new.ways) }
-    ensures kept { diversions.new ≡ with_entries_of diversions.new diversions.old }
+    ensures aliases { IfOk result (λ anew. is_some spare.old ≡ true
+        → IsTrue (H.state host.new).honest
+        → AreFollowedAgain lists.now.lists
+        (paths_in_hand diversions.old.ways.aliases rows.now.union diversions.new.ways.entries)
+        diversions.old.ways diversions.new.ways (H.state host.old).world) }
+    ensures kept { diversions.new ≡ with_ways_of diversions.new diversions.old }
     ensures same { IfOk result (λ anew. anew ≡ false → diversions.new ≡ diversions.old) }
     ensures unread { IfOk result (λ anew. is_some spare.old ≡ false
         → diversions.new ≡ diversions.old) }
@@ -124,7 +161,7 @@ pub(crate) fn renew_files<H: Host>(
     if spare.is_none() {
         return Ok(false);
     }
-    match read_again(alloc, host, diversions) {
+    match read_ways(alloc, host, lists, diversions, rows.union.as_slice()) {
         Ok(true) => match replan(alloc, lists, diversions, rows, works, commit, spare) {
             Ok(()) => Ok(true),
             Err(_) => Err(HostFault::NoMemory),

@@ -23,7 +23,7 @@ ghost use Rattle.status_records.specs.Records.{AreStanding};
 ghost use Rattle.held_administration.specs.Order.{IsInOrder};
 ghost use Rattle.unpack_plan.specs.Planned.{IsPlanned, Job, planned_from};
 ghost use Rattle.unpack_engine.specs.Tables.{IsJobOf, IsPlanOf, IsPlanWith, IsReadHere, IsRunningByEither, StopsByEither};
-ghost use Rattle.unpack_engine.specs.Units.{HasBegun, HasCalledRows, HasRunRows, IsPlanBy, IsReadAgain, IsRunning, with_entries_of};
+ghost use Rattle.unpack_engine.specs.Units.{HasBegun, HasCalledRows, HasRunRows, IsPlanBy, IsReadAgain, IsRunning, with_ways_of};
 
 use crate::renewing::renew_files;
 use control_members::{Members, lay_out};
@@ -159,11 +159,12 @@ fn run_files<H: Host>(
         (planned_from rows.now r.shipped.value.items (begun.stack ++ calls.items)
         commit.new)) }
     ensures members { commit.new.members ≡ commit.old.members }
-    ensures table { IfOk result (λ r. is_some spare.old ≡ true → IsReadHere diversions.old.ways
+    ensures table { IfOk result (λ r. is_some spare.old ≡ true → IsReadHere
+        administration.old.lists.lists rows.now.union diversions.old.ways
         diversions.new.ways (H.state host.old) (H.state host.new)) }
     ensures same { IfOk result (λ r. is_some spare.old ≡ false
         → diversions.new ≡ diversions.old) }
-    ensures diversions { diversions.new ≡ with_entries_of diversions.new diversions.old }
+    ensures diversions { diversions.new ≡ with_ways_of diversions.new diversions.old }
     ensures anew { IfOk result (λ r. r.anew ≡ false → diversions.new ≡ diversions.old) }
     ensures cause { IfOk result (λ r. IsCauseOf (begun.stack ++ calls.items) r.unwinding) }
     ensures denied { IfOk result (λ r. IfSome r.unwinding
@@ -235,12 +236,14 @@ pub(crate) fn begin_and_run<H: Host>(
     ensures plan { IfOk result (λ r. IsPlanBy administration.old.database.records
         (planned_from rows.now r.shipped.value.items calls.items commit.new)) }
     ensures either { IfOk result (λ r. (diversions.new.ways ≡ diversions.old.ways)
-        ⊎ IsReadAgain (planned_from rows.now works.old.items calls.items commit.old)
+        ⊎ IsReadAgain administration.old.lists.lists
+        (planned_from rows.now works.old.items calls.items commit.old)
         diversions.old.ways diversions.new.ways (H.state host.old) (H.state host.new)) }
     ensures again { IfOk result (λ r. r.unwinding ≡ None → is_some spare.old ≡ true
-        → IsReadAgain (planned_from rows.now works.old.items calls.items commit.old)
+        → IsReadAgain administration.old.lists.lists
+        (planned_from rows.now works.old.items calls.items commit.old)
         diversions.old.ways diversions.new.ways (H.state host.old) (H.state host.new)) }
-    ensures diversions { diversions.new ≡ with_entries_of diversions.new diversions.old }
+    ensures diversions { diversions.new ≡ with_ways_of diversions.new diversions.old }
     ensures anew { IfOk result (λ r. r.anew ≡ false → diversions.new ≡ diversions.old) }
     ensures cause { IfOk result (λ r. IsCauseOf calls.items r.unwinding) }
     ensures denied { IfOk result (λ r. IfSome r.unwinding

@@ -13,7 +13,7 @@ ghost use Rattle.unpack_rows.specs.EndStates.{own_name};
 ghost use Rattle.held_administration.specs.Order.{IsInOrder};
 ghost use Rattle.unpack_engine.specs.Others.{AreOthers};
 ghost use Rattle.unpack_engine.specs.Tables.{HasCarriedOutPlan, IsJobOf, IsPlanWith, IsUnderWayByEither};
-ghost use Rattle.unpack_engine.specs.Units.{GoesByTable, HasCalled, HasCalledRows, HasFailedFor, HasUnpacked, IsAmidEither, IsPlanFor, IsReadAgain, IsTouched, given_from, ground_by, job_of, with_entries_of};
+ghost use Rattle.unpack_engine.specs.Units.{GoesByTable, HasCalled, HasCalledRows, HasFailedFor, HasUnpacked, IsAmidEither, IsPlanFor, IsReadAgain, IsTouched, given_from, ground_by, job_of, with_ways_of};
 
 use crate::finishing::{Unpacked, finish};
 use crate::looks::stored_scripts;
@@ -53,12 +53,12 @@ fn carry_out<H: Host>(
         (H.state host.old) (H.state host.new) told.old.items told.new.items) }
     ensures cause { IfOk result (λ u. IsCauseOf plan.calls.items u.unwinding) }
     ensures either { IfOk result (λ u. (diversions.new.ways ≡ diversions.old.ways)
-        ⊎ IsReadAgain (planned plan) diversions.old.ways diversions.new.ways
+        ⊎ IsReadAgain administration.old.lists.lists (planned plan) diversions.old.ways diversions.new.ways
         (H.state host.old) (H.state host.new)) }
     ensures again { IfOk result (λ u. u.unwinding ≡ None → is_some spare.old ≡ true
-        → IsReadAgain (planned plan) diversions.old.ways diversions.new.ways
+        → IsReadAgain administration.old.lists.lists (planned plan) diversions.old.ways diversions.new.ways
         (H.state host.old) (H.state host.new)) }
-    ensures diversions { diversions.new ≡ with_entries_of diversions.new diversions.old }
+    ensures diversions { diversions.new ≡ with_ways_of diversions.new diversions.old }
     ensures anew { IfOk result (λ u. u.anew ≡ false → diversions.new ≡ diversions.old) }
     ensures denied { IfOk result (λ u. IfSome u.unwinding
         (λ one. OnlyIfDeclined one.fall.fault (H.state host.old) (H.state host.new))) }
@@ -242,7 +242,7 @@ fn plan_and_carry_out<H: Host>(
         (given_from incoming administration.old diversions.old.ways diversions.new.ways
         others.packages.items others.yields)
         u.unwinding (H.state host.old) (H.state host.new)) }
-    ensures diversions { diversions.new ≡ with_entries_of diversions.new diversions.old }
+    ensures diversions { diversions.new ≡ with_ways_of diversions.new diversions.old }
     ensures anew { IfOk result (λ u. u.anew ≡ false → diversions.new ≡ diversions.old) }
     ensures denied { IfOk result (λ u. IfSome u.unwinding
         (λ one. OnlyIfDeclined one.fall.fault (H.state host.old) (H.state host.new))) }
@@ -330,7 +330,7 @@ pub fn unpack<H: Host>(
         (given_from incoming administration.old diversions.old.ways diversions.new.ways
         others.packages.items others.yields)
         u.unwinding (H.state host.old) (H.state host.new)) }
-    ensures diversions { diversions.new ≡ with_entries_of diversions.new diversions.old }
+    ensures diversions { diversions.new ≡ with_ways_of diversions.new diversions.old }
     ensures anew { IfOk result (λ u. u.anew ≡ false → diversions.new ≡ diversions.old) }
     ensures denied { IfOk result (λ u. IfSome u.unwinding
         (λ one. OnlyIfDeclined one.fall.fault (H.state host.old) (H.state host.new))) }

@@ -1,8 +1,8 @@
 -- How often the device failed behind looks that were told.
-use Rattle.std.proofs.Common.{◌≡◌, ◌+◌, ◌<◌, ◌≤◌, ℕ, Result, Ok, Err, IsErrAnd, sym, ap, subst, ◌∙◌, arith}
+use Rattle.std.proofs.Common.{◌≡◌, ◌+◌, ◌<◌, ◌≤◌, Result, Ok, Err, IsErrAnd, sym, ap, subst, arith}
 use Rattle.host_core.specs.Events.{denials_of, faults_of}
 use Rattle.host_core.specs.Host.{Counts, NoFault, Reads, State, denials, faults}
-use Rattle.host_core.proofs.Counted.{declined_then, denials_of-append, faults_of-append, no_fault_then}
+use Rattle.host_core.proofs.Counted.{denials_of-append, faults_of-append}
 use Rattle.host_core.specs.declared.fault.HostFault.{HostFault}
 use Rattle.host_core.specs.declared.fault.HostFault.TheVariants.{Device, NoMemory, Declined}
 use Rattle.administration.specs.Fault.{CountsAdministration, fault_of}
@@ -43,13 +43,6 @@ counts_passed {T = T} U given (Err fault) s t u reads is counts = counts_then {T
 
     same : (a b : HostFault) → a ≡ b → CountsLooks {T = U} t u (Err b) → CountsLooks {T = T} t u (Err a)
     same a b e known = either a (subst (λ (f : HostFault). CountsLooks {T = U} t u (Err f)) (sym e) known)
-
--- behind a call at which the device didn't fail
-pub counts_behind : {T : Type 0} (result : Result T HostFault) (s t u : State) → NoFault s t → Counts t u result → Counts s u result
-counts_behind (Ok x) s t u none counts = no_fault_then s t u none counts
-counts_behind (Err Device) s t u none counts = record { once = counts.once ∙ ap (λ (n : ℕ). n + 1) none.faults; last = counts.last }
-counts_behind (Err NoMemory) s t u none counts = no_fault_then s t u none counts
-counts_behind (Err Declined) s t u none counts = declined_then s t u none counts
 
 -- the whole, which a fault of the host ends behind a reading at which there was none
 pub verified_passed : (T : Type 0) (h : HostFault) (fault : AdministrationFault) (s t u : State) → NoFault s t → CountsLooks {T = T} t u (Err h) → fault ≡ fault_of h → CountsVerified {T = T} s u (Err fault)

@@ -4,7 +4,7 @@ use Rattle.std.specs.Prelude.{count_by}
 use Rattle.aliases.specs.Reading.{AreAliasesIn}
 use Rattle.diversions.specs.Diverted.{Diverted}
 use Rattle.diversions.specs.declared.entry.Diversion.{Diversion}
-use Rattle.file_lists.specs.Followed.{HasMoreAliases}
+use Rattle.file_lists.specs.Followed.{AreWhole, HasMoreAliases}
 use Rattle.file_lists.specs.declared.paths.PackageList.{PackageList}
 use Rattle.host_core.specs.Host.{Needs, NoFault, Reads, State}
 use Rattle.host_core.specs.Paths.{Path}
@@ -12,7 +12,6 @@ use Rattle.host_core.specs.World.{World}
 use Rattle.host_core.specs.declared.fault.HostFault.{HostFault}
 use Rattle.diversions.specs.Ways.{Ways}
 use Rattle.inquiries.specs.Read.{HasAll, HasFollowed, Sight}
-use Rattle.opening.specs.Followed.{AreWhole}
 use Rattle.opening.proofs.Followed.{stays_followed}
 use Rattle.package_tree.specs.declared.package.Package.{Package}
 use Rattle.package_tree.specs.declared.shipped.Shipped.{Shipped}

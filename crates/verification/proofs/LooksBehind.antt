@@ -5,16 +5,17 @@ use Rattle.host_core.specs.Looks.{Looks}
 use Rattle.host_core.specs.Paths.{Path}
 use Rattle.host_core.specs.World.{World}
 use Rattle.host_core.specs.declared.fault.HostFault.{HostFault}
-use Rattle.host_core.specs.declared.node.Node.{Node}
+use Rattle.host_core.proofs.LooksBehind.{looked_behind}
 use Rattle.host_core.proofs.Moments.{reads_then, silent_then}
-use Rattle.verification.proofs.Counted.{counts_behind}
+use Rattle.host_core.specs.declared.node.Node.{Node}
+use Rattle.host_core.proofs.Counted.{counts_behind}
 
 pub look_then : {T : Type 0} (result : Result T HostFault) (P Q : T → World → Type 0) (a b c : State) → Reads a b → Silent a b → NoFault a b → ((x : T) (w : World) → P x w → Q x w) → Looks result P b c → Looks result Q a c
 look_then {T = T} result P Q a b c reads silent none weaker looks = record {
   found = λ h. told result (looks.found h);
   reads = reads_then a b c reads looks.reads;
   silent = silent_then a b c silent looks.silent;
-  counts = counts_behind result a b c none looks.counts;
+  counts = counts_behind a b c result none looks.counts;
 }
   where
     told : (r : Result T HostFault) → IfOk r (λ x. P x b.world) → IfOk r (λ x. Q x a.world)
@@ -24,13 +25,5 @@ look_then {T = T} result P Q a b c reads silent none weaker looks = record {
 -- what is told of a node that was looked at
 pub told_of_node : {T : Type 0} (told : Option Node → T) (path : Path) (node : Option Node) (result : Result T HostFault) (a b c : State)
     → Looks {T = Option Node} (Ok node) (λ n w. n ≡ w path) a b → Looks result (λ x w. x ≡ told node) b c → Looks result (λ x w. x ≡ told (w path)) a c
-told_of_node {T = T} told path node result a b c first second = record {
-  found = λ h. behind result (first.found (second.reads.honest h)) (second.found h);
-  reads = reads_then a b c first.reads second.reads;
-  silent = silent_then a b c first.silent second.silent;
-  counts = counts_behind result a b c first.counts second.counts;
-}
-  where
-    behind : (r : Result T HostFault) → node ≡ a.world path → IfOk r (λ x. x ≡ told node) → IfOk r (λ x. x ≡ told (a.world path))
-    behind (Ok x) at is = is ∙ ap told at
-    behind (Err e) at is = tt
+told_of_node told path node result a b c first second =
+    looked_behind node result (λ n w. n ≡ w path) (λ x w. x ≡ told node) (λ x w. x ≡ told (w path)) a b c (λ y w at is. is ∙ ap told at) first second

@@ -5,7 +5,7 @@ use Rattle.host_core.specs.Host.{Needs, State, faults}
 use Rattle.host_core.specs.World.{World}
 use Rattle.diversions.specs.Ways.{Ways}
 use Rattle.file_lists.specs.declared.paths.PackageList.{PackageList}
-use Rattle.opening.specs.Followed.{AreWhole}
+use Rattle.file_lists.specs.Followed.{AreWhole}
 use Rattle.package_tree.specs.declared.package.Package.{Package}
 use Rattle.package_tree.specs.declared.shipped.Shipped.{Shipped}
 use Rattle.status_records.specs.Records.{record_in}

@@ -1,6 +1,7 @@
 -- How what stands at the place of a path that a tree ships differs from what the tree has there.
 use Rattle.std.specs.Prelude.{◌&&◌, not, ℕ, Bool, true, false, List, [], ◌++◌, Option, Some, None, codes, map, if◌then◌else◌}
 use Rattle.std.specs.Str.{bytes_eq}
+use Rattle.host_core.specs.Nodes.{same_access}
 use Rattle.host_core.specs.Paths.{Path}
 use Rattle.host_core.specs.World.{World, is_file}
 use Rattle.host_core.specs.declared.node.Access.{Access as AnAccess}
@@ -8,7 +9,6 @@ use Rattle.host_core.specs.declared.node.Node.{Node}
 use Rattle.host_core.specs.declared.node.Node.TheVariants.{File, Dir, Link}
 use Rattle.aliases.specs.Aliases.{Alias, is_alias, way_to}
 use Rattle.diversions.specs.Ways.{place, Ways}
-use Rattle.inquiries.specs.Glances.{same_access}
 use Rattle.package_tree.specs.declared.shipped.Shipped.{Shipped}
 use Rattle.verification.specs.Differences.{difference_lines}
 use Rattle.verification.specs.Looks.{Look}

@@ -5,7 +5,7 @@ ghost use Rattle.host_core.specs.Host.{Needs, Reads, Silent};
 ghost use Rattle.status_records.specs.Records.{record_in};
 ghost use Rattle.host_overlay.specs.Seen.{seen};
 ghost use Rattle.inquiries.specs.Read.{FindsAll, HasFollowed};
-ghost use Rattle.opening.specs.Followed.{AreWhole};
+ghost use Rattle.file_lists.specs.Followed.{AreWhole};
 ghost use Rattle.opening.specs.Parts.{fault_in};
 ghost use Rattle.verification.specs.Compared.{IsCompared, compared_files, heading_lines, is_compared, recorded_lines, standing_lines, state_line, version_line};
 ghost use Rattle.verification.specs.Counting.{CountsLooks, CountsVerified};

@@ -2,13 +2,12 @@
 ghost use Rattle.std.specs.Prelude.{◌≡◌, IfOk};
 ghost use Rattle.host_core.specs.Host.{Counts, Leaves, Reads, Silent};
 ghost use Rattle.aliases.specs.Reading.{AreAliasesIn};
-ghost use Rattle.file_lists.specs.Followed.{HasMoreAliases};
-ghost use Rattle.opening.specs.Followed.{AreWhole};
+ghost use Rattle.file_lists.specs.Followed.{AreWhole, HasMoreAliases};
 ghost use Rattle.verification.specs.Shipped.{looked_path, looked_paths};
 
 use diversions::Diversions;
+use file_lists::read_above_each;
 use host_core::{Host, HostFault, Node, RootPath};
-use opening::read_above_each;
 use package_tree::Shipped;
 use std::alloc::{AllocError, Global};
 
@@ -53,5 +52,5 @@ pub(crate) fn follow_files<H: Host>(
     ensures counts { Counts (H.state host.old) (H.state host.new) result }
 {
     let paths = looked_paths(alloc, files)?;
-    read_above_each(host, paths.as_slice(), diversions)
+    read_above_each(alloc, host, paths.as_slice(), diversions)
 }

@@ -2,7 +2,6 @@
 ghost use Rattle.std.specs.Prelude.{◌≡◌, ◌∷◌, [], IfOk, OnOk, string_bytes};
 ghost use Rattle.host_core.specs.Host.{Reads, Silent};
 ghost use Rattle.host_core.specs.Looks.{Looks};
-ghost use Rattle.inquiries.specs.Glances as glances;
 ghost use Rattle.verification.specs.Counting.{CountsLooks};
 ghost use Rattle.verification.specs.Looks.{AddsEach};
 ghost use Rattle.verification.specs.Shipped.{difference_between, file_difference, shipped_lines, stands_for, unless};
@@ -14,12 +13,6 @@ use host_core::{Access, Content, Host, HostFault, Node, RootPath};
 use package_tree::Shipped;
 use std::alloc::{AllocError, Global};
 use texts::Text;
-
-fn same_access(one: Access, other: Access) -> bool
-    ensures { result ≡ glances.same_access one other }
-{
-    one.mode == other.mode && (one.user == other.user && one.group == other.group)
-}
 
 fn unless(same: bool, difference: Difference) -> Option<Difference>
     ensures { result ≡ unless same difference }
@@ -38,7 +31,7 @@ fn file_difference<H: Host>(
         (H.state host.old) (H.state host.new) }
 {
     if host.same(bytes, others)? {
-        return Ok(unless(same_access(access, owned), Difference::Access));
+        return Ok(unless(access.is_same(owned), Difference::Access));
     }
     Ok(Some(Difference::Bytes))
 }
@@ -63,7 +56,7 @@ fn difference_of<H: Host>(
         (Node::File { .. }, Node::Link { .. }) => Ok(Some(Difference::Kind)),
         (Node::Dir { .. }, Node::File { .. }) => Ok(Some(Difference::Kind)),
         (Node::Dir { access }, Node::Dir { access: owned }) => {
-            Ok(unless(same_access(*access, *owned), Difference::Access))
+            Ok(unless(access.is_same(*owned), Difference::Access))
         }
         (Node::Dir { .. }, Node::Link { .. }) => Ok(Some(Difference::Kind)),
         (Node::Link { .. }, Node::File { .. }) => Ok(Some(Difference::Kind)),

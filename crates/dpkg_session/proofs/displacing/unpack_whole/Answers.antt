@@ -1,4 +1,5 @@
 use Rattle.std.proofs.Common.{inl, refl, sym, subst, ap, ◌∙◌}
+use Rattle.host_core.proofs.Counted.{fault_behind}
 use Rattle.unit_reports.specs.Held.{held_by}
 use Rattle.unpack_engine.specs.Units.{IsTouched}
 use Rattle.unpack_engine.specs.declared.finishing.Unpacked.{Unpacked}
@@ -9,7 +10,7 @@ use Rattle.dpkg_session.proofs.Yielding.{displaced_yield, none_among}
 use Rattle.dpkg_session.specs.Units.{yielding}
 use Rattle.dpkg_session.specs.declared.displacing.UnpackEnd.{UnpackEnd}
 use Rattle.displaced_packages.specs.declared.displacing.Displaced.{Displaced}
-use Rattle.dpkg_session.proofs.Whole.{called_whole, counts_behind, displaced_whole, since_whole, unwound_end}
+use Rattle.dpkg_session.proofs.Whole.{called_whole, displaced_whole, since_whole, unwound_end}
 use Rattle.dpkg_session.proofs.displacing.unpack_whole.Goals as goal
 use Rattle.std.specs.Prelude.{IfSome}
 use Rattle.dpkg_session.proofs.Denied.{none_denied}
@@ -108,4 +109,4 @@ returns-in-Err-clause-any_moment g c =
 
 pub returns-in-Err-displace-clause-counts : goal.returns-in-Err-displace-clause-counts
 returns-in-Err-displace-clause-counts g c =
-    counts_behind Displaced UnpackEnd c.in-Err-displace.fault (g.H.Host.state c.args.host.now) (g.H.Host.state c.unpack_refreshed.new.host) (g.H.Host.state c.displace.new.host) c.in-Ok.ensures.counts c.in-Err-displace.ensures.counts
+    fault_behind Displaced UnpackEnd (g.H.Host.state c.args.host.now) (g.H.Host.state c.unpack_refreshed.new.host) (g.H.Host.state c.displace.new.host) c.in-Err-displace.fault c.in-Ok.ensures.counts c.in-Err-displace.ensures.counts

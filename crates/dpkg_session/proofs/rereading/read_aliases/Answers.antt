@@ -1,12 +1,11 @@
 use Rattle.std.proofs.Common.{List, ap, sym, subst, ◌∙◌}
 use Rattle.aliases.specs.Reading.{AreAliasesIn}
 use Rattle.file_lists.proofs.Growing.{aliases_grown, more_joined, more_start}
-use Rattle.file_lists.specs.Followed.{AreFollowed, HasMoreAliases}
+use Rattle.file_lists.specs.Followed.{AreFollowed, AreWhole, HasMoreAliases}
 use Rattle.host_core.specs.Paths.{Path}
 use Rattle.host_core.specs.World.{World}
 use Rattle.host_core.proofs.Moments.{reads_then}
 use Rattle.opening.proofs.Followed.{on_ok}
-use Rattle.opening.specs.Followed.{AreWhole}
 use Rattle.dpkg_session.proofs.Reread.{anew_both}
 use Rattle.dpkg_session.proofs.rereading.read_aliases.Goals as goal
 

@@ -10,7 +10,7 @@ use Rattle.unit_reports.proofs.Counting.{counts_broken, fault_within}
 
 pub returns-in-Ok-clause-unit : goal.returns-in-Ok-clause-unit
 returns-in-Ok-clause-unit g c =
-    is_unpacked _ _ _ _ c.answered.result c.args.behind _ _ _ _ _ _ _ _ c.requires.behind.name c.requires.known c.new-calls.ensures.items c.answered.ensures.told c.in-Ok.ensures.unit c.in-Ok.ensures.order (ap (λ (d : Diverted). d.ways.aliases) c.unpack_whole.ensures.diversions) c.in-Ok.ensures.touched c.answered.ensures.answer
+    is_unpacked _ _ _ _ c.answered.result c.args.behind _ _ _ _ _ _ _ _ c.requires.behind.name c.requires.known c.new-calls.ensures.items c.answered.ensures.told c.in-Ok.ensures.unit c.in-Ok.ensures.order c.in-Ok.ensures.touched c.answered.ensures.answer
 
 pub returns-in-Ok-clause-told : goal.returns-in-Ok-clause-told
 returns-in-Ok-clause-told g c = called_as _ _ (held_by c.args.administration.now c.args.diversions.now) _ _ _ _ _ c.new-calls.ensures.items c.answered.ensures.told c.unpack_whole.ensures.told

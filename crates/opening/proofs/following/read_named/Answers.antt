@@ -3,7 +3,8 @@ use Rattle.host_core.specs.Paths.{Path}
 use Rattle.diversions.specs.Diverted.{Diverted}
 use Rattle.diversions.specs.declared.entry.Diversion.{Diversion}
 use Rattle.file_lists.proofs.Growing.{more_start}
-use Rattle.opening.specs.Followed.{AreWhole, named_paths}
+use Rattle.file_lists.specs.Followed.{AreWhole}
+use Rattle.opening.specs.Followed.{named_paths}
 use Rattle.opening.proofs.Followed.{on_ok}
 use Rattle.opening.proofs.following.read_named.Goals as goal
 

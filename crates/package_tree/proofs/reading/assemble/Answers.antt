@@ -42,7 +42,7 @@ invariant_of-result c =
     }
 
 pub returns : goal.returns
-returns c = λ w text there control contents paths lines found.
+returns c = λ w text there control contents members paths lines found.
     let all = entries_at (w conffiles_path) in
     let plain = plain_named w (contains_text c.args.lines.plain) all c.args.found.files.items c.args.found.conffiles.items found.lines.named found.files c.requires.whole.texts (text_in c.args.lines.plain) lines.plain c.requires.whole.conffiles in
     let flagged = flagged_named w all c.args.lines.flagged.items found.lines.named lines.order lines.only lines.whole in
@@ -52,6 +52,7 @@ returns c = λ w text there control contents paths lines found.
       control = control;
       relations = c.args.control.stated;
       scripts = c.scripts_of.ensures w contents paths.files;
+      members = members;
       paths = paths;
       lines = found.lines;
       room = found.room;
@@ -59,6 +60,7 @@ returns c = λ w text there control contents paths lines found.
       conffiles = subst (AreNamed Plain all) (sym c.new-3.ensures) plain;
       flagged = subst (AreNamed Flagged all) (sym c.new-4.ensures) flagged;
       others = subst (AreOthers w) (sym c.new.ensures) found.others;
+      small = found.small;
       has_conffiles = c.requires.listed ∙ ap lists_conffiles contents.conffiles;
       ships = contents.ships;
     }

@@ -1,11 +1,19 @@
-use Rattle.std.proofs.Common.{◌∙◌, inl, subst, List}
+use Rattle.std.proofs.Common.{◌∙◌, inl, inr, subst, List}
 use Rattle.host_core.specs.Paths.{Path}
 use Rattle.package_tree.specs.Conffiles.{HasNoEntry, IsFirstOdd, IsOdd}
 use Rattle.package_tree.specs.ConffileFaults.{IsAstray, IsFirstAstray, IsFlaggedAndShipped, IsOfBoth}
+use Rattle.package_tree.specs.Fault.{fault_of}
 use Rattle.package_tree.specs.Shipped.{HasNoPath, IsFirstPath}
+use Rattle.package_tree.specs.Tree.{IsReadingFault}
 use Rattle.package_tree.specs.declared.conffile_lines.Entry.{Entry}
 use Rattle.package_tree.proofs.Judged.{Astray, Shared, flagged_shipped, shipped_flagged, first_as}
+use Rattle.package_tree.proofs.Passing.{host_fault, passed_fault}
 use Rattle.package_tree.proofs.reading.check_lines.Goals as goal
+
+pub returns-in_err-name-clause-fault : goal.returns-in_err-name-clause-fault
+returns-in_err-name-clause-fault g c = λ h.
+    let fault = c.in_err-name.field-0.0 in
+    passed_fault (IsReadingFault (g.H.Host.state c.args.host.now).world) c.from_residual.result (fault_of fault) c.from_residual.ensures.1 (inr (host_fault fault))
 
 pub returns-in-Some-clause-fault : goal.returns-in-Some-clause-fault
 returns-in-Some-clause-fault g c = λ h.

@@ -7,7 +7,7 @@ use Rattle.package_tree.specs.Debian.{AreContents}
 use Rattle.package_tree.specs.PathFaults.{HasGoodPaths}
 use Rattle.package_tree.specs.Reading.{AreLinesOf, IsFound}
 use Rattle.package_tree.specs.Shipped.{ArePathTexts}
-use Rattle.package_tree.specs.Tree.{IsReadingFault}
+use Rattle.package_tree.specs.Tree.{HasGoodFiles, IsReadingFault}
 use Rattle.package_tree.specs.declared.fault.TreeFault.TheVariants.{NoMemory}
 use Rattle.package_tree.specs.declared.package.Package.{Package}
 use Rattle.package_tree.proofs.Passing.{passed_fault, passed_counts}
@@ -18,6 +18,9 @@ use Rattle.package_tree.proofs.reading.read_tree.Goals as goal
 infixr 35 ◌⨾◌
 ◌⨾◌ : {a b c : State} → Reads a b → Reads b c → Reads a c
 first ⨾ second = reads_then _ _ _ first second
+
+pub read_found-requires-clause-control : goal.read_found-requires-clause-control
+read_found-requires-clause-control g c = λ h. subst HasGoodFiles (sym c.read_contents.ensures.reads.world) (c.in_ok-read_contents.ensures.files h)
 
 pub read_found-requires-clause-texts : goal.read_found-requires-clause-texts
 read_found-requires-clause-texts g c = subst ArePathTexts (sym c.as_slice.ensures.value) c.in_ok-read_contents.ensures.texts
@@ -76,6 +79,7 @@ returns-clause-read g c = λ h.
     let control = c.in_ok-control.ensures.read honest-1 in
     let contents = subst (λ (v : World). AreContents v c.read_contents.new.contents) same-1 (c.in_ok-read_contents.ensures.found honest-2) in
     let paths = subst HasGoodPaths same-1 (c.in_ok-read_contents.ensures.paths honest-2).0 in
+    let files = subst HasGoodFiles same-1 (c.in_ok-read_contents.ensures.files honest-2) in
     let lines = subst (λ n. AreLinesOf (entries_at n) c.in_ok-lines.lines) contents.conffiles c.in_ok-lines.ensures.lines in
     let found = subst (λ (v : World). IsFound v c.read_found.new.found) same-2 (c.in_ok-read_found.ensures.found h) in
-    c.assemble.ensures w control.0 control.1 control.2 contents paths lines found
+    c.assemble.ensures w control.0 control.1 control.2 contents files.1 paths lines found

@@ -43,7 +43,7 @@ returns-in-Ok-clause-unit g c =
       });
       opened = λ ways was. record { noting = c.in-Ok.ensures.opened; listing = was.listing; kept = was.kept };
       order = there;
-      indexed = λ are. still_indexed old c.note_record.new.database.records c.args.asked.now.change r c.law.ensures.order (ap (record_in old) own ∙ found) other noted c.args.administration.now.packages c.forget_abandoned.new.packages c.forget_abandoned.ensures are;
+      indexed = λ are. still_indexed old c.note_record.new.database.records c.args.asked.now.change r c.law.ensures.order (ap (record_in old) own ∙ found) other noted c.args.administration.now.packages c.forget_changed.new.packages c.forget_changed.ensures are;
       answered = inl c.in-Ok.ensures.on_disk;
     }) c.noted.ensures.unit
 

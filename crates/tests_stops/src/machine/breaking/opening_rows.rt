@@ -200,10 +200,10 @@ const ADOPTED: Row = Row {
 };
 
 const CONFIGURED: &str =
-    "Package: alpha\nStatus: install ok installed\nVersion: 1.0\nConffiles:\n /etc/a.conf 814fa5ca98406a903e22b43d9b610105\nNew-Conffiles:\n /etc/a.conf 9cd599a3523898e6a12e13ec787da50a\n\nPackage: bravo\nStatus: install ok triggers-awaited\nVersion: 1.0\nTriggers-Awaited: menu\nRemoved-Since: yes\n";
+    "Package: alpha\nStatus: install ok installed\nVersion: 1.0\nConffiles:\n /etc/a.conf 814fa5ca98406a903e22b43d9b610105\nNew-Conffiles:\n /etc/a.conf 9cd599a3523898e6a12e13ec787da50a\n\nPackage: bravo\nStatus: install ok installed\nVersion: 1.0\nRemoved-Since: yes\n";
 
 const SETTLED: &str =
-    "Package: alpha\nStatus: install ok installed\nVersion: 1.0\nConffiles:\n /etc/a.conf 814fa5ca98406a903e22b43d9b610105\n\nPackage: bravo\nStatus: install ok triggers-awaited\nVersion: 1.0\nTriggers-Awaited: menu\n";
+    "Package: alpha\nStatus: install ok installed\nVersion: 1.0\nConffiles:\n /etc/a.conf 814fa5ca98406a903e22b43d9b610105\n\nPackage: bravo\nStatus: install ok installed\nVersion: 1.0\n";
 
 // Two packages that dpkg configured, whose records still tell what held before.
 const KEPT_BY_DPKG: Row = Row {

@@ -143,7 +143,8 @@ b
 ",
 );
 
-// dpkg configured packages that this program unpacked, or of which it removed files, and kept its fields.
+// dpkg configured packages that this program unpacked, or of which it removed files, and kept its fields. Of what one of them awaits
+// nothing is pending, so it ceases to behind the command.
 const CONFIGURED_BY_DPKG: AdoptionRow = (
     &[
         "write /var/lib/dpkg/status Package: alpha\nStatus: install ok triggers-awaited\nVersion: 1\nTriggers-Awaited: menu\nRemoved-Since: yes\n\nPackage: bravo\nStatus: install ok half-configured\nVersion: 2\nConfig-Version: 1\nRemoved-Since: yes\n\nPackage: zulu\nStatus: hold reinstreq installed\nVersion: 1\nConffiles:\n /etc/z.conf 92eb5ffee6ae2fec3ad71c777531578f\nNew-Conffiles:\n /etc/z.conf 92eb5ffee6ae2fec3ad71c777531578f\nRemoved-Since: yes\n",
@@ -154,11 +155,12 @@ const CONFIGURED_BY_DPKG: AdoptionRow = (
     ],
     &[COMMAND, STATUS],
     "refused absent Unknown
+state alpha 1 install ok installed
+done
 ||1
 Package: alpha
-Status: install ok triggers-awaited
+Status: install ok installed
 Version: 1
-Triggers-Awaited: menu
 
 Package: bravo
 Status: install ok half-configured

@@ -75,7 +75,7 @@ cut up unpacked ok
 ",
 );
 
-// What is pending goes with an upgrade and with a package, and is processed behind the units of others; what is awaited stays.
+// What is pending goes with an upgrade and with a package, and is processed behind the units of others; then who awaits it ceases to.
 const UNITS: TriggerRow = (
     &[RECORDED],
     &[
@@ -94,11 +94,17 @@ state both 1 install ok triggers-awaited
 done
 state pend 1 install ok installed
 done
+state aw 2 install ok installed
+done
+state both 1 install ok installed
+done
+state up 1 install ok installed
+done
 ||1
-aw 2 triggers-awaited
-both 1 triggers-awaited
+aw 2 installed
+both 1 installed
 pend 1 installed
-up 1 triggers-awaited
+up 1 installed
 ||0
 state aw 3 install ok unpacked
 done
@@ -111,7 +117,7 @@ done
 ||1
 aw 3 unpacked
 pend 3 unpacked
-up 1 triggers-awaited
+up 1 installed
 ||0
 ",
 );
@@ -126,6 +132,12 @@ const TAKEN_AWAY: TriggerRow = (
     "state pend none
 done
 state both 1 install ok triggers-awaited
+done
+state aw 2 install ok installed
+done
+state both 1 install ok installed
+done
+state up 1 install ok unpacked
 done
 ||0
 state aw none

@@ -391,8 +391,8 @@ returns-in-None-clause-either g c =
     let job = c.requires.plan.of.job in
     let is = job_then held rows works first commit before files calls c.in-Ok.ensures.all none old mid told behind here (g.H.Host.state up.start.host.value) up.start.administration.value up.stack stack began.0 began.1 c.in-Ok-begin_rows.ensures.start job c.args.spare.now c.requires.plan.of.is in
     let later_on = later _ mid end (c.run_files.ensures.any_moment job is) in
-    read_or_same c.run_files.result c.args.spare.now (late ≡ first) (IsReadAgain (planned_from rows works calls commit) first late old end)
-    (if_ok_one c.run_files.result _ _ (λ r read there. read_then held rows works first commit before files calls c.in-Ok.ensures.all none old mid told behind here (g.H.Host.state up.start.host.value) up.start.administration.value up.stack stack began.0 began.1 c.in-Ok-begin_rows.ensures.start end now later_on c.in-Ok.ensures.before c.in-Ok.ensures.next late (ap (λ d. d.ways.aliases) c.run_files.ensures.diversions) (read there)) c.run_files.ensures.table)
+    read_or_same c.run_files.result c.args.spare.now (late ≡ first) (IsReadAgain held.lists.lists (planned_from rows works calls commit) first late old end)
+    (if_ok_one c.run_files.result _ _ (λ r read there. read_then held rows works first commit before files calls c.in-Ok.ensures.all none old mid told behind here (g.H.Host.state up.start.host.value) up.start.administration.value up.stack stack began.0 began.1 c.in-Ok-begin_rows.ensures.start end now later_on c.in-Ok.ensures.before c.in-Ok.ensures.next late (read there)) c.run_files.ensures.table)
     (if_ok_one c.run_files.result _ _ (λ r same there. ap (λ d. d.ways) (same there)) c.run_files.ensures.same)
 
 pub returns-in-None-clause-again : goal.returns-in-None-clause-again
@@ -421,7 +421,7 @@ returns-in-None-clause-again g c =
     let job = c.requires.plan.of.job in
     let is = job_then held rows works first commit before files calls c.in-Ok.ensures.all none old mid told behind here (g.H.Host.state up.start.host.value) up.start.administration.value up.stack stack began.0 began.1 c.in-Ok-begin_rows.ensures.start job c.args.spare.now c.requires.plan.of.is in
     let later_on = later _ mid end (c.run_files.ensures.any_moment job is) in
-    if_ok_one c.run_files.result _ _ (λ r read whole there. read_then held rows works first commit before files calls c.in-Ok.ensures.all none old mid told behind here (g.H.Host.state up.start.host.value) up.start.administration.value up.stack stack began.0 began.1 c.in-Ok-begin_rows.ensures.start end now later_on c.in-Ok.ensures.before c.in-Ok.ensures.next late (ap (λ d. d.ways.aliases) c.run_files.ensures.diversions) (read there)) c.run_files.ensures.table
+    if_ok_one c.run_files.result _ _ (λ r read whole there. read_then held rows works first commit before files calls c.in-Ok.ensures.all none old mid told behind here (g.H.Host.state up.start.host.value) up.start.administration.value up.stack stack began.0 began.1 c.in-Ok-begin_rows.ensures.start end now later_on c.in-Ok.ensures.before c.in-Ok.ensures.next late (read there)) c.run_files.ensures.table
 
 pub returns-in-None-clause-told : goal.returns-in-None-clause-told
 returns-in-None-clause-told g c =

@@ -20,6 +20,7 @@ use Rattle.unpack_rows.specs.ForwardRows.{Fits}
 use Rattle.unpack_rows.specs.Kinds.{kinds_of}
 use Rattle.unpack_steps.specs.At.{At, IsFileFault, Stops, holding_by}
 use Rattle.unpack_steps.specs.Task.{task_by}
+use Rattle.unpack_engine.specs.Followed.{AreFollowedAgain, paths_in_hand}
 use Rattle.unpack_engine.specs.Units.{IsTableIn}
 use Rattle.unpack_engine.proofs.Again.{later_reads}
 use Rattle.unpack_engine.proofs.Parts.{stops_before, stops_then}
@@ -75,6 +76,7 @@ returns-in-Ok-run-clause-table g c = λ there. record {
   until = later _ (g.H.Host.state c.renew_files.new.host) (g.H.Host.state c.run.new.host) c.run.ensures.any_moment;
   silent = c.renew_files.ensures.silent;
   table = λ h. subst (λ w. IsTableIn w c.args.diversions.now.ways c.renew_files.new.diversions.ways) (sym c.renew_files.ensures.reads.world) (c.in-Ok.ensures.table there h);
+  aliases = λ h. subst (AreFollowedAgain c.args.administration.now.lists.lists (paths_in_hand c.args.diversions.now.ways.aliases c.args.rows.now.union c.renew_files.new.diversions.ways.entries) c.args.diversions.now.ways c.renew_files.new.diversions.ways) (sym c.renew_files.ensures.reads.world) (c.in-Ok.ensures.aliases there h);
 }
 
 pub returns-in-Ok-run-clause-told : goal.returns-in-Ok-run-clause-told

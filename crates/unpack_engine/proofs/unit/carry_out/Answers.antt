@@ -3,6 +3,7 @@ use Rattle.std.specs.Prelude.{IfSome, is_some}
 use Rattle.std.specs.List.{AllByRecursion}
 use Rattle.std.specs.Str.{IsUtf8}
 use Rattle.host_core.specs.Host.{AtEachMoment, WasDenied}
+use Rattle.host_core.proofs.Counted.{counts_behind}
 use Rattle.undo_rows.specs.Ended.{IsCauseOf, ended_as}
 use Rattle.undo_rows.specs.Faults.{OnlyIfDeclined}
 use Rattle.file_lists.specs.Beside.{AreSameBeside}
@@ -22,7 +23,7 @@ use Rattle.unpack_engine.specs.Units.{HasLeft, HasLeftUnless, IsReadAgain, IsTou
 use Rattle.unpack_engine.proofs.Again.{either_longer, if_ok_any, read_longer}
 use Rattle.unpack_engine.proofs.Alone.{alone_then, places_begin, rows_beside}
 use Rattle.unpack_engine.proofs.Carrying.{carried_out}
-use Rattle.unpack_engine.proofs.Sequel.{called_then, counts_behind, denied_then, if_ok_counted, if_ok_one, later}
+use Rattle.unpack_engine.proofs.Sequel.{called_then, denied_then, if_ok_counted, if_ok_one, later}
 use Rattle.unpack_engine.proofs.UnitMoments.{plan_begins, plan_moments}
 use Rattle.unpack_engine.proofs.Whole.{can_write_still, if_ok_both, if_ok_with, parts_info, parts_kept, parts_laid, parts_loose, parts_stand, parts_touched}
 use Rattle.scattered_losses.proofs.GoingApart.{gone_by, later_of, works_behind}
@@ -144,24 +145,26 @@ returns-clause-any_moment g c = λ j is.
 
 pub returns-in-Ok-clause-either : goal.returns-in-Ok-clause-either
 returns-in-Ok-clause-either g c =
+    let lists = c.args.administration.now.lists.lists in
     let plan = planned c.args.plan in
     let first = c.args.diversions.now.ways in
     let late = c.begin_and_run.new.diversions.ways in
     let a = g.H.Host.state c.args.host.now in
     let b = g.H.Host.state c.begin_and_run.new.host in
     let d = g.H.Host.state c.finish.new.host in
-    if_ok_any c.finish.result _ (either_longer plan first late a b d c.in-Ok.ensures.either (later _ b d c.finish.ensures.any_moment))
+    if_ok_any c.finish.result _ (either_longer lists plan first late a b d c.in-Ok.ensures.either (later _ b d c.finish.ensures.any_moment))
 
 pub returns-in-Ok-clause-again : goal.returns-in-Ok-clause-again
 returns-in-Ok-clause-again g c =
+    let lists = c.args.administration.now.lists.lists in
     let plan = planned c.args.plan in
     let first = c.args.diversions.now.ways in
     let late = c.begin_and_run.new.diversions.ways in
     let a = g.H.Host.state c.args.host.now in
     let b = g.H.Host.state c.begin_and_run.new.host in
     let d = g.H.Host.state c.finish.new.host in
-    if_ok_one c.finish.result (λ u. u.unwinding ≡ c.in-Ok.ran.unwinding) (λ u. u.unwinding ≡ None → is_some c.args.spare.now ≡ true → IsReadAgain plan first late a d)
-    (λ u same none there. read_longer plan first late a b d (c.in-Ok.ensures.again (sym same ∙ none) there) (later _ b d c.finish.ensures.any_moment)) c.finish.ensures.unwinding
+    if_ok_one c.finish.result (λ u. u.unwinding ≡ c.in-Ok.ran.unwinding) (λ u. u.unwinding ≡ None → is_some c.args.spare.now ≡ true → IsReadAgain lists plan first late a d)
+    (λ u same none there. read_longer lists plan first late a b d (c.in-Ok.ensures.again (sym same ∙ none) there) (later _ b d c.finish.ensures.any_moment)) c.finish.ensures.unwinding
 
 pub returns-in-Ok-clause-apart : goal.returns-in-Ok-clause-apart
 returns-in-Ok-clause-apart g c =

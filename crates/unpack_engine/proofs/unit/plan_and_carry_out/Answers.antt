@@ -88,7 +88,7 @@ returns-in-Ok-clause-table g c =
     let told = c.args.told.now.items in
     let now = c.carry_out-result.new.told.items in
     let done = c.carry_out-result.new.administration in
-    let reads = λ (r : IsReadAgain plan first late mid new). reads_late given late places old mid c.plan_unit.ensures.reads c.plan_unit.ensures.silent plan plan_for new falls r in
+    let reads = λ (r : IsReadAgain held.lists.lists plan first late mid new). reads_late given late places old mid c.plan_unit.ensures.reads c.plan_unit.ensures.silent plan plan_for new falls r in
     if_ok_both c.carry_out-result.result _ _ _ (λ u either again. record { either = elim either [ inl same ↦ inl same | inr r ↦ inr (reads r) ]; again = λ whole there. reads (again whole (c.in-Ok.ensures.there there)) })
     c.carry_out-result.ensures.either c.carry_out-result.ensures.again
 

@@ -1,6 +1,6 @@
 use Rattle.std.proofs.Common.{List, subst}
 use Rattle.host_core.proofs.Moments.{reads_then}
-use Rattle.opening.specs.Followed.{AreWhole}
+use Rattle.file_lists.specs.Followed.{AreWhole}
 use Rattle.package_tree.specs.declared.shipped.Shipped.{Shipped}
 use Rattle.host_overlay.specs.Seen.{seen}
 use Rattle.verification.specs.Shipped.{looked_paths}

@@ -1,7 +1,7 @@
 use Rattle.std.proofs.Common.{◌∙◌, List, subst}
 use Rattle.host_core.specs.Paths.{Path}
 use Rattle.file_lists.proofs.Growing.{more_start}
-use Rattle.opening.specs.Followed.{AreWhole}
+use Rattle.file_lists.specs.Followed.{AreWhole}
 use Rattle.opening.proofs.Followed.{on_ok}
 use Rattle.verification.proofs.following.follow_files.Goals as goal
 

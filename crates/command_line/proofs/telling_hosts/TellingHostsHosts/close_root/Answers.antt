@@ -33,6 +33,7 @@ returns-clause-given g c =
       honest = λ h. looked.reads.honest (fell h);
       world = sym looked.reads.world ∙ ap (λ (es : List Event). follow_all es begun.world) looked.reads.events ∙ follow_all-append before.events looked.reads.added begun.world
           ∙ unmoved looked.reads.added (follow_all before.events begun.world) looked.reads.failed;
+      foretold = c.args.host.went;
       changes = subst (λ (w : World). Tells c.tell_changes.result end w before.world) into.untouched.world
           (told.told before.world (faults before) (faults (overlay_state over))
           (known c.look_over-looked.result (λ o. IsTrue (overlay_state over).honest → IsLookedOver begun.world before.world o) (λ o. IsTrue end.honest → IsLookedOver below.world before.world o)

@@ -3,7 +3,8 @@ use Rattle.host_core.specs.Events.{Event}
 use Rattle.host_core.specs.World.{World}
 use Rattle.host_core.specs.declared.node.Node.{Node}
 use Rattle.host_overlay.specs.Layers.{changed_in, events_in, failures_of}
-use Rattle.host_overlay.proofs.Calls.{sound_of}
+use Rattle.host_overlay.proofs.Calls.{seen_of, sound_of}
+use Rattle.host_overlay.proofs.Foreseen.{foreseen_same, foreseen_looked}
 use Rattle.host_overlay.proofs.Sound.{sound_same, sound_looked, looked_over}
 use Rattle.host_overlay.proofs.overlay.Overlay.node_below.Goals as goal
 
@@ -11,7 +12,8 @@ pub invariant_of-self : goal.invariant_of-self
 invariant_of-self g c =
     let o = c.args.self.now in
     let s = sound_same (g.H.Host.state o.begun.value) (g.H.Host.state o.below) (changed_in o.layer) (changed_in c.make_room.new.self) (events_in o.layer) (events_in c.make_room.new.self) (sound_of o) c.make_room.ensures.same.changes c.make_room.ensures.same.events in
-    record { world = s.world; failures = s.failures; honest = s.honest; tree = s.tree; settled = s.settled; there = s.there }
+    let seen = foreseen_same (events_in o.layer) (events_in c.make_room.new.self) o.failing.items c.make_room.ensures.same.events (seen_of o) in
+    record { world = s.world; failures = s.failures; honest = s.honest; tree = s.tree; settled = s.settled; there = s.there; went = seen.went; rest = seen.rest }
 
 pub invariant_of-self-2 : goal.invariant_of-self-2
 invariant_of-self-2 g c =
@@ -19,7 +21,9 @@ invariant_of-self-2 g c =
     let s = sound_looked (g.H.Host.state o.begun.value) (g.H.Host.state o.below) (g.H.Host.state c.node-told.new.self) (changed_in o.layer) (changed_in c.tell.new.self) (events_in o.layer) (events_in c.tell.new.self)
     (sound_of o) c.node-told.ensures.reads c.node-told.result (c.tell.ensures.changes ∙ c.make_room.ensures.same.changes)
     (c.tell.ensures.events ∙ ap (λ (es : List Event). es ++ failures_of c.node-told.result) c.make_room.ensures.same.events) in
-    record { world = s.world; failures = s.failures; honest = s.honest; tree = s.tree; settled = s.settled; there = s.there }
+    let seen = foreseen_looked c.node-told.result (events_in o.layer) (events_in c.tell.new.self) o.failing.items
+    (c.tell.ensures.events ∙ ap (λ (es : List Event). es ++ failures_of c.node-told.result) c.make_room.ensures.same.events) (seen_of o) in
+    record { world = s.world; failures = s.failures; honest = s.honest; tree = s.tree; settled = s.settled; there = s.there; went = seen.went; rest = seen.rest }
 
 pub returns : goal.returns
 returns g c =

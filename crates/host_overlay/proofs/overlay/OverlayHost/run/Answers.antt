@@ -4,7 +4,8 @@ use Rattle.host_core.specs.Host.{ran_of}
 use Rattle.host_core.specs.declared.call.Call.{Call}
 use Rattle.host_core.proofs.Counted.{no_fault}
 use Rattle.host_overlay.specs.Layers.{changed_in, events_in}
-use Rattle.host_overlay.proofs.Calls.{sound_of, sound_called, call_happens}
+use Rattle.host_overlay.proofs.Calls.{seen_of, sound_of, sound_called, call_happens}
+use Rattle.host_overlay.proofs.Foreseen.{foreseen_same, foreseen_call}
 use Rattle.host_overlay.proofs.Sound.{sound_same}
 use Rattle.host_overlay.proofs.overlay.OverlayHost.run.Goals as goal
 use Rattle.host_overlay.proofs.overlay.OverlayHost.run.Goals.{After-tell_call}
@@ -20,14 +21,16 @@ pub invariant_of-self : goal.invariant_of-self
 invariant_of-self g c =
     let o = c.args.self.now in
     let s = sound_same (g.H.Host.state o.begun.value) (g.H.Host.state o.below) (changed_in o.layer) (changed_in c.make_room.new.self) (events_in o.layer) (events_in c.make_room.new.self) (sound_of o) c.make_room.ensures.same.changes c.make_room.ensures.same.events in
-    record { world = s.world; failures = s.failures; honest = s.honest; tree = s.tree; settled = s.settled; there = s.there }
+    let seen = foreseen_same (events_in o.layer) (events_in c.make_room.new.self) o.failing.items c.make_room.ensures.same.events (seen_of o) in
+    record { world = s.world; failures = s.failures; honest = s.honest; tree = s.tree; settled = s.settled; there = s.there; went = seen.went; rest = seen.rest }
 
 pub invariant_of-self-2 : goal.invariant_of-self-2
 invariant_of-self-2 g c =
     let o = c.args.self.now in
     let s = sound_called c.args.call.now c.end_call-outcome.result (g.H.Host.state o.begun.value) (g.H.Host.state o.below) (changed_in o.layer) (changed_in c.tell_call.new.self) (events_in o.layer) (events_in c.tell_call.new.self)
     (sound_of o) (c.tell_call.ensures.changes ∙ c.make_room.ensures.same.changes) (told g c) in
-    record { world = s.world; failures = s.failures; honest = s.honest; tree = s.tree; settled = s.settled; there = s.there }
+    let seen = foreseen_call (events_in o.layer) (events_in c.tell_call.new.self) c.args.call.now c.end_call-outcome.result o.failing.items c.end_call-outcome.new.failing.items (told g c) c.end_call-outcome.ensures.outcome c.end_call-outcome.ensures.left (seen_of o) in
+    record { world = s.world; failures = s.failures; honest = s.honest; tree = s.tree; settled = s.settled; there = s.there; went = seen.went; rest = seen.rest }
 
 pub returns-clause-runs : goal.returns-clause-runs
 returns-clause-runs g c =
