@@ -8,3 +8,4 @@ mod Kept
 mod Tables
 mod Progressing
 mod Remembered
+mod Walking

@@ -87,8 +87,8 @@ impl Aliases {
         }
     }
 
-    // The directory that a way leads to. Where no alias stands there the text is kept.
-    fn led_on(&self, way: String) -> Result<String, AllocError>
+    /// The directory that a way leads to. Where no alias stands there the text is kept.
+    pub(crate) fn led_on(&self, way: String) -> Result<String, AllocError>
         ensures { IfOk result (λ next. string_bytes next ≡ led self.now (string_bytes way)) }
     {
         match self.targets.get(way.as_str()) {
@@ -107,8 +107,8 @@ impl Aliases {
         Ok(next)
     }
 
-    // A path with the aliases above it followed.
-    fn way_to(&self, path: &str) -> Result<String, AllocError>
+    /// A path with the aliases above it followed.
+    pub(crate) fn way_to(&self, path: &str) -> Result<String, AllocError>
         ensures { IfOk result (λ way. string_bytes way ≡ way_to self.now path.now) }
     {
         let mut way = String::new(self.alloc);

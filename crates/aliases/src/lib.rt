@@ -13,6 +13,8 @@
 //! one world are flat: none stands on the way to a target, so that to follow a path twice is to
 //! follow it once (`aliases_of_a_world_are_flat`, `a_place_is_its_own`), and where those above a path
 //! were read no link to a directory stands above its place (`no_link_stands_above_a_place`).
+//! `Aliases::leads_alike` tells whether a link that a package ships would lead to where the alias leads
+//! that stands at its path, followed by the aliases alone.
 #![tactic(auto)]
 
 mod aliases;
@@ -21,6 +23,7 @@ mod links;
 mod looked;
 mod names;
 mod reading;
+mod shipped;
 
 pub use aliases::Aliases;
 pub use laws::{a_place_is_its_own, aliases_of_a_world_are_flat, no_link_stands_above_a_place};

@@ -29,6 +29,7 @@ use Rattle.package_files.specs.Names.{IsNamed, IsHomed, HasMaker}
 use Rattle.file_check.specs.InWay.{in_way, at_names, is_diverted}
 use Rattle.file_check.specs.Clashes.{Owning, first_clash, some_if, claims, rival, clash_by}
 use Rattle.file_check.specs.Index.{makes_directory, is_made, is_made_by, is_place, is_twice, AllOutside}
+use Rattle.file_check.specs.Ships.{is_astray}
 use Rattle.file_check.specs.Sound.{IsSound, AreSound, AllSound, IsFirstFault, fault_by}
 use Rattle.file_check.specs.Ready.{IsFitting, is_one_place}
 
@@ -135,7 +136,7 @@ last_slash (c ∷ p) is = elim (look_on p) [
 
 module _ (o : Owning) (made twice : Path → Bool) (w : World) where
   free_one : (s : Work) → IsFitting s → IsSound o made twice w s → IsFreeIn w s
-  free_one s fit sound = way_free (is_diverted o s) s.node (w s.place) (w s.target) (w s.backup) (w s.fresh) sound.way (λ e. ap w (fit e))
+  free_one s fit sound = way_free (is_diverted o s) s.node (w s.place) (w s.target) (w s.backup) (w s.fresh) (or_rest (is_astray o.ways s) (in_way (is_diverted o s) s.node (kind_of (w s.place)) (kind_of (w s.target)) (kind_of (w s.backup)) (kind_of (w s.fresh))) sound.way) (λ e. ap w (fit e))
 
   free_all : (ss : List Work) → Each IsFitting ss → AreSound o made twice w ss → Each (IsFreeIn w) ss
   free_all [] fit sound = tt

@@ -20,7 +20,7 @@ use Rattle.package_files.specs.Files.{Each}
 use Rattle.package_files.specs.Works.{target_of}
 use Rattle.package_files.specs.declared.work.Work.{Work}
 use Rattle.file_check.specs.Ready.{IsFitting}
-use Rattle.file_check.specs.Ships.{are_one_directory, directories_once, is_conffile, is_there, shipped_works, work_at, FitsConffiles}
+use Rattle.file_check.specs.Ships.{are_one_directory, directories_once, is_at_alias, is_conffile, is_there, shipped_works, work_at, FitsConffiles}
 
 -- where nothing is left between those before and those behind it a path is none of them
 pub none_of : (paths : List Path) (path : Path) (low high : ℕ) → high ≤ low → ((k : ℕ) → k < low → IsBefore (get_or paths k []) path) → ((k : ℕ) → high ≤ k → k < length paths → IsBefore path (get_or paths k [])) → false ≡ is_conffile paths path
@@ -99,7 +99,7 @@ once_next (t ∷ a) x =
 
 -- a link is no directory
 pub no_directory : (ways : Ways) (s : Work) → is_there ways s ≡ true → is_directory (Some s.node) ≡ false
-no_directory ways s is = by s.node (and_parts (is_link (Some s.node)) _ is).0
+no_directory ways s is = by s.node (and_parts (is_link (Some s.node)) _ (and_parts (is_at_alias ways s) _ is).0).0
   where
     by : (n : Node) → is_link (Some n) ≡ true → is_directory (Some n) ≡ false
     by (File b m) e = refl

@@ -10,6 +10,7 @@ use Rattle.aliases.specs.Aliases.{resolved}
 use Rattle.diversions.specs.Sights.{is_directory_kind}
 use Rattle.package_files.specs.declared.work.Work.{Work}
 use Rattle.file_check.specs.Clashes.{Owning}
+use Rattle.file_check.specs.Ships.{is_astray}
 use Rattle.file_check.specs.declared.sight.Sight.{Sight}
 
 -- a directory stands at the target, or at a name that a file or link is written under
@@ -40,9 +41,9 @@ is_diverted o s = not (bytes_eq (resolved o.ways.aliases s.path) s.place)
 abbrev pub sight_of : World → Work → Sight
 sight_of w s = record { place = kind_of (w s.place); backup = kind_of (w s.backup); fresh = kind_of (w s.fresh) }
 
--- the same by what was seen
+-- The same by what was seen; and the directory behind an alias is in the way of a link that would lead elsewhere.
 abbrev pub in_way_by : Owning → Work → Option Kind → Sight → Bool
-in_way_by o s target sight = in_way (is_diverted o s) s.node sight.place target sight.backup sight.fresh
+in_way_by o s target sight = is_astray o.ways s || in_way (is_diverted o s) s.node sight.place target sight.backup sight.fresh
 
 abbrev pub in_way_at : Owning → World → Work → Bool
 in_way_at o w s = in_way_by o s (kind_of (w s.target)) (sight_of w s)

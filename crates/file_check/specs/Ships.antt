@@ -5,8 +5,10 @@ use Rattle.std.specs.Str.{bytes_eq}
 use Rattle.host_core.specs.Paths.{Path}
 use Rattle.host_core.specs.World.{is_directory, is_file}
 use Rattle.host_core.specs.declared.node.Node.{Node}
-use Rattle.aliases.specs.Aliases.{is_alias, resolved, way_to}
+use Rattle.host_core.specs.declared.node.Node.TheVariants.{File, Dir, Link}
+use Rattle.aliases.specs.Aliases.{Alias, is_alias, resolved, way_to}
 use Rattle.aliases.specs.Reading.{is_link}
+use Rattle.aliases.specs.Shipped.{leads_alike}
 use Rattle.diversions.specs.Ways.{Ways, place}
 use Rattle.package_files.specs.declared.work.Work.{Work}
 use Rattle.package_files.specs.Works.{work_of}
@@ -27,9 +29,23 @@ abbrev pub directories_once : List Work → List Work
 directories_once [] = []
 directories_once (s ∷ ss) = s ∷ filter (λ x. not (are_one_directory s x)) (directories_once ss)
 
--- a link where an alias stands: it is there already, with the directory behind it at its place
+-- a link where an alias stands: at its place is the directory behind that
+abbrev pub is_at_alias : Ways → Work → Bool
+is_at_alias ways s = is_link (Some s.node) && (is_alias ways.aliases (way_to ways.aliases s.path) && bytes_eq (resolved ways.aliases s.path) s.place)
+
+-- a shipped link leads to where the alias at its path leads
+abbrev pub is_alike : List Alias → Path → Node → Bool
+is_alike aliases path (File bytes access) = false
+is_alike aliases path (Dir access) = false
+is_alike aliases path (Link text) = leads_alike aliases path text
+
+-- such a link is there already
 abbrev pub is_there : Ways → Work → Bool
-is_there ways s = is_link (Some s.node) && (is_alias ways.aliases (way_to ways.aliases s.path) && bytes_eq (resolved ways.aliases s.path) s.place)
+is_there ways s = is_at_alias ways s && is_alike ways.aliases s.path s.node
+
+-- another one would lead elsewhere
+abbrev pub is_astray : Ways → Work → Bool
+is_astray ways s = is_at_alias ways s && not (is_alike ways.aliases s.path s.node)
 
 -- each shipped path, but no link that is there, and a directory once
 abbrev pub shipped_works : Ways → List ℕ → List Path → List (Path × Node) → List Work

@@ -8,7 +8,7 @@ ghost use Rattle.file_check.specs.InWay.{at_names, in_way, in_way_by, sight_of};
 
 use crate::above::is_directory;
 use crate::owning::Owning;
-use crate::works::is_directory_node;
+use crate::works::{is_astray, is_directory_node};
 use host_core::{Host, HostFault, Kind, Node};
 use package_files::Work;
 use std::alloc::AllocError;
@@ -51,7 +51,8 @@ pub(crate) fn is_in_way(
     ensures { IfOk result (λ way. way ≡ in_way_by owning.now shipped.now shipped.now.had sight) }
 {
     if !is_directory_node(&shipped.node) {
-        return Ok(in_way(false, &shipped.node, shipped.had, sight));
+        let astray = is_astray(owning.diversions, shipped)?;
+        return Ok(astray || in_way(false, &shipped.node, shipped.had, sight));
     }
     let diverted = owning.is_diverted(shipped)?;
     Ok(in_way(diverted, &shipped.node, shipped.had, sight))

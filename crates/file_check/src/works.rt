@@ -11,7 +11,7 @@ ghost use Rattle.package_files.specs.Names.{IsNamed};
 ghost use Rattle.package_files.specs.Works.{work_of};
 ghost use Rattle.file_check.specs.Ready.{IsFitting};
 ghost use Rattle.aliases.specs.Reading.{is_link};
-ghost use Rattle.file_check.specs.Ships.{is_conffile, is_there, shipped_works, FitsConffiles};
+ghost use Rattle.file_check.specs.Ships.{is_alike, is_astray, is_at_alias, is_conffile, is_there, shipped_works, FitsConffiles};
 
 use crate::index::add;
 use diversions::Diversions;
@@ -80,14 +80,49 @@ fn is_link_node(node: &Node) -> bool
 }
 
 // Whether a work is a link where an alias stands.
-fn is_there(diversions: &Diversions, work: &Work) -> Result<bool, AllocError>
-    ensures { IfOk result (λ there. there ≡ is_there diversions.now.ways work.now) }
+fn is_at_alias(diversions: &Diversions, work: &Work) -> Result<bool, AllocError>
+    ensures { IfOk result (λ at. at ≡ is_at_alias diversions.now.ways work.now) }
 {
     if !is_link_node(&work.node) || !diversions.stands_at(&work.path)? {
         return Ok(false);
     }
     let diverted = diversions.is_diverted(&work.path, &work.place)?;
     Ok(!diverted)
+}
+
+// Whether a work is a link that leads to where the alias at its path leads.
+fn is_alike(diversions: &Diversions, work: &Work) -> Result<bool, AllocError>
+    ensures { IfOk result
+        (λ alike. alike ≡ is_alike diversions.now.ways.aliases work.now.path work.now.node) }
+{
+    match &work.node {
+        Node::File { .. } => Ok(false),
+        Node::Dir { .. } => Ok(false),
+        Node::Link { target } => diversions
+            .aliases()
+            .leads_alike(&work.path, target.as_str()),
+    }
+}
+
+// Whether a work is a link that is there as an alias.
+fn is_there(diversions: &Diversions, work: &Work) -> Result<bool, AllocError>
+    ensures { IfOk result (λ there. there ≡ is_there diversions.now.ways work.now) }
+{
+    if !is_at_alias(diversions, work)? {
+        return Ok(false);
+    }
+    is_alike(diversions, work)
+}
+
+/// Whether a work is a link that would lead elsewhere than the alias at its path.
+pub(crate) fn is_astray(diversions: &Diversions, work: &Work) -> Result<bool, AllocError>
+    ensures { IfOk result (λ astray. astray ≡ is_astray diversions.now.ways work.now) }
+{
+    if !is_at_alias(diversions, work)? {
+        return Ok(false);
+    }
+    let alike = is_alike(diversions, work)?;
+    Ok(!alike)
 }
 
 // Whether a work is a directory whose place is among these. The place of a directory is added.
