@@ -1,6 +1,5 @@
 pub mod Members
 pub mod Names
-pub mod Breakers
 pub mod Numbers
 pub mod Refusals
 pub mod LeftLaws

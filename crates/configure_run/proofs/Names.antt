@@ -1,40 +1,11 @@
--- Names in a set.
-use Rattle.std.proofs.Common.{◌≡◌, ◌+◌, ◌<◌, ℕ, Bool, true, false, cond, List, [], ◌∷◌, ◌++◌, take, length, get_or, refl, sym, ap, ◌∙◌}
-use Rattle.std.specs.Prelude.{◌||◌, ◌&&◌}
-use Rattle.std.specs.List.{list_any}
-use Rattle.std.specs.Str.{bytes_eq}
-use Rattle.std.proofs.lemmas.Cmp.{nat_list_eq_equiv}
-use Rattle.std.proofs.lemmas.List.Folds.{list_any_more, list_any-append}
+-- The packages that wait, by a set of their names.
+use Rattle.std.proofs.Common.{◌≡◌, ℕ, Bool, List, ap}
+use Rattle.std.specs.Prelude.{◌&&◌}
 use Rattle.status_records.specs.declared.record.Record.{Record}
-use Rattle.configure_run.specs.Asked.{can_wait, with_name}
+use Rattle.name_sets.specs.Names.{is_among}
+use Rattle.configure_run.specs.Asked.{can_wait}
 use Rattle.configure_run.specs.Starting.{waits}
 
-joined : (hit o : Bool) → cond hit true o ≡ (o || hit)
-joined true true = refl
-joined true false = refl
-joined false true = refl
-joined false false = refl
-
-or_nothing : (o hit : Bool) → (o || hit) ≡ (o || (hit || false))
-or_nothing true hit = refl
-or_nothing false true = refl
-or_nothing false false = refl
-
--- one name more
-pub name_added : (names : List (List ℕ)) (i : ℕ) (name key q : List ℕ) (new mid : Bool) → i < length names → name ≡ get_or names i name → key ≡ name → new ≡ cond (bytes_eq key q) true mid → mid ≡ list_any (bytes_eq q) (take i names) → new ≡ list_any (bytes_eq q) (take (i + 1) names)
-name_added names i name key q new mid lt is same new_is mid_is =
-    new_is ∙ joined (bytes_eq key q) mid ∙ ap (λ b. b || bytes_eq key q) mid_is
-    ∙ ap (λ b. list_any (bytes_eq q) (take i names) || b) (nat_list_eq_equiv.symm key q ∙ ap (bytes_eq q) (same ∙ is))
-    ∙ sym (list_any_more (bytes_eq q) names i name lt)
-
--- the same behind others
-pub name_behind : (names : List (List ℕ)) (name key q : List ℕ) (new mid : Bool) → key ≡ name → new ≡ cond (bytes_eq key q) true mid → mid ≡ list_any (bytes_eq q) names → new ≡ list_any (bytes_eq q) (names ++ name ∷ [])
-name_behind names name key q new mid same new_is mid_is =
-    new_is ∙ joined (bytes_eq key q) mid ∙ ap (λ b. b || bytes_eq key q) mid_is
-    ∙ ap (λ b. list_any (bytes_eq q) names || b) (nat_list_eq_equiv.symm key q ∙ ap (bytes_eq q) same)
-    ∙ or_nothing (list_any (bytes_eq q) names) (bytes_eq q name)
-    ∙ sym (list_any-append (bytes_eq q) names (name ∷ []))
-
 -- the package of a record waits, by a set of the names
-pub waits_by : (names : List (List ℕ)) (set : List ℕ → Bool) (r : Record) → ((q : List ℕ) → set q ≡ list_any (bytes_eq q) names) → (can_wait r && set r.name) ≡ waits names r
+pub waits_by : (names : List (List ℕ)) (set : List ℕ → Bool) (r : Record) → ((q : List ℕ) → set q ≡ is_among names q) → (can_wait r && set r.name) ≡ waits names r
 waits_by names set r is = ap (λ b. can_wait r && b) (is r.name)

@@ -1,21 +1,11 @@
--- The names of a command, and the packages that wait to be configured.
-use Rattle.std.specs.Prelude.{ℕ, Bool, true, false, cond, List, [], ◌∷◌, ◌++◌, ◌&&◌, filter}
-use Rattle.std.specs.List.{list_any, fold}
-use Rattle.std.specs.Str.{bytes_eq}
+-- The packages that wait to be configured.
+use Rattle.std.specs.Prelude.{ℕ, Bool, true, false, List, ◌&&◌, filter}
 use Rattle.status_db.specs.Order.{names_of}
 use Rattle.status_records.specs.declared.record.Record.{Record}
 use Rattle.status_records.specs.declared.words.Flag.{Flag}
 use Rattle.status_records.specs.declared.words.Flag.TheVariants as flag
 use Rattle.status_records.specs.declared.words.State.{State}
 use Rattle.status_records.specs.declared.words.State.TheVariants as state
-
--- the name behind them, where it isn't among them
-abbrev pub with_name : List (List ℕ) → List ℕ → List (List ℕ)
-with_name names name = cond (list_any (bytes_eq name) names) names (names ++ name ∷ [])
-
--- each name once, in the order of its first mention: a second one is dropped
-abbrev pub each_once : List (List ℕ) → List (List ℕ)
-each_once names = fold with_name [] names
 
 -- unpacked or half-configured
 abbrev pub is_unconfigured : State → Bool

@@ -2,7 +2,6 @@ pub mod Asked
 pub mod Early
 pub mod Starting
 pub mod LeftOver
-pub mod Breaking
 pub mod Whose
 pub mod Turns
 pub mod Taking

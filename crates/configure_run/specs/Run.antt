@@ -7,7 +7,7 @@ use Rattle.host_core.specs.World.{World}
 use Rattle.unit_reports.specs.Held.{Held}
 use Rattle.unit_reports.specs.declared.report.Unit.{Unit as AUnit}
 use Rattle.unit_runs.specs.Turns.{IsStill}
-use Rattle.configure_run.specs.Asked.{each_once}
+use Rattle.name_sets.specs.Names.{each_once}
 use Rattle.configure_run.specs.Early.{AreRefused, AreSomeRefused, early_refusals}
 use Rattle.configure_run.specs.Starting.{AreSilent, IsBegun}
 use Rattle.configure_run.specs.Turns.{EndTurns, IsAmidTurns, IsBrokenStill, StopTurns}

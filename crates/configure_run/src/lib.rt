@@ -21,7 +21,6 @@
 
 mod all_turns;
 mod asked;
-mod breaking;
 mod early;
 mod left_over;
 mod options;

@@ -4,15 +4,14 @@ ghost use Rattle.dependency_check.specs.Waiting.{IsConfigurableNow, IsNextOfConf
 ghost use Rattle.dependency_sets.specs.Choices.{IsFirst, IsListing};
 ghost use Rattle.dependency_sets.specs.Sets.{has};
 ghost use Rattle.recorded_packages.specs.Packages.{ArePackagesOf};
-ghost use Rattle.configure_run.specs.Breaking.{AreBreakers};
+ghost use Rattle.dependency_check.specs.Breaking.{AreBreakers};
 ghost use Rattle.configure_run.specs.Starting.{AreNamedApart, IsBegun, IsEven};
 ghost use Rattle.configure_run.specs.Taking.{left_behind};
 ghost use Rattle.configure_run.specs.Turns.{after_turn};
 ghost use Rattle.configure_run.specs.Whose.{IsNobodysTurn, IsWhoseTurn};
 
-use crate::breaking::breakers_of;
 use crate::starting::{installed_of, waiting_of};
-use dependency_check::ConfigureQueue;
+use dependency_check::{ConfigureQueue, breakers_of};
 use dependency_sets::{Numbers, first_of_both, has, listed};
 use relation_index::Packages;
 use status_db::NotedDatabase;
@@ -31,7 +30,7 @@ pub(crate) struct Queue {
 impl Model for Queue {
     ghost use Rattle.std.specs.Prelude.{◌≡◌};
     ghost use Rattle.dependency_check.specs.Waiting.{Waiting};
-    ghost use Rattle.configure_run.specs.Breaking.{AreBreakers};
+    ghost use Rattle.dependency_check.specs.Breaking.{AreBreakers};
     ghost use Rattle.configure_run.specs.Starting.{AreNamedApart, IsEven};
 
     ghost Value = { Waiting };

@@ -12,14 +12,13 @@ ghost use Rattle.unit_reports.specs.Units.{CountsLast, CountsReply, IsBrokenBy, 
 ghost use Rattle.unit_reports.specs.declared.report.Breakage.TheVariants.{Abandoned, Closed};
 ghost use Rattle.unit_reports.specs.Watching.{AddsTold, IsTold};
 ghost use Rattle.undo_rows.specs.Transcript.{TellsAll};
-ghost use Rattle.configure_run.specs.Asked.{each_once};
+ghost use Rattle.name_sets.specs.Names.{each_once};
 ghost use Rattle.configure_run.specs.Early.{AreRefused, AreSomeRefused, early_refusals};
 ghost use Rattle.configure_run.specs.Run.{HasRun, IsAmidRun, IsConfigureRun};
 ghost use Rattle.configure_run.specs.Starting.{AreSilent, IsBegun};
 ghost use Rattle.configure_run.specs.Turns.{EndTurns, IsAmidTurns, StopTurns};
 
 use crate::all_turns::run_turns;
-use crate::asked::each_once;
 use crate::early::refuse_early;
 use crate::options::ConfigureOptions;
 use crate::queue::Queue;
@@ -28,6 +27,7 @@ use crate::unit::no_memory;
 use diversions::Diversions;
 use held_administration::Administration;
 use host_core::{Host, HostFault};
+use name_sets::each_once;
 use recorded_packages::renew;
 use relation_index::Packages;
 use status_db::NotedDatabase;

@@ -7,9 +7,10 @@ ghost use Rattle.texts.specs.PackageNames.{is_package_name};
 ghost use Rattle.configure_run.specs.Asked.{can_wait};
 ghost use Rattle.configure_run.specs.Starting.{AreSilentOf, is_silent, satisfies, waits};
 
-use crate::asked::{can_wait, set_of};
+use crate::asked::can_wait;
 use administration::script_path;
 use host_core::{Host, HostFault, Script};
+use name_sets::set_of;
 use status_db::NotedDatabase;
 use status_records::Record;
 use std::alloc::{AllocError, Global};

@@ -11,13 +11,13 @@ ghost use Rattle.unit_reports.specs.Units as reports;
 ghost use Rattle.unit_reports.specs.Units.{CountsReply, IsBroken, IsBrokenBy, IsFromBefore, IsRefusedUnit, TellsNoPackage};
 ghost use Rattle.unit_reports.specs.declared.report.Breakage.TheVariants.{NoMemory};
 ghost use Rattle.unit_reports.specs.declared.refusal.Rule.TheVariants.{BrokenBy};
-ghost use Rattle.configure_run.specs.Breaking.{AreBreakers};
+ghost use Rattle.dependency_check.specs.Breaking.{AreBreakers};
 ghost use Rattle.configure_run.specs.Starting.{name_at};
 ghost use Rattle.configure_run.specs.Turns.{Answers, ConfiguresToDisk, HasCalledFor, HasCalledToDisk, HasObstacle, IsAmidUnit, IsBeside, IsConfigured, IsUnit, IsUnitFor, given_by, holding_of, is_done, reply_to};
 
-use crate::breaking::broken_by;
 use conffiles::ConfPolicy;
 use configure_engine::{configure, obstacle};
+use dependency_check::broken_by;
 use diversions::Diversions;
 use held_administration::Administration;
 use host_core::{Call, Host, HostFault, RootPath};

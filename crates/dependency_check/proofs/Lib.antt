@@ -1,3 +1,4 @@
+pub mod Breakers
 pub mod DependentLaws
 pub mod LeftLaws
 pub mod MeetingLaws

@@ -1,3 +1,4 @@
+pub mod Breaking
 pub mod Deconfigured
 pub mod Departing
 pub mod Left

@@ -2,14 +2,11 @@
 ghost use Rattle.std.specs.Prelude.{◌≡◌, ℕ, IfOk, IsTrue, ◌↔◌, MatchOption};
 ghost use Rattle.dependency_sets.specs.Choices.{IsFirst};
 ghost use Rattle.dependency_sets.specs.Sets.{has, stays};
-ghost use Rattle.dependency_check.specs.Deconfigured.{of_role};
 ghost use Rattle.dependency_check.specs.Left.{AreAllMet, IsUnmetAt, IsFirstUnmet, HasOneLeft, DependsBeside, DependsOnLeft};
 ghost use Rattle.dependency_check.specs.Queues.{IsMetBy};
-ghost use Rattle.dependency_check.specs.declared.roles.Role.TheVariants.{Breaking};
 ghost use Rattle.relation_index.specs.Packages.{Meets, needs};
 
 use crate::meeting::{is_met_by, is_met_by_number};
-use crate::roles::{Role, first_of_role};
 use dependency_sets::has;
 use relation_fields::Clause;
 use relation_index::{Package, Packages};
@@ -63,14 +60,6 @@ pub fn first_unmet(
         Some(place) => Ok(Some(UnmetClause::Depends(place))),
         None => Ok(None),
     }
-}
-
-/// The first other package that is at least half-installed and admits this one in Breaks.
-pub fn broken_by(packages: &Packages, of: &Package) -> Option<usize>
-    ensures { MatchOption result ((x : ℕ) → IsTrue (of_role Breaking of.now packages.now x)
-        → ⊥) (IsFirst (λ x. IsTrue (of_role Breaking of.now packages.now x))) }
-{
-    first_of_role(packages.as_slice(), of, Role::Breaking)
 }
 
 fn stays(installed: &[bool], left: &[bool], number: usize) -> bool

@@ -6,12 +6,14 @@
 //!
 //! Over packages and their relations as read: the four set calls are the union of all sets of
 //! waiting packages whose Depends and Pre-Depends are met by the installed packages and the set,
-//! and the like of removal, with their next members; `first_unmet`, `depended_on_by` and
-//! `broken_by` are the details of the refusals of what is left over; `check_unpack` gives what an
-//! unpack deconfigures and removes (`plan`), or the first reason why it is refused (`fault`):
-//! PreDepends, Conflicts, ConflictEssential, Dependents, Breaks.
+//! and the like of removal, with their next members; `first_unmet` and `depended_on_by` are the
+//! details of the refusals of what is left over, `broken_by` the package that breaks one, looked
+//! for among those that state Breaks (`breakers_of`); `check_unpack` gives what an unpack
+//! deconfigures and removes (`plan`), or the first reason why it is refused (`fault`): PreDepends,
+//! Conflicts, ConflictEssential, Dependents, Breaks.
 #![tactic(auto)]
 
+mod breaking;
 mod configure_queue;
 mod dependents;
 mod left;
@@ -23,8 +25,9 @@ mod remove_queue;
 mod roles;
 mod unpack;
 
+pub use breaking::{breakers_of, broken_by};
 pub use configure_queue::ConfigureQueue;
-pub use left::{UnmetClause, broken_by, depended_on_by, first_unmet};
+pub use left::{UnmetClause, depended_on_by, first_unmet};
 pub use plan::{Dependent, Plan};
 pub use queues::{configurable, next_to_configure, next_to_remove, removable};
 pub use remove_queue::RemoveQueue;

@@ -84,7 +84,7 @@ fn is_dependable(incoming: &Package, other: &Package) -> bool
     is_remaining(incoming, other) && !is_broken(incoming, other)
 }
 
-fn is_breaking(incoming: &Package, other: &Package) -> bool
+pub(crate) fn is_breaking(incoming: &Package, other: &Package) -> bool
     ensures { result ≡ is_breaking incoming.now other.now }
 {
     is_other(incoming, other) && (other.is_present() && admits_in(other.breaks.clauses(), incoming))

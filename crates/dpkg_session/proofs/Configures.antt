@@ -22,7 +22,7 @@ use Rattle.unit_reports.specs.Held.{Held}
 use Rattle.unit_reports.specs.declared.report.Report.{Report}
 use Rattle.unit_reports.specs.declared.report.Unit.{Unit as AUnit}
 use Rattle.unit_runs.specs.Turns.{TurnsTo}
-use Rattle.configure_run.specs.Asked.{each_once}
+use Rattle.name_sets.specs.Names.{each_once}
 use Rattle.configure_run.specs.Early.{AreRefused, AreSomeRefused, early_refusals}
 use Rattle.configure_run.specs.Run.{HasRun, IsAmidRun, IsConfigureRun}
 use Rattle.configure_run.specs.Turns.{ConfiguresTo, IsConfigured, IsUnit, IsUnitFor}

@@ -8,7 +8,7 @@ use Rattle.std.proofs.lemmas.List.Elements.{Contains-push_cases}
 use Rattle.std.proofs.lemmas.List.Folds.{list_any-append, list_any_more}
 use Rattle.std.proofs.lemmas.Slice.Eq.{bytes_eq-Decides}
 use Rattle.control_members.proofs.Drawn.{any_contains, contains_any}
-use Rattle.removal_run.specs.Names.{is_among}
+use Rattle.name_sets.specs.Names.{is_among}
 use Rattle.file_lists.specs.Increasing.{AreIncreasing, IsBefore}
 use Rattle.status_db.specs.Order.{AreInOrder}
 use Rattle.status_records.specs.Records.{record_in}

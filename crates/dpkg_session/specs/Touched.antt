@@ -2,7 +2,7 @@
 use Rattle.std.specs.Prelude.{◌≡◌, ◌≢◌, ◌⊎◌, ◌||◌, ◌&&◌, ◌↔◌, true, false, not, ℕ, Bool, List, Option, Some, None, Contains, filter, map}
 use Rattle.std.specs.Str.{bytes_eq}
 use Rattle.file_lists.specs.Increasing.{AreIncreasing}
-use Rattle.removal_run.specs.Names.{is_among}
+use Rattle.name_sets.specs.Names.{is_among}
 use Rattle.status_records.specs.Records.{record_in}
 use Rattle.status_records.specs.declared.record.Record.{Record}
 use Rattle.unpack_engine.specs.Touched.{is_half_configured}

@@ -2,7 +2,7 @@
 ghost use Rattle.std.specs.Prelude.{◌≡◌, ◌||◌, ℕ, List, IfOk, OnOk};
 ghost use Rattle.std.specs.BTreeSet.{contains_text};
 ghost use Rattle.std.specs.Option.{option_copied};
-ghost use Rattle.removal_run.specs.Names.{is_among};
+ghost use Rattle.name_sets.specs.Names.{is_among};
 ghost use Rattle.unpack_engine.specs.Touched.{is_half_configured};
 ghost use Rattle.dpkg_session.specs.Touched.{AreOfBoth, AreTold, deconfigured_among, half_configured, is_deconfigured, is_half, is_told, told_among};
 

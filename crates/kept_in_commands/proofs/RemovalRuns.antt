@@ -13,7 +13,7 @@ use Rattle.diversions.specs.Ways.{Ways}
 use Rattle.file_lists.specs.declared.paths.Listed.{Listed}
 use Rattle.relation_index.specs.declared.package.Package.{Package}
 use Rattle.removal_run.specs.Extents.{purges}
-use Rattle.removal_run.specs.Names.{is_among, once, without}
+use Rattle.name_sets.specs.Names.{each_once, is_among, without}
 use Rattle.removal_run.specs.Refusals.{accepted}
 use Rattle.removal_run.specs.Run.{HasRun, IsAmidRun, IsRemovalRun, waiting_for}
 use Rattle.removal_run.specs.Turns.{AreAccepted, IsAmidNext, IsTurn, RemovesTo}
@@ -108,17 +108,17 @@ in_filter keep (m ∷ names) n there = by (keep m) (in_filter keep names n) ther
     by true rest (zero, lt, at) = (zero, omega arith, at)
     by true rest (suc k, lt, at) = later m names n (rest (k, omega (arith, lt), at))
 
-in_once : (names : List (List ℕ)) (n : List ℕ) → Contains (once names) n → Contains names n
+in_once : (names : List (List ℕ)) (n : List ℕ) → Contains (each_once names) n → Contains names n
 in_once [] n there = there
 in_once (m ∷ names) n (zero, lt, at) = (zero, omega arith, at)
-in_once (m ∷ names) n (suc k, lt, at) = later m names n (in_once names n (in_filter _ (once names) n (k, omega (arith, lt), at)))
+in_once (m ∷ names) n (suc k, lt, at) = later m names n (in_once names n (in_filter _ (each_once names) n (k, omega (arith, lt), at)))
 
 module _ (names : List (List ℕ)) (options : RemovalOptions) (before : Held) (q : Path) (place : IsUnnamedPlace before names q) where
   stands_first : (packages : List Package) → Stands options packages q place.packaged place.owner (waiting_for options.extents names before) before
   stands_first packages = record {
     has = place.has;
-    others = λ name there e. place.unnamed (in_once names place.owner.name (in_filter _ (once names) place.owner.name (subst (λ (n : List ℕ). Contains (waiting_for options.extents names before) n) (sym e) (among_has (waiting_for options.extents names before) name there))));
-    accepts = accepted_first options.extents before.records.records (once names);
+    others = λ name there e. place.unnamed (in_once names place.owner.name (in_filter _ (each_once names) place.owner.name (subst (λ (n : List ℕ). Contains (waiting_for options.extents names before) n) (sym e) (among_has (waiting_for options.extents names before) name there))));
+    accepts = accepted_first options.extents before.records.records (each_once names);
   }
 
   turned : (packages : List Package) (s : State) (us : List AUnit) (left : List (List ℕ)) (after : Held) (t : State) → RemovesTo options packages (waiting_for options.extents names before) before s us left after t

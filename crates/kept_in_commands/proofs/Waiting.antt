@@ -18,7 +18,7 @@ use Rattle.status_records.specs.declared.words.State.{State}
 use Rattle.unit_reports.specs.declared.refusal.Rule.{Rule}
 use Rattle.unit_reports.specs.declared.refusal.Rule.TheVariants.{NothingToRemove, Reinstreq, Essential}
 use Rattle.removal_run.specs.Extents.{purges_of}
-use Rattle.removal_run.specs.Names.{is_among, without}
+use Rattle.name_sets.specs.Names.{is_among, without}
 use Rattle.removal_run.specs.Refusals.{accepted, is_config_files, rule_for, rule_of, rule_under}
 use Rattle.removal_run.specs.Turns.{AreAccepted}
 use Rattle.removal_run.specs.Units.{AreOthersKept, extent_of}

@@ -6,7 +6,7 @@ use Rattle.std.proofs.lemmas.Bool.{true≢false, false≢true}
 use Rattle.std.proofs.lemmas.Slice.Eq.{bytes_eq-Decides}
 use Rattle.status_records.specs.declared.record.Record.{Record}
 use Rattle.removal_run.specs.Extents.{purges_of}
-use Rattle.removal_run.specs.Names.{is_among, without}
+use Rattle.name_sets.specs.Names.{is_among, without}
 use Rattle.removal_run.specs.Refusals.{accepted, rule_under, rule_of}
 use Rattle.removal_run.specs.Turns.{AreAccepted}
 use Rattle.removal_run.specs.Units.{AreOthersKept}

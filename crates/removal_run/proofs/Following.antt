@@ -9,7 +9,7 @@ use Rattle.dependency_sets.specs.Choices.{IsFirst}
 use Rattle.dependency_sets.specs.Sets.{has}
 use Rattle.relation_index.specs.declared.package.Package.{Package}
 use Rattle.status_records.specs.declared.record.Record.{Record}
-use Rattle.removal_run.specs.Names.{is_among}
+use Rattle.name_sets.specs.Names.{is_among}
 use Rattle.removal_run.specs.Next.{IsNext, IsNextIn}
 use Rattle.removal_run.specs.Waiting.{IsEven, IsQueueNow, IsRemovedNext, is_named, name_at}
 use Rattle.removal_run.specs.Whose.{IsInTurn, IsNobodysTurn, IsWhoseTurn}

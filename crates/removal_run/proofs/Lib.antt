@@ -1,5 +1,3 @@
-mod Once
-mod Sets
 mod Replies
 mod Barriers
 mod Removals

@@ -15,7 +15,7 @@ use Rattle.relation_index.specs.Order.{AreInOrder, IsBeforeAll}
 use Rattle.relation_index.specs.Packages.{AreInNameOrder}
 use Rattle.relation_index.specs.declared.package.Package.{Package}
 use Rattle.status_records.specs.declared.record.Record.{Record}
-use Rattle.removal_run.specs.Names.{is_among, without}
+use Rattle.name_sets.specs.Names.{is_among, without}
 use Rattle.removal_run.specs.Units.{AreOthersKept}
 use Rattle.removal_run.specs.Waiting.{IsQueueNow, is_installed_by, is_installed_in, name_at}
 

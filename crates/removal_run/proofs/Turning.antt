@@ -14,7 +14,7 @@ use Rattle.unit_runs.specs.Turns as runs
 use Rattle.unit_runs.specs.Turns.{HaveAllTurned, IsBrokenNext as IsBrokenBehind, TurnsTo}
 use Rattle.unit_runs.proofs.Going.{no_turn, since_wider, still_here}
 use Rattle.removal_run.specs.Extents.{purges}
-use Rattle.removal_run.specs.Names.{is_among, without}
+use Rattle.name_sets.specs.Names.{is_among, without}
 use Rattle.removal_run.specs.Next.{IsNothing}
 use Rattle.removal_run.specs.Taking.{IsOver}
 use Rattle.removal_run.specs.Turns.{HasCalledNext, HasStopped, HasTurned, IsAmidNext, IsAmidTurn, IsAmidTurns, IsTurn, RemovesTo}

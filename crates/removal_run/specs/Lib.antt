@@ -1,4 +1,3 @@
-pub mod Names
 pub mod Extents
 pub mod Refusals
 pub mod Selected

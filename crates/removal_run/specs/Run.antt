@@ -16,7 +16,7 @@ use Rattle.unit_reports.specs.declared.report.Report.{Report}
 use Rattle.unit_reports.specs.declared.report.Unit.{Unit as AUnit}
 use Rattle.unit_runs.specs.Turns.{IsStill}
 use Rattle.removal_run.specs.LeftOver.{AreAllTold, AreLeftOver}
-use Rattle.removal_run.specs.Names.{once}
+use Rattle.name_sets.specs.Names.{each_once}
 use Rattle.removal_run.specs.Refusals.{AreRefused, accepted, refusals}
 use Rattle.removal_run.specs.Turns.{IsAmidNext, IsAmidTurns, IsBrokenNext, RemovesTo}
 use Rattle.removal_run.specs.declared.extents.Extents.{Extents}
@@ -24,11 +24,11 @@ use Rattle.removal_run.specs.declared.options.RemovalOptions.{RemovalOptions}
 
 -- the names that wait in the beginning
 abbrev pub waiting_for : Extents → List (List ℕ) → Held → List (List ℕ)
-waiting_for extents names before = accepted extents before.records.records (once names)
+waiting_for extents names before = accepted extents before.records.records (each_once names)
 
 -- the units of the names that a rule refuses, in the order given
 abbrev pub IsRefusedFirst : Extents → List (List ℕ) → Held → List AUnit → Type 0
-IsRefusedFirst extents names before us = AreRefused (refusals extents before.records.records (once names)) us
+IsRefusedFirst extents names before us = AreRefused (refusals extents before.records.records (each_once names)) us
 
 -- Behind the units that are told already packages are removed in turn, and then those that are left over are told.
 pub record RunsThrough (options : RemovalOptions) (names : List (List ℕ)) (refused us : List AUnit) (before after : Held) (s t : State) : Type 0 where

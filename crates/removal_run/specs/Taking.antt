@@ -7,7 +7,7 @@ use Rattle.held_administration.specs.declared.held.Administration.{Administratio
 use Rattle.relation_index.specs.declared.package.Package.{Package}
 use Rattle.status_records.specs.declared.record.Record.{Record}
 use Rattle.unit_reports.specs.Held.{Held}
-use Rattle.removal_run.specs.Names.{without}
+use Rattle.name_sets.specs.Names.{without}
 use Rattle.removal_run.specs.Next.{IsNothing}
 use Rattle.removal_run.specs.Turns.{AreAccepted}
 use Rattle.removal_run.specs.Units.{AreOthersKept}

@@ -11,7 +11,7 @@ use Rattle.unit_reports.specs.declared.report.Unit.{Unit as AUnit}
 use Rattle.unit_runs.specs.Turns as runs
 use Rattle.unit_runs.specs.Turns.{HaveTurned, IsBrokenNext as IsBroken, TurnsTo}
 use Rattle.removal_run.specs.Extents.{purges}
-use Rattle.removal_run.specs.Names.{is_among, without}
+use Rattle.name_sets.specs.Names.{is_among, without}
 use Rattle.removal_run.specs.Refusals.{rule_under}
 use Rattle.removal_run.specs.Units.{AreOthersKept, HasCalledRemoving, IsAmidRemoval, RunsRemoval}
 use Rattle.removal_run.specs.Waiting.{IsRemovedNext}

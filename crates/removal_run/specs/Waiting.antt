@@ -5,7 +5,7 @@ use Rattle.relation_index.specs.declared.package.Package.{Package}
 use Rattle.status_records.specs.Records.{record_in}
 use Rattle.status_records.specs.Words.{is_installed}
 use Rattle.status_records.specs.declared.record.Record.{Record}
-use Rattle.removal_run.specs.Names.{is_among}
+use Rattle.name_sets.specs.Names.{is_among}
 use Rattle.removal_run.specs.Whose.{IsWhoseTurn}
 
 -- a package without a record isn't installed

@@ -5,7 +5,7 @@ ghost use Rattle.dependency_check.specs.Waiting.{IsRemovableNow};
 ghost use Rattle.host_core.specs.Host.{Needs, Since};
 ghost use Rattle.host_core.specs.Loss.{IsAnswered};
 ghost use Rattle.held_administration.specs.Open.{IsOpen};
-ghost use Rattle.removal_run.specs.Names.{once};
+ghost use Rattle.name_sets.specs.Names.{each_once};
 ghost use Rattle.removal_run.specs.Refusals.{AreRefused, accepted, refusals};
 ghost use Rattle.recorded_packages.specs.Packages.{ArePackagesOf};
 ghost use Rattle.removal_run.specs.Run.{AddsLeft, AreRenewed, EndsAs, HasRun, IsAmidRun, IsRemovalRun, RunsThrough, RunsUpTo};
@@ -19,7 +19,6 @@ ghost use Rattle.unit_reports.specs.declared.report.Breakage.TheVariants.{Abando
 
 use crate::extents::Extents;
 use crate::left::left_over;
-use crate::names::once;
 use crate::options::RemovalOptions;
 use crate::refusals::{Sorted, sort};
 use crate::telling::tell_all;
@@ -28,6 +27,7 @@ use dependency_check::RemoveQueue;
 use diversions::Diversions;
 use held_administration::Administration;
 use host_core::Host;
+use name_sets::each_once;
 use recorded_packages::renew;
 use relation_index::Packages;
 use status_db::NotedDatabase;
@@ -43,12 +43,12 @@ fn sorted(
     names: Vec<Text>,
 ) -> Result<Sorted, AllocError>
     ensures refused { IfOk result (λ sorted. AreRefused (refusals extents database.now.records
-        (once names.items)) sorted.refused.items) }
+        (each_once names.items)) sorted.refused.items) }
     ensures waiting { IfOk result (λ sorted. sorted.waiting.items ≡ accepted extents
-        database.now.records (once names.items)) }
+        database.now.records (each_once names.items)) }
     ensures asked { IfOk result (λ sorted. sorted.asked.items ≡ sorted.waiting.items) }
 {
-    let list = once(alloc, names)?;
+    let list = each_once(alloc, names.as_slice())?;
     sort(alloc, extents, database, list)
 }
 

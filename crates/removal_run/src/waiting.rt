@@ -5,7 +5,7 @@ ghost use Rattle.dependency_check.specs.Waiting.{IsRemovableNow};
 ghost use Rattle.dependency_sets.specs.Choices.{IsFirst};
 ghost use Rattle.dependency_sets.specs.Sets.{has};
 ghost use Rattle.relation_index.specs.Packages.{AreInNameOrder};
-ghost use Rattle.removal_run.specs.Names.{without};
+ghost use Rattle.name_sets.specs.Names.{without};
 ghost use Rattle.removal_run.specs.Next.{IsNext};
 ghost use Rattle.removal_run.specs.Taking.{IsQueueTo};
 ghost use Rattle.removal_run.specs.Units.{AreOthersKept};
@@ -13,9 +13,9 @@ ghost use Rattle.removal_run.specs.Waiting.{IsEven, IsQueueNow, is_installed_in,
 ghost use Rattle.removal_run.specs.Whose.{IsNobodysTurn, IsWhoseTurn};
 ghost use Rattle.status_records.specs.declared.record.Record.{Record as ARecord};
 
-use crate::names::set_of;
 use dependency_check::RemoveQueue;
 use dependency_sets::{first_of_both, has};
+use name_sets::set_of;
 use relation_index::{Package, Packages};
 use status_db::NotedDatabase;
 use std::alloc::{AllocError, Global};

@@ -1,4 +1,4 @@
-use Rattle.configure_run.specs.Asked.{each_once}
+use Rattle.name_sets.specs.Names.{each_once}
 use Rattle.configure_run.specs.Early.{early_refusals}
 use Rattle.configure_run.proofs.Refusals.{none_refused, on_err}
 use Rattle.configure_run.proofs.run.refuse_first.Goals as goal

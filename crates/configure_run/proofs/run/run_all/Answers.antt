@@ -5,7 +5,7 @@ use Rattle.unit_reports.specs.Units.{calls_of}
 use Rattle.unit_reports.specs.declared.report.Reply.TheVariants.{Broken}
 use Rattle.unit_reports.proofs.Telling.{answered_then, told_added}
 use Rattle.undo_rows.proofs.Makes.{tells_then}
-use Rattle.configure_run.specs.Asked.{each_once}
+use Rattle.name_sets.specs.Names.{each_once}
 use Rattle.configure_run.specs.Early.{early_refusals}
 use Rattle.configure_run.specs.Run.{HasRun}
 use Rattle.configure_run.proofs.Moments.{order_read, silent_here}

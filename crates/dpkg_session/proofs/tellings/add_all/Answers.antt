@@ -4,7 +4,7 @@ use Rattle.std.specs.String.{string_bytes}
 use Rattle.std.proofs.lemmas.List.{take_all}
 use Rattle.std.proofs.lemmas.Map.Text.{btree_set_updates_text}
 use Rattle.host_core.specs.Paths.{Path}
-use Rattle.removal_run.specs.Names.{is_among}
+use Rattle.name_sets.specs.Names.{is_among}
 use Rattle.dpkg_session.proofs.Touching.{name_entered}
 use Rattle.dpkg_session.proofs.tellings.add_all.Goals as goal
 

@@ -1,7 +1,7 @@
 use Rattle.std.proofs.Common.{◌≡◌, ◌||◌, take}
 use Rattle.std.specs.BTreeSet.{contains_text}
 use Rattle.host_core.specs.Paths.{Path}
-use Rattle.removal_run.specs.Names.{is_among}
+use Rattle.name_sets.specs.Names.{is_among}
 use Rattle.dpkg_session.proofs.tellings.add_all.Given as goal
 
 abbrev pub invariant-loop-name : goal.invariant-loop-name

@@ -5,18 +5,18 @@ use Rattle.removal_run.specs.Turns.{AreAccepted, IsAmidTurns}
 use Rattle.removal_run.proofs.Accepting.{accepted_first}
 use Rattle.removal_run.proofs.Sorting.{refused_all, refused_calls}
 use Rattle.removal_run.proofs.Ending.{since_none, since_removals}
-use Rattle.removal_run.specs.Names.{once}
+use Rattle.name_sets.specs.Names.{each_once}
 use Rattle.removal_run.specs.Refusals.{refusals}
 use Rattle.removal_run.proofs.run.remove_packages.Goals as goal
 
 pub run_sorted-requires-clause-accepted : goal.run_sorted-requires-clause-accepted
-run_sorted-requires-clause-accepted g c = subst (AreAccepted c.args.options.extents c.args.administration.now.database.records) (sym c.in-Ok.ensures.waiting) (accepted_first c.args.options.extents c.args.administration.now.database.records (once c.args.names.items))
+run_sorted-requires-clause-accepted g c = subst (AreAccepted c.args.options.extents c.args.administration.now.database.records) (sym c.in-Ok.ensures.waiting) (accepted_first c.args.options.extents c.args.administration.now.database.records (each_once c.args.names.items))
 
 pub run_sorted-requires-clause-told : goal.run_sorted-requires-clause-told
-run_sorted-requires-clause-told g c = refused_calls (refusals c.args.options.extents c.args.administration.now.database.records (once c.args.names.items)) c.in-Ok.sorted.refused.items c.in-Ok.ensures.refused
+run_sorted-requires-clause-told g c = refused_calls (refusals c.args.options.extents c.args.administration.now.database.records (each_once c.args.names.items)) c.in-Ok.sorted.refused.items c.in-Ok.ensures.refused
 
 pub run_sorted-requires-clause-refused : goal.run_sorted-requires-clause-refused
-run_sorted-requires-clause-refused g c = refused_all (refusals c.args.options.extents c.args.administration.now.database.records (once c.args.names.items)) c.in-Ok.sorted.refused.items c.in-Ok.ensures.refused
+run_sorted-requires-clause-refused g c = refused_all (refusals c.args.options.extents c.args.administration.now.database.records (each_once c.args.names.items)) c.in-Ok.sorted.refused.items c.in-Ok.ensures.refused
 
 pub returns-in-Ok-clause-any_moment : goal.returns-in-Ok-clause-any_moment
 returns-in-Ok-clause-any_moment g c =

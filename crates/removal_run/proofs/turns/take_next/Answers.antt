@@ -2,7 +2,7 @@ use Rattle.std.proofs.Common.{◌≡◌, ◌<◌, ℕ, Bool, List, None, length,
 use Rattle.host_core.specs.Host.{AtEachMomentOf}
 use Rattle.unit_reports.specs.Held.{held_by}
 use Rattle.unit_runs.proofs.Barred.{not_taken}
-use Rattle.removal_run.specs.Names.{without}
+use Rattle.name_sets.specs.Names.{without}
 use Rattle.removal_run.specs.Next.{IsNextIn}
 use Rattle.removal_run.specs.Turns.{AreAccepted}
 use Rattle.removal_run.specs.Refusals.{rule_for}

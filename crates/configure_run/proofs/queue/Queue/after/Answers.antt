@@ -1,7 +1,7 @@
 use Rattle.std.proofs.Common.{rules, ◌≡◌, List, ap, subst, sym, ◌∙◌}
 use Rattle.dependency_check.specs.Waiting.{Waiting}
 use Rattle.relation_index.specs.declared.package.Package.{Package}
-use Rattle.configure_run.specs.Breaking.{AreBreakers}
+use Rattle.dependency_check.specs.Breaking.{AreBreakers}
 use Rattle.configure_run.specs.Starting.{AreNamedApart}
 use Rattle.configure_run.proofs.Progress.{packages_after}
 use Rattle.configure_run.proofs.queue.Queue.after.Goals as goal

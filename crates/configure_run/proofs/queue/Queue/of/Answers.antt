@@ -3,7 +3,7 @@ use Rattle.dependency_check.specs.Waiting.{Waiting}
 use Rattle.recorded_packages.specs.Packages.{ArePackagesOf}
 use Rattle.relation_index.specs.declared.package.Package.{Package}
 use Rattle.status_records.specs.declared.record.Record.{Record}
-use Rattle.configure_run.specs.Breaking.{AreBreakers}
+use Rattle.dependency_check.specs.Breaking.{AreBreakers}
 use Rattle.configure_run.specs.Starting.{IsBegun, satisfies, waits}
 use Rattle.configure_run.proofs.Numbers.{begun_even, named_apart}
 use Rattle.configure_run.proofs.queue.Queue.of.Goals as goal

@@ -1,11 +1,11 @@
 // Which package breaks one that is to be configured.
 ghost use Rattle.std.specs.Prelude.{◌≡◌, ℕ, IfOk, IsTrue, MatchOption};
-ghost use Rattle.dependency_check.specs.Deconfigured.{of_role};
-ghost use Rattle.dependency_check.specs.Roles.{admits_in, is_breaking, is_other};
-ghost use Rattle.dependency_check.specs.declared.roles.Role.TheVariants.{Breaking};
 ghost use Rattle.dependency_sets.specs.Choices.{IsFirst};
-ghost use Rattle.configure_run.specs.Breaking.{AreBreakers, states_breaks, states_some};
+ghost use Rattle.dependency_check.specs.Breaking.{AreBreakers, states_breaks, states_some};
+ghost use Rattle.dependency_check.specs.Deconfigured.{of_role};
+ghost use Rattle.dependency_check.specs.declared.roles.Role.TheVariants.{Breaking};
 
+use crate::roles::is_breaking;
 use dependency_sets::{Numbers, listed};
 use relation_fields::Clause;
 use relation_index::{Package, Packages};
@@ -27,7 +27,7 @@ fn states_breaks(of: &Package) -> bool
 }
 
 /// The packages that state Breaks, in name order: no other breaks one.
-pub(crate) fn breakers_of(alloc: Global, packages: &[Package]) -> Result<Numbers, AllocError>
+pub fn breakers_of(alloc: Global, packages: &[Package]) -> Result<Numbers, AllocError>
     ensures { IfOk result (AreBreakers packages.now) }
 {
     let mut marks = Vec::new(alloc);
@@ -38,25 +38,7 @@ pub(crate) fn breakers_of(alloc: Global, packages: &[Package]) -> Result<Numbers
     Ok(list)
 }
 
-fn admits_in(field: &[Clause], other: &Package) -> bool
-    ensures { result ≡ admits_in field.now other.now }
-{
-    field.iter().any(|clause| other.meets(clause))
-}
-
-fn is_other(of: &Package, other: &Package) -> bool
-    ensures { result ≡ is_other of.now other.now }
-{
-    !(other.name.as_str() == of.name.as_str())
-}
-
-fn is_breaking(of: &Package, other: &Package) -> bool
-    ensures { result ≡ is_breaking of.now other.now }
-{
-    is_other(of, other) && (other.is_present() && admits_in(other.breaks.clauses(), of))
-}
-
-// The same of the package of a number.
+// Whether the package of a number breaks it.
 fn is_breaking_at(packages: &[Package], of: &Package, number: usize) -> bool
     ensures { result ≡ of_role Breaking of.now packages.now number }
 {
@@ -81,7 +63,7 @@ fn first_breaking(packages: &[Package], breakers: &[usize], of: &Package) -> Opt
 
 /// The first other package that is at least half-installed and admits this one in Breaks. Only those that state some are looked
 /// at.
-pub(crate) fn broken_by(packages: &Packages, breakers: &[usize], of: &Package) -> Option<usize>
+pub fn broken_by(packages: &Packages, breakers: &[usize], of: &Package) -> Option<usize>
     requires { AreBreakers packages.now breakers.now }
     ensures { MatchOption result ((x : ℕ) → IsTrue (of_role Breaking of.now packages.now x)
         → ⊥) (IsFirst (λ x. IsTrue (of_role Breaking of.now packages.now x))) }

@@ -13,7 +13,7 @@ use Rattle.dependency_sets.specs.Choices.{IsFirst}
 use Rattle.relation_fields.specs.declared.alternative.Alternative.{Alternative}
 use Rattle.relation_index.specs.Packages.{is_present, those}
 use Rattle.relation_index.specs.declared.package.Package.{Package}
-use Rattle.configure_run.specs.Breaking.{AreBreakers, states_breaks, states_some}
+use Rattle.dependency_check.specs.Breaking.{AreBreakers, states_breaks, states_some}
 
 second : (a b : Bool) → (a && b) ≡ true → b ≡ true
 second true b both = both

@@ -3,8 +3,8 @@ use Rattle.std.specs.Prelude.{IsTrue}
 use Rattle.std.proofs.lemmas.List.{take_all}
 use Rattle.dependency_sets.specs.Choices.{IsListing}
 use Rattle.dependency_sets.specs.Sets.{has}
-use Rattle.configure_run.specs.Breaking.{states_breaks}
-use Rattle.configure_run.proofs.breaking.breakers_of.Goals as goal
+use Rattle.dependency_check.specs.Breaking.{states_breaks}
+use Rattle.dependency_check.proofs.breaking.breakers_of.Goals as goal
 
 pub returns : goal.returns
 returns c =

@@ -1,6 +1,6 @@
 use Rattle.std.proofs.Common.{arith}
-use Rattle.configure_run.proofs.Breakers.{first_found, none_at_all, none_further}
-use Rattle.configure_run.proofs.breaking.first_breaking.Goals as goal
+use Rattle.dependency_check.proofs.Breakers.{first_found, none_at_all, none_further}
+use Rattle.dependency_check.proofs.breaking.first_breaking.Goals as goal
 
 pub loop-number-init : goal.loop-number-init
 loop-number-init c y inside breaks = absurd (omega (arith, inside.1))

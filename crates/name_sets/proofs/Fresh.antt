@@ -1,9 +1,9 @@
 -- Names, each given once.
-use Rattle.std.proofs.Common.{◌≡◌, ℕ, ◌&&◌, ◌||◌, not, Bool, true, false, cond, List, [], ◌∷◌, ◌++◌, filter, refl, sym, ap, ◌∙◌, append_assoc}
+use Rattle.std.proofs.Common.{◌≡◌, ℕ, ◌&&◌, ◌||◌, not, Bool, true, false, cond, List, [], ◌∷◌, ◌++◌, filter, refl, sym, ap, ◌∙◌, append_assoc, append-nil}
 use Rattle.std.specs.Str.{bytes_eq}
 use Rattle.std.proofs.lemmas.List.Folds.{list_any-append}
 use Rattle.std.proofs.lemmas.Slice.Eq.{bytes_eq-Decides}
-use Rattle.removal_run.specs.Names.{is_among, without}
+use Rattle.name_sets.specs.Names.{is_among, with_name, without}
 
 module _ {X : Type 0} (test : X → Bool) (x : X) (xs : List X) where
   pub kept : test x ≡ true → filter test (x ∷ xs) ≡ x ∷ filter test xs
@@ -69,7 +69,7 @@ none_seen [] = refl
 none_seen (name ∷ names) = ap (λ (l : List (List ℕ)). name ∷ l) (none_seen names)
 
 -- a name goes to those seen unless it is one of them
-pub seen_or_not : (seen now : List (List ℕ)) (name : List ℕ) (names : List (List ℕ)) → now ≡ cond (is_among seen name) seen (seen ++ name ∷ []) → seen ++ new_of seen (name ∷ without name names) ≡ now ++ new_of now names
+pub seen_or_not : (seen now : List (List ℕ)) (name : List ℕ) (names : List (List ℕ)) → now ≡ with_name seen name → seen ++ new_of seen (name ∷ without name names) ≡ now ++ new_of now names
 seen_or_not seen now name names is = by (is_among seen name) refl
   where
     by : (b : Bool) → is_among seen name ≡ b → seen ++ new_of seen (name ∷ without name names) ≡ now ++ new_of now names
@@ -79,3 +79,6 @@ seen_or_not seen now name names is = by (is_among seen name) refl
     by false e =
         let same : now ≡ seen ++ name ∷ [] = is ∙ ap (λ b. cond b seen (seen ++ name ∷ [])) e in
         seen_first seen name names e ∙ ap (λ (l : List (List ℕ)). l ++ new_of l names) (sym same)
+
+pub none_left : (seen : List (List ℕ)) → seen ++ new_of seen [] ≡ seen
+none_left seen = append-nil seen

@@ -1,9 +1,0 @@
-use Rattle.std.proofs.Common.{◌≡◌, List, ℕ, take}
-use Rattle.std.specs.List.{list_any}
-use Rattle.std.specs.Str.{bytes_eq}
-use Rattle.std.specs.BTreeSet.{contains_text}
-use Rattle.configure_run.specs.Asked.{each_once}
-use Rattle.configure_run.proofs.asked.each_once.Given as goal
-
-abbrev pub invariant-loop-name : goal.invariant-loop-name
-invariant-loop-name l = (l.list.items ≡ each_once (take l.name-index l.names)) × ((q : List ℕ) → contains_text l.set q ≡ list_any (bytes_eq q) l.list.items)
