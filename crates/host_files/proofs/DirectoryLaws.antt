@@ -48,6 +48,15 @@ entry_split front back place none (Some x) is = entry_found place (front x) (bac
 pub directory_of_root : (path : List ℕ) → RFindsChar 47 path None → IsDirectoryOf path []
 directory_of_root path none = inr (no_byte path none, refl)
 
+-- what is left of a text begins with no slash, and so it isn't below that path
+pub lacks_prefix : (path key rest name : List ℕ) → key ≡ path ++ rest → ((more : List ℕ) → rest ≡ 47 ∷ more → ⊥) → key ≡ path ++ 47 ∷ name → ⊥
+lacks_prefix [] key rest name is absent e = absent name (sym is ∙ e)
+lacks_prefix (x ∷ path) [] rest name is absent e = absurd (let h : [] ≡ x ∷ (path ++ rest) = is in cc)
+lacks_prefix (x ∷ path) (k ∷ key) rest name is absent e =
+    let p : key ≡ path ++ rest = cc is in
+    let q : key ≡ path ++ 47 ∷ name = cc e in
+    lacks_prefix path key rest name p absent q
+
 -- what is in a set is in it with one more
 pub still_there : (same there : Bool) → there ≡ true → cond same true there ≡ true
 still_there true there is = refl

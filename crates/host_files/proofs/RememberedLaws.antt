@@ -1,6 +1,7 @@
 -- What is remembered: after one call more, and in each account of the directory.
-use Rattle.std.proofs.Common.{◌≡◌, ◌≢◌, inl, inr, IsTrue, List, [], ◌∷◌, ◌++◌, Option, Some, None, Result, Ok, Err, OnOk, refl, sym, ap, subst, ◌∙◌}
-use Rattle.std.specs.Prelude.{ℕ, IsSome, is_some}
+use Rattle.std.proofs.Common.{◌≡◌, ◌≢◌, ◌⊎◌, inl, inr, IsTrue, List, [], ◌∷◌, ◌++◌, Option, Some, None, Result, Ok, Err, OnOk, refl, sym, ap, subst, ◌∙◌}
+use Rattle.std.specs.Prelude.{ℕ, IsSome, IsSomeAnd, is_some}
+use Rattle.std.specs.Option.{ForSome}
 use Rattle.std.proofs.Math.Logic.{∥∥₁_map}
 use Rattle.std.specs.declared.fs.Metadata.{Metadata}
 use Rattle.std.specs.Fs.{metadata_mode}
@@ -12,9 +13,9 @@ use Rattle.host_core.proofs.WorldLaws.{put_same, put_other}
 use Rattle.host_core.specs.declared.node.Kind.TheVariants as kind
 use Rattle.host_core.specs.declared.node.Node.{Node}
 use Rattle.host_core.specs.declared.node.Node.TheVariants.{File, Dir, Link}
-use Rattle.host_files.specs.Remembered.{IsKnown, IsKnownBy, IsKnownByStep, IsNew, IsNewBy, IsNewByStep}
+use Rattle.host_files.specs.Remembered.{IsKnown, IsKnownBy, IsKnownByStep, IsNew, IsNewBy, IsNewByStep, IsVacant, IsVacantBy, IsVacantByStep, IsBelowVacant}
 use Rattle.host_files.specs.Replay.{Model, IsSound, replay}
-use Rattle.host_files.specs.Shown.{IsLookedAt}
+use Rattle.host_files.specs.Shown.{IsLookedAt, IsLackingBy}
 use Rattle.host_files.specs.SystemCalls.{look_call}
 use Rattle.host_files.specs.declared.record.Asked.{Asked}
 use Rattle.host_files.specs.declared.record.Asked.TheVariants as asked
@@ -84,12 +85,45 @@ new_more g (was.Ended call kept outcome) A B f k = absurd k
 new_more g (was.Broke call kept) A B f k = absurd k
 new_more g was.Missed A B f k = absurd k
 
+vacant_step_more : (v : Path) (a : Asked) (A B : Type 0) → (A → ∥ B ∥₁) → IsVacantByStep v a A → ∥ IsVacantByStep v a B ∥₁
+vacant_step_more v (asked.Write p node) A B f k = ∥∥₁_map (f k.1) (λ b. (k.0, b))
+vacant_step_more v (asked.Move a b) A B f k = ∥∥₁_map (f k.2) (λ b. (k.0, k.1, b))
+vacant_step_more v (asked.Take p) A B f k = ∥∥₁_map (f k.1) (λ b. (k.0, b))
+vacant_step_more v (asked.MakeDir p access) A B f k = ∥∥₁_map (f k.1) (λ b. (k.0, b))
+vacant_step_more v (asked.RemoveDir p) A B f k = ∥∥₁_map (f k.1) (λ b. (k.0, b))
+vacant_step_more v (asked.HardLink a b) A B f k = ∥∥₁_map (f k.2) (λ b. (k.0, k.1, b))
+vacant_step_more v (asked.MakeLink p target) A B f k = ∥∥₁_map (f k.1) (λ b. (k.0, b))
+vacant_step_more v (asked.Sync p) A B f k = ∥∥₁_map (f k.1) (λ b. (k.0, b))
+vacant_step_more v asked.Barrier A B f k = f k
+vacant_step_more v asked.SyncAll A B f k = f k
+vacant_step_more v asked.SyncRoot A B f k = f k
+vacant_step_more v (asked.Lower p) A B f k = ∥∥₁_map (f k.1) (λ b. (k.0, b))
+
+vacant_more : (v : Path) (n : Noted) (A B : Type 0) → (A → ∥ B ∥₁) → IsVacantBy v n A → ∥ IsVacantBy v n B ∥₁
+vacant_more v (was.Looked p found) A B f (inl (none, inl is)) = ∣ inl (none, inl is) ∣₁
+vacant_more v (was.Looked p found) A B f (inl (none, inr k)) = ∥∥₁_map (f k) (λ b. inl (none, inr b))
+vacant_more v (was.Looked p found) A B f (inr (outside, k)) = ∥∥₁_map (f k) (λ b. inr (outside, b))
+vacant_more v (was.Seen p found) A B f (inl (none, inl is)) = ∣ inl (none, inl is) ∣₁
+vacant_more v (was.Seen p found) A B f (inl (none, inr k)) = ∥∥₁_map (f k) (λ b. inl (none, inr b))
+vacant_more v (was.Seen p found) A B f (inr (outside, k)) = ∥∥₁_map (f k) (λ b. inr (outside, b))
+vacant_more v (was.Listed p listing) A B f k = ∥∥₁_map (f k.1) (λ b. (k.0, b))
+vacant_more v (was.Compared one other same) A B f k = f k
+vacant_more v (was.Done a) A B f k = vacant_step_more v a A B f k
+vacant_more v (was.Undone a) A B f k = absurd k
+vacant_more v (was.Declined a) A B f k = absurd k
+vacant_more v (was.Ended call kept outcome) A B f k = absurd k
+vacant_more v (was.Broke call kept) A B f k = absurd k
+vacant_more v was.Missed A B f k = absurd k
+
 -- behind one call more
 pub still_known : (d : Path) (n : Noted) (A : Type 0) (old new : List Noted) → new ≡ n ∷ old → (A → ∥ IsKnown d old ∥₁) → IsKnownBy d n A → ∥ IsKnown d new ∥₁
 still_known d n A old new is f k = subst (λ l. ∥ IsKnown d l ∥₁) (sym is) (known_more d n A (IsKnown d old) f k)
 
 pub still_new : (g : Path) (n : Noted) (A : Type 0) (old new : List Noted) → new ≡ n ∷ old → (A → ∥ IsNew g old ∥₁) → IsNewBy g n A → ∥ IsNew g new ∥₁
 still_new g n A old new is f k = subst (λ l. ∥ IsNew g l ∥₁) (sym is) (new_more g n A (IsNew g old) f k)
+
+pub still_vacant : (v : Path) (n : Noted) (A : Type 0) (old new : List Noted) → new ≡ n ∷ old → (A → ∥ IsVacant v old ∥₁) → IsVacantBy v n A → ∥ IsVacant v new ∥₁
+still_vacant v n A old new is f k = subst (λ l. ∥ IsVacant v l ∥₁) (sym is) (vacant_more v n A (IsVacant v old) f k)
 
 -- above what stands is a directory
 above : (w : World) (d p : Path) → IsTree w → IsBelow d p → IsSome (w p) → IsDirectory (w d)
@@ -105,9 +139,29 @@ is_dir (Some (File bytes access)) e = absurd (let o : kind.File ≡ kind.Directo
 is_dir (Some (Dir access)) e = (access, refl)
 is_dir (Some (Link target)) e = absurd (let o : kind.SymbolicLink ≡ kind.Directory = cc in cc)
 
+no_kind : (n : Option Node) → kind_of n ≡ None → n ≡ None
+no_kind None e = refl
+no_kind (Some (File bytes access)) e = absurd (let o : Some kind.File ≡ None = e in cc)
+no_kind (Some (Dir access)) e = absurd (let o : Some kind.Directory ≡ None = e in cc)
+no_kind (Some (Link target)) e = absurd (let o : Some kind.SymbolicLink ≡ None = e in cc)
+
+-- below what isn't there nothing stands
+none_if : (o : Option Node) → (IsSome o → ⊥) → o ≡ None
+none_if None nothing_is = refl
+none_if (Some node) nothing_is = absurd (nothing_is refl)
+
+none_below : (w : World) (v p : Path) → IsTree w → IsBelow v p → w v ≡ None → w p ≡ None
+none_below w v p tree below none = none_if (w p) (λ some.
+    let directory : IsDirectory (w v) = above w v p tree below some in
+    let e : None ≡ Some (Dir directory.0) = sym none ∙ directory.1 in
+    cc)
+
 -- what stands at another path is as before
 other : (P : Option Node → Type 0) (w : World) (p d : Path) (n : Option Node) → p ≢ d → P (w d) → P (put w p n d)
 other P w p d n apart here = subst P (sym (put_other w p d n (λ e. apart (sym e)))) here
+
+none_still : (w : World) (p v : Path) (n : Option Node) → v ≢ p → w v ≡ None → put w p n v ≡ None
+none_still w p v n apart none = put_other w p v n apart ∙ none
 
 -- where rights are taken, what stood stands
 lowered_some : (o : Option Node) → IsSome o → IsSome (lowered o)
@@ -208,7 +262,60 @@ module _ (m : Model) (sound : IsSound m) where
   new_stands g (was.Broke call kept ∷ h) new honest = absurd new
   new_stands g (was.Missed ∷ h) new honest = absurd new
 
+  pub vacant_lacks : (v : Path) (notes : List Noted) → IsVacant v notes → IsTrue (replay m notes).honest → (replay m notes).world v ≡ None
+  vacant_lacks v [] vacant honest = absurd vacant
+  vacant_lacks v (was.Looked p node ∷ h) (inl (none, inl is)) honest =
+      subst (λ q. (replay m h).world q ≡ None) (sym is) (sym (sound.answers (was.Looked p node) h honest) ∙ none)
+  vacant_lacks v (was.Looked p node ∷ h) (inl (none, inr vacant)) honest = vacant_lacks v h vacant (before (was.Looked p node) h honest)
+  vacant_lacks v (was.Looked p node ∷ h) (inr (outside, vacant)) honest = vacant_lacks v h vacant (before (was.Looked p node) h honest)
+  vacant_lacks v (was.Seen p found ∷ h) (inl (none, inl is)) honest =
+      subst (λ q. (replay m h).world q ≡ None) (sym is) (no_kind ((replay m h).world p) (sym (sound.answers (was.Seen p found) h honest) ∙ none))
+  vacant_lacks v (was.Seen p found ∷ h) (inl (none, inr vacant)) honest = vacant_lacks v h vacant (before (was.Seen p found) h honest)
+  vacant_lacks v (was.Seen p found ∷ h) (inr (outside, vacant)) honest = vacant_lacks v h vacant (before (was.Seen p found) h honest)
+  vacant_lacks v (was.Listed p listing ∷ h) (other_path, vacant) honest = vacant_lacks v h vacant (before (was.Listed p listing) h honest)
+  vacant_lacks v (was.Compared one two same ∷ h) vacant honest = vacant_lacks v h vacant (before (was.Compared one two same) h honest)
+  vacant_lacks v (was.Done (asked.Write p node) ∷ h) (apart, vacant) honest =
+      none_still (replay m h).world p v (Some node) apart.0 (vacant_lacks v h vacant (before (was.Done (asked.Write p node)) h honest))
+  vacant_lacks v (was.Done (asked.Move a b) ∷ h) (from, to, vacant) honest =
+      none_still (put (replay m h).world a None) b v ((replay m h).world a) to.0
+      (none_still (replay m h).world a v None from.0 (vacant_lacks v h vacant (before (was.Done (asked.Move a b)) h honest)))
+  vacant_lacks v (was.Done (asked.Take p) ∷ h) (apart, vacant) honest =
+      none_still (replay m h).world p v None apart.0 (vacant_lacks v h vacant (before (was.Done (asked.Take p)) h honest))
+  vacant_lacks v (was.Done (asked.MakeDir p access) ∷ h) (apart, vacant) honest =
+      none_still (replay m h).world p v (Some (Dir access)) apart.0 (vacant_lacks v h vacant (before (was.Done (asked.MakeDir p access)) h honest))
+  vacant_lacks v (was.Done (asked.RemoveDir p) ∷ h) (apart, vacant) honest =
+      none_still (replay m h).world p v None apart.0 (vacant_lacks v h vacant (before (was.Done (asked.RemoveDir p)) h honest))
+  vacant_lacks v (was.Done (asked.HardLink a b) ∷ h) (from, to, vacant) honest =
+      none_still (replay m h).world b v ((replay m h).world a) to.0 (vacant_lacks v h vacant (before (was.Done (asked.HardLink a b)) h honest))
+  vacant_lacks v (was.Done (asked.MakeLink p target) ∷ h) (apart, vacant) honest =
+      none_still (replay m h).world p v (Some (Link target)) apart.0 (vacant_lacks v h vacant (before (was.Done (asked.MakeLink p target)) h honest))
+  vacant_lacks v (was.Done (asked.Sync p) ∷ h) (apart, vacant) honest = vacant_lacks v h vacant (before (was.Done (asked.Sync p)) h honest)
+  vacant_lacks v (was.Done asked.Barrier ∷ h) vacant honest = vacant_lacks v h vacant (before (was.Done asked.Barrier) h honest)
+  vacant_lacks v (was.Done asked.SyncAll ∷ h) vacant honest = vacant_lacks v h vacant (before (was.Done asked.SyncAll) h honest)
+  vacant_lacks v (was.Done asked.SyncRoot ∷ h) vacant honest = vacant_lacks v h vacant (before (was.Done asked.SyncRoot) h honest)
+  vacant_lacks v (was.Done (asked.Lower p) ∷ h) (apart, vacant) honest =
+      none_still (replay m h).world p v (lowered ((replay m h).world p)) apart.0 (vacant_lacks v h vacant (before (was.Done (asked.Lower p)) h honest))
+  vacant_lacks v (was.Undone a ∷ h) vacant honest = absurd vacant
+  vacant_lacks v (was.Declined a ∷ h) vacant honest = absurd vacant
+  vacant_lacks v (was.Ended call kept outcome ∷ h) vacant honest = absurd vacant
+  vacant_lacks v (was.Broke call kept ∷ h) vacant honest = absurd vacant
+  vacant_lacks v (was.Missed ∷ h) vacant honest = absurd vacant
+
+  pub vacant_below : (v p : Path) (notes : List Noted) → IsVacant v notes → IsTrue (replay m notes).honest → (v ≡ p) ⊎ IsBelow v p → (replay m notes).world p ≡ None
+  vacant_below v p notes vacant honest (inl is) = subst (λ q. (replay m notes).world q ≡ None) is (vacant_lacks v notes vacant honest)
+  vacant_below v p notes vacant honest (inr below) =
+      none_below (replay m notes).world v p (sound.tree notes honest) below (vacant_lacks v notes vacant honest)
+
 -- what was looked at on the way
 pub looked_at : {T E : Type 0} (result : Result T E) (place : List ℕ) (found : Metadata) (later earlier made : List SystemCall) → made ≡ later ++ look_call place (Some found) ∷ earlier → OnOk result (IsLookedAt place made)
 looked_at (Ok x) place found later earlier made is = (metadata_mode found, (later, earlier, is))
 looked_at (Err e) place found later earlier made is = tt
+
+-- what is below a path that is remembered is below one that is vacant
+below_vacant : {X : Type 0} (notes : List Noted) (p : Path) (o : Option X) (path : X → Path) → ForSome o (λ v. ∥ IsVacant (path v) notes ∥₁) → IsSomeAnd o (λ v. IsBelow (path v) p) → ∥ IsBelowVacant p notes ∥₁
+below_vacant notes p None path is below = absurd below
+below_vacant notes p (Some v) path is below = ∥∥₁_map (is v refl) (λ vacant. (path v, below, vacant))
+
+pub lacking : {X : Type 0} (notes : List Noted) (p q : Path) (made : List SystemCall) (o : Option X) (path : X → Path) → made ≡ [] → q ≡ p → ForSome o (λ v. ∥ IsVacant (path v) notes ∥₁) → IsSomeAnd o (λ v. IsBelow (path v) q)
+    → IsLackingBy notes p made
+lacking notes p q made o path none same is below = (none, subst (λ r. ∥ IsBelowVacant r notes ∥₁) same (below_vacant notes q o path is below))

@@ -1,5 +1,5 @@
 -- What the calls so far tell of the root that isn't looked at again.
-use Rattle.std.specs.Prelude.{◌≡◌, ◌≢◌, ◌⊎◌, List, [], ◌∷◌, Some, IsSome}
+use Rattle.std.specs.Prelude.{◌≡◌, ◌≢◌, ◌⊎◌, List, [], ◌∷◌, None, Some, IsSome}
 use Rattle.host_core.specs.Paths.{Path}
 use Rattle.host_core.specs.Tree.{IsBelow}
 use Rattle.host_core.specs.World.{IsDirectory}
@@ -74,3 +74,49 @@ IsNewBy f was.Missed before = ⊥
 abbrev pub IsNew : Path → List Noted → Type 0
 IsNew f [] = ⊥
 IsNew f (n ∷ earlier) = IsNewBy f n (IsNew f earlier)
+
+-- neither path is the other, or goes on below it
+abbrev pub IsApart : Path → Path → Type 0
+IsApart v p = (v ≢ p) × (IsBelow v p → ⊥) × (IsBelow p v → ⊥)
+
+-- a path isn't another, and doesn't go on below it
+abbrev pub IsOutside : (top p : Path) → Type 0
+IsOutside top p = (top ≢ p) × (IsBelow top p → ⊥)
+
+-- A path is vacant by a step: it was before, and the step names none at it, above it or below it.
+abbrev pub IsVacantByStep : Path → Asked → Type 0 → Type 0
+IsVacantByStep v (asked.Write p node) before = IsApart v p × before
+IsVacantByStep v (asked.Move a b) before = IsApart v a × IsApart v b × before
+IsVacantByStep v (asked.Take p) before = IsApart v p × before
+IsVacantByStep v (asked.MakeDir p access) before = IsApart v p × before
+IsVacantByStep v (asked.RemoveDir p) before = IsApart v p × before
+IsVacantByStep v (asked.HardLink a b) before = IsApart v a × IsApart v b × before
+IsVacantByStep v (asked.MakeLink p target) before = IsApart v p × before
+IsVacantByStep v (asked.Sync p) before = IsApart v p × before
+IsVacantByStep v asked.Barrier before = before
+IsVacantByStep v asked.SyncAll before = before
+IsVacantByStep v asked.SyncRoot before = before
+IsVacantByStep v (asked.Lower p) before = IsApart v p × before
+
+-- It is vacant by a call: nothing was seen there; or it was vacant before, nothing was seen at it or below it, and its names weren't
+-- asked for. After a script, a fault and a step that was declined none is.
+abbrev pub IsVacantBy : Path → Noted → Type 0 → Type 0
+IsVacantBy v (was.Looked p found) before = ((found ≡ None) × ((v ≡ p) ⊎ before)) ⊎ (IsOutside v p × before)
+IsVacantBy v (was.Seen p found) before = ((found ≡ None) × ((v ≡ p) ⊎ before)) ⊎ (IsOutside v p × before)
+IsVacantBy v (was.Listed p listing) before = (v ≢ p) × before
+IsVacantBy v (was.Compared one other same) before = before
+IsVacantBy v (was.Done a) before = IsVacantByStep v a before
+IsVacantBy v (was.Undone a) before = ⊥
+IsVacantBy v (was.Declined a) before = ⊥
+IsVacantBy v (was.Ended call kept outcome) before = ⊥
+IsVacantBy v (was.Broke call kept) before = ⊥
+IsVacantBy v was.Missed before = ⊥
+
+-- nothing stands at a path, as a look told, after these calls
+abbrev pub IsVacant : Path → List Noted → Type 0
+IsVacant v [] = ⊥
+IsVacant v (n ∷ earlier) = IsVacantBy v n (IsVacant v earlier)
+
+-- a path above this one is vacant after these calls
+abbrev pub IsBelowVacant : Path → List Noted → Type 0
+IsBelowVacant p notes = (v : Path) × IsBelow v p × IsVacant v notes

@@ -22,7 +22,7 @@ use Rattle.host_files.specs.Commands.{outcome_of}
 use Rattle.host_files.specs.Directories.{HasDirectoryOf}
 use Rattle.host_files.specs.Entries.{HasNoBytes, IsNodeOf, IsKindOf, LendsRights, LendsNothing, is_access, is_plain}
 use Rattle.host_files.specs.Places.{place_of, place_in, IsEntry}
-use Rattle.host_files.specs.Remembered.{IsNew}
+use Rattle.host_files.specs.Remembered.{IsNew, IsBelowVacant}
 use Rattle.host_files.specs.SystemCalls.{changes_in, Looks, start_call}
 use Rattle.host_files.specs.Unsynced.{IsListed, is_readable}
 use Rattle.host_files.specs.Walked.{Includes, IsWalked}
@@ -402,15 +402,19 @@ IsRunBy directory front call made (Err Device) = IsTried directory front call ma
 IsRunBy directory front call made (Err NoMemory) = changes_in made ≡ []
 IsRunBy directory front call made (Err Declined) = ⊥
 
--- what stands behind a note
-abbrev pub IsShownBy : List ℕ → List ℕ → Bool → Noted → List SystemCall → Type 0
-IsShownBy directory front owners (was.Looked p node) made = IsReadBy front owners p node made
-IsShownBy directory front owners (was.Seen p kind) made = IsSeenBy front owners p kind made
-IsShownBy directory front owners (was.Listed p listing) made = changes_in made ≡ []
-IsShownBy directory front owners (was.Compared one other same) made = changes_in made ≡ []
-IsShownBy directory front owners (was.Done a) made = IsDoneBy front owners a made
-IsShownBy directory front owners (was.Undone a) made = IsBegunBy front owners a made
-IsShownBy directory front owners (was.Declined a) made = IsDeclinedBy front owners a made
-IsShownBy directory front owners (was.Ended call kept outcome) made = IsEndedBy directory front call outcome made
-IsShownBy directory front owners (was.Broke call kept) made = IsTried directory front call made
-IsShownBy directory front owners was.Missed made = changes_in made ≡ []
+-- the system wasn't asked what stands at a path: it is below one that is vacant after these calls
+abbrev pub IsLackingBy : (earlier : List Noted) → Path → List SystemCall → Type 0
+IsLackingBy earlier p made = (made ≡ []) × ∥ IsBelowVacant p earlier ∥₁
+
+-- what stands behind a note that comes after these
+abbrev pub IsShownBy : List ℕ → List ℕ → Bool → (earlier : List Noted) → Noted → List SystemCall → Type 0
+IsShownBy directory front owners earlier (was.Looked p node) made = IsReadBy front owners p node made ⊎ ((node ≡ None) × IsLackingBy earlier p made)
+IsShownBy directory front owners earlier (was.Seen p kind) made = IsSeenBy front owners p kind made ⊎ ((kind ≡ None) × IsLackingBy earlier p made)
+IsShownBy directory front owners earlier (was.Listed p listing) made = changes_in made ≡ []
+IsShownBy directory front owners earlier (was.Compared one other same) made = changes_in made ≡ []
+IsShownBy directory front owners earlier (was.Done a) made = IsDoneBy front owners a made
+IsShownBy directory front owners earlier (was.Undone a) made = IsBegunBy front owners a made
+IsShownBy directory front owners earlier (was.Declined a) made = IsDeclinedBy front owners a made
+IsShownBy directory front owners earlier (was.Ended call kept outcome) made = IsEndedBy directory front call outcome made
+IsShownBy directory front owners earlier (was.Broke call kept) made = IsTried directory front call made
+IsShownBy directory front owners earlier was.Missed made = changes_in made ≡ []

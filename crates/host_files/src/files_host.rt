@@ -2,7 +2,7 @@
 ghost use Rattle.std.specs.Prelude.{◌≡◌, ◌<◌, IsTrue, is_some, string_bytes, true};
 ghost use Rattle.std.specs.Option.{ForSome};
 ghost use Rattle.host_core.specs.Unsynced.{IsSettled};
-ghost use Rattle.host_files.specs.Remembered.{IsKnown, IsNew};
+ghost use Rattle.host_files.specs.Remembered.{IsKnown, IsNew, IsVacant};
 ghost use Rattle.host_core.specs.World.{place_of};
 ghost use Rattle.host_files.specs.Notes.{asked_by};
 ghost use Rattle.host_files.specs.Replay.{replay, step_of};
@@ -47,6 +47,7 @@ pub struct FilesHost<D: Disk> {
     ghost settled: { IsTrue (replay D.Disk.model told.log.notes).honest → IsSettled (replay D.Disk.model told.log.notes).events },
     ghost known: { ForSome root.remembered.directory (λ s. ∥ IsKnown (string_bytes s) told.log.notes ∥₁) },
     ghost last: { ForSome root.remembered.file (λ f. ∥ IsNew f told.log.notes ∥₁) },
+    ghost vacant: { ForSome root.remembered.vacant (λ v. ∥ IsVacant v told.log.notes ∥₁) },
 }
 
 // the longest directory that leaves room for every path below it
@@ -218,8 +219,8 @@ impl<D: Disk> FilesHost<D> {
     fn note(&mut self, note: &Note<'_>)
         requires plain { IsPlain (noted note.now) }
         requires shown { IsShownBy (string_bytes self.old.root.directory)
-            (string_bytes self.old.root.front) self.old.root.owners (noted note.now)
-            self.old.system.trace.calls }
+            (string_bytes self.old.root.front) self.old.root.owners self.old.told.log.notes
+            (noted note.now) self.old.system.trace.calls }
         requires owed { IsTrue (replay D.Disk.model self.old.told.log.notes).honest
             → IsOwed (replay D.Disk.model self.old.told.log.notes).events (noted note.now) }
         ensures notes { self.new.told.log.notes ≡ noted note.now ∷ self.old.told.log.notes }
@@ -233,8 +234,8 @@ impl<D: Disk> FilesHost<D> {
         requires undeclined { IsUndeclined fault }
         requires fault { IsNotedFault (noted note.now) }
         requires shown { fault ≡ Device → IsShownBy (string_bytes self.old.root.directory)
-            (string_bytes self.old.root.front) self.old.root.owners (noted note.now)
-            self.old.system.trace.calls }
+            (string_bytes self.old.root.front) self.old.root.owners self.old.told.log.notes
+            (noted note.now) self.old.system.trace.calls }
         requires unchanged { fault ≡ NoMemory → changes_in self.old.system.trace.calls ≡ [] }
         requires owed { IsTrue (replay D.Disk.model self.old.told.log.notes).honest
             → IsOwed (replay D.Disk.model self.old.told.log.notes).events (noted note.now) }
@@ -329,6 +330,10 @@ impl<D: Disk> Host for FilesHost<D> {
     fn node(&mut self, path: &RootPath) -> Result<Option<Node>, HostFault> {
         self.told.guard()?;
         self.system.begin_open();
+        if self.root.remembered.lacks(path.as_str()) {
+            self.note(&Note::Looked(path, &None));
+            return Ok(None);
+        }
         match node_at(&mut self.system, &self.root, path) {
             Ok(node) => {
                 self.note(&Note::Looked(path, &node));
@@ -356,6 +361,10 @@ impl<D: Disk> Host for FilesHost<D> {
     fn kind(&mut self, path: &RootPath) -> Result<Option<Kind>, HostFault> {
         self.told.guard()?;
         self.system.begin_open();
+        if self.root.remembered.lacks(path.as_str()) {
+            self.note(&Note::Seen(path, None));
+            return Ok(None);
+        }
         match kind_at(&mut self.system, &self.root, path) {
             Ok(kind) => {
                 self.note(&Note::Seen(path, kind));

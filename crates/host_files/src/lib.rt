@@ -18,19 +18,22 @@
 //! below the root (`IsWalked`).
 //!
 //! That nothing stands at a path is told only where the last look told nothing there, or that no
-//! directory stands above it (`IsAbsentBy`). The rights that a file lends are taken by what is open
-//! of it, and where the program is told of owners it is left as it is only where a look told that it
-//! lends none (`HasLowered`).
+//! directory stands above it (`IsAbsentBy`), or where a call before told that nothing stands above it
+//! (`IsLackingBy`). The rights that a file lends are taken by what is open of it, and where the
+//! program is told of owners it is left as it is only where a look told that it lends none
+//! (`HasLowered`).
 //!
 //! A large file is lent (`lending_limit`): it is read through once, in pieces, and once more as it is written elsewhere or
 //! compared. That its bytes are then the same is supposed, as what the directory holds is.
 //!
 //! What it doesn't look at again is tied to the record of its calls: the directory that it
 //! remembers is known by them (`IsKnown`: seen, or above what was seen or made, and no script,
-//! fault or step at it since), the file that it takes for the last one written is that (`IsNew`),
+//! fault or step at it since), the path below which it doesn't look is vacant by them (`IsVacant`:
+//! nothing was seen there, and since then no script or fault, no step at it, above it or below it,
+//! and nothing that was seen), the file that it takes for the last one written is that (`IsNew`),
 //! and what a step moves or syncs was seen in that call or is that file (`IsSure`). In each account
-//! that fits the answers such a directory is one and such a file stands
-//! (`what_is_remembered_stands`).
+//! that fits the answers such a directory is one, nothing stands at such a path or below it, and such
+//! a file stands (`what_is_remembered_stands`).
 #![tactic(auto)]
 
 mod changed;

@@ -328,15 +328,18 @@ fn look_at_loose(system: &mut System, place: &str) -> Result<Metadata, HostFault
     }
 }
 
-// The system does nothing where both are names of one file.
+// The system does nothing where both are names of one file. A file that has one name isn't looked at by another.
 fn rename_file(system: &mut System, from: &str, to: &str) -> Result<(), HostFault>
     requires begun { system.old.trace.calls ≡ [] }
     ensures step { IsRenamedBy from.now to.now system.new.trace.calls result }
     ensures sure { OnOk result (IsLookedAt from.now system.new.trace.calls) }
 {
     let moved = look_at_loose(system, from)?;
+    if from == to || moved.nlink() < 2 {
+        return system.rename(from, to);
+    }
     let over = system.look(to)?;
-    if from != to && is_same_file(&moved, &over) {
+    if is_same_file(&moved, &over) {
         system.unlink(from)
     } else {
         system.rename(from, to)

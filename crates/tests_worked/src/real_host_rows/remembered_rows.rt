@@ -1,20 +1,23 @@
-// What a host remembers is forgotten once it may be otherwise: a script ran, a directory was removed, a file got a second name.
+// What a host remembers is forgotten once it may be otherwise: a script ran, a directory was made or removed, a file got a second
+// name, a fault was told.
 use super::{NEW_DIRECTORY, RealHost, fault_text, path_of, shell};
 use host_core::{Call, Host, HostFault, Keep, Outcome, Places, RootPath, Script, Side};
 use host_files::FilesHost;
 use std::alloc::{AllocError, Global};
-use std::fs;
 use std::test::Fail;
+use std::{fs, io};
 use texts::{Text, Texts};
 
-// One script puts a link to a directory outside in the place of one inside, the other removes what was just written.
+// One script puts a link to a directory outside in the place of one inside, one removes what was just written, and one makes a
+// directory.
 const ROOT: &str = "mkdir outside root/taken root/other
 echo kept >outside/file
 echo one >root/taken/file
 echo two >root/other/file
 printf '#!/bin/sh\\nmv taken moved\\nln -s ../outside taken\\n' >root/replace
 printf '#!/bin/sh\\nrm written.dpkg-inst\\n' >root/remove
-chmod 755 root/replace root/remove";
+printf '#!/bin/sh\\nmkdir grown\\necho three >grown/file\\n' >root/grow
+chmod 755 root/replace root/remove root/grow";
 
 fn outcome_text(alloc: Global, outcome: Outcome) -> Result<String, AllocError> {
     match outcome {
@@ -48,7 +51,7 @@ fn told(alloc: Global, host: &mut RealHost, asked: Asked) -> Result<String, Host
     }
 }
 
-// Calls, and what the host answers.
+// Calls, and what the host answers. Lines of shell change the root beside it.
 const CALLS: &[(Asked, &str)] = &[
     (("kind", "/taken/file", ""), "file"),
     (("run", "/replace", ""), "exit 0"),
@@ -69,13 +72,54 @@ const CALLS: &[(Asked, &str)] = &[
     (("link", "/new.dpkg-inst", "/second"), "done"),
     (("move", "/new.dpkg-inst", "/second"), "done"),
     (("kind", "/new.dpkg-inst", ""), "nothing"),
+    (("kind", "/grown", ""), "nothing"),
+    (("kind", "/grown/file", ""), "nothing"),
+    (("run", "/grow", ""), "exit 0"),
+    (("kind", "/grown/file", ""), "file"),
+    (("kind", "/fresh", ""), "nothing"),
+    (("kind", "/fresh/file.dpkg-inst", ""), "nothing"),
+    (("make", "/fresh", ""), "done"),
+    (("write", "/fresh/file.dpkg-inst", ""), "done"),
+    (("kind", "/fresh/file.dpkg-inst", ""), "file"),
+    (("kind", "/late", ""), "nothing"),
+    (
+        (
+            "shell",
+            "mkdir root/late root/later; echo four >root/late/file; echo five >root/later/file",
+            "",
+        ),
+        "",
+    ),
+    (("kind", "/late/file", ""), "nothing"),
+    (("kind", "/later/file", ""), "file"),
+    (("write", "/absent/file.dpkg-inst", ""), "Device"),
+    (("kind", "/late/file", ""), "file"),
 ];
 
-fn check(rt: &HostRuntime, host: &mut RealHost, asked: Asked, row: &str) -> Result<(), Fail> {
-    let answer = match told(rt.alloc(), host, asked) {
-        Ok(answer) => answer,
-        Err(fault) => String::from_str(rt.alloc(), fault_text(fault))?,
-    };
+fn answer(
+    rt: &HostRuntime,
+    host: &mut RealHost,
+    directory: &str,
+    asked: Asked,
+) -> io::Result<String> {
+    let (word, lines, _) = asked;
+    match word {
+        "shell" => shell(rt, lines, directory),
+        _ => match told(rt.alloc(), host, asked) {
+            Ok(answer) => Ok(answer),
+            Err(fault) => Ok(String::from_str(rt.alloc(), fault_text(fault))?),
+        },
+    }
+}
+
+fn check(
+    rt: &HostRuntime,
+    host: &mut RealHost,
+    directory: &str,
+    asked: Asked,
+    row: &str,
+) -> Result<(), Fail> {
+    let answer = answer(rt, host, directory, asked)?;
     let (word, path, _) = asked;
     match answer.as_str() == row {
         true => Ok(()),
@@ -91,7 +135,7 @@ fn what_is_remembered_is_forgotten(rt: HostRuntime) -> Result<(), Fail> {
     let root = format!(in rt.alloc(); "{directory}/root")?;
     let mut host = FilesHost::open(rt, root.as_str())?;
     for (asked, row) in CALLS {
-        check(&rt, &mut host, *asked, row)?;
+        check(&rt, &mut host, directory, *asked, row)?;
     }
     let left = shell(
         &rt,
@@ -99,6 +143,11 @@ fn what_is_remembered_is_forgotten(rt: HostRuntime) -> Result<(), Fail> {
         directory,
     )?;
     let row = "outside/file f
+root/fresh/file.dpkg-inst f
+root/grow f
+root/grown/file f
+root/late/file f
+root/later/file f
 root/made l
 root/moved/file f
 root/other/file f

@@ -31,6 +31,10 @@ pub returns-then-is_same_file-clause-sure : goal.returns-then-is_same_file-claus
 returns-then-is_same_file-clause-sure c = looked_at c.unlink.result c.args.from.now c.in_ok-moved.moved (Unlink c.args.from.now ∷ look_call c.args.to.now c.in_ok-over.over ∷ []) c.args.system.now.trace.calls c.unlink.new.self.trace.calls
     (c.unlink.ensures.made ∙ ap (λ l. Unlink c.args.from.now ∷ l) (c.in_ok-over.ensures.ok ∙ ap (λ l. look_call c.args.to.now c.in_ok-over.over ∷ l) c.in_ok-moved.ensures.ok))
 
-pub returns-else-ne-clause-sure : goal.returns-else-ne-clause-sure
-returns-else-ne-clause-sure c = looked_at c.rename.result c.args.from.now c.in_ok-moved.moved (Rename c.args.from.now c.args.to.now ∷ look_call c.args.to.now c.in_ok-over.over ∷ []) c.args.system.now.trace.calls c.rename.new.self.trace.calls
-    (c.rename.ensures.made ∙ ap (λ l. Rename c.args.from.now c.args.to.now ∷ l) (c.in_ok-over.ensures.ok ∙ ap (λ l. look_call c.args.to.now c.in_ok-over.over ∷ l) c.in_ok-moved.ensures.ok))
+pub returns-else-is_same_file-clause-sure : goal.returns-else-is_same_file-clause-sure
+returns-else-is_same_file-clause-sure c = looked_at c.rename-else-is_same_file.result c.args.from.now c.in_ok-moved.moved (Rename c.args.from.now c.args.to.now ∷ look_call c.args.to.now c.in_ok-over.over ∷ []) c.args.system.now.trace.calls c.rename-else-is_same_file.new.self.trace.calls
+    (c.rename-else-is_same_file.ensures.made ∙ ap (λ l. Rename c.args.from.now c.args.to.now ∷ l) (c.in_ok-over.ensures.ok ∙ ap (λ l. look_call c.args.to.now c.in_ok-over.over ∷ l) c.in_ok-moved.ensures.ok))
+
+pub returns-then-eq-clause-sure : goal.returns-then-eq-clause-sure
+returns-then-eq-clause-sure c = looked_at c.rename.result c.args.from.now c.in_ok-moved.moved (Rename c.args.from.now c.args.to.now ∷ []) c.args.system.now.trace.calls c.rename.new.self.trace.calls
+    (c.rename.ensures.made ∙ ap (λ l. Rename c.args.from.now c.args.to.now ∷ l) c.in_ok-moved.ensures.ok)

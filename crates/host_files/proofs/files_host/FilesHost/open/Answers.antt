@@ -9,4 +9,5 @@ invariant_of-result g c = record {
   settled = settled_start g.D.Disk.model c.new-in-Ok-4.result.log.notes c.new-in-Ok-4.ensures.notes;
   known = λ s is. nothing c.in_ok-root.root.remembered.directory s c.in_ok-root.ensures.known is;
   last = λ f is. nothing c.in_ok-root.root.remembered.file f c.in_ok-root.ensures.new is;
+  vacant = λ v is. nothing c.in_ok-root.root.remembered.vacant v c.in_ok-root.ensures.vacant is;
 }
