@@ -11,3 +11,4 @@ pub mod TakenUp
 pub mod Ours
 pub mod Around
 pub mod Chained
+pub mod Frames

@@ -33,7 +33,7 @@ in_contains [] x there = absurd there
 in_contains (y ∷ xs) x (inl e) = (zero, omega arith, e)
 in_contains (y ∷ xs) x (inr there) = (let more = in_contains xs x there in (suc more.0, omega (arith, more.1), more.2))
 
-contains_any : {X : Type 0} (p : X → Bool) (xs : List X) (x : X) → Contains xs x → p x ≡ true → list_any p xs ≡ true
+pub contains_any : {X : Type 0} (p : X → Bool) (xs : List X) (x : X) → Contains xs x → p x ≡ true → list_any p xs ≡ true
 contains_any p [] x has on = absurd (omega (arith, has.1))
 contains_any p (y ∷ xs) x (zero, lt, e) on = or_left (p y) (list_any p xs) (ap p e ∙ on)
 contains_any p (y ∷ xs) x (suc k, lt, e) on = or_right (p y) (list_any p xs) (contains_any p xs x (k, omega (arith, lt), e) on)

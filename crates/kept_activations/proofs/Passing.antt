@@ -110,7 +110,7 @@ record Processes (us : List AUnit) (before after : Held) : Type 0 where
   kept : (owner trigger : List ℕ) → IsPending before.records.records owner trigger → IsKept after.records.records us owner trigger
   unfinished : (owner : List ℕ) → IsUnfinished before.records.records owner → IsUnfinished after.records.records owner
 
-other_name : (name owner : List ℕ) → bytes_eq name owner ≡ false → owner ≢ name
+pub other_name : (name owner : List ℕ) → bytes_eq name owner ≡ false → owner ≢ name
 other_name name owner e = λ same. absurd (true≢false (sym ((bytes_eq-Decides name owner).1 (sym same)) ∙ e))
 
 unit_processes : (name : List ℕ) (before after : Held) (u : AUnit) (s t : State) → IsUnitOf name before after u s t → Processes (u ∷ []) before after

@@ -26,6 +26,10 @@ pub record Moment : Type 0 where
 abbrev pub IsTold : List AUnit → List ℕ → Type 0
 IsTold us owner = is_among (names_told us) owner ≡ true
 
+-- what was pending is so still, but for packages that one of these units tells
+abbrev pub KeepsUntold : List AUnit → List Record → List Record → Type 0
+KeepsUntold us old new = (owner trigger : List ℕ) → IsPending old owner trigger → IsPending new owner trigger ⊎ IsTold us owner
+
 -- What was pending is so still, but for packages that one of these units tells, and those that are less than installed now.
 abbrev pub LeavesPending : List AUnit → List Record → List Record → Type 0
 LeavesPending us old new = (owner trigger : List ℕ) → IsPending old owner trigger → IsPending new owner trigger ⊎ (IsTold us owner ⊎ IsUnfinished new owner)

@@ -1,45 +1,41 @@
 // No activation is lost, by one command and by several.
-ghost use Rattle.std.specs.Prelude.{◌≡◌, ◌⊎◌, ◌||◌, ℕ, true, IsTrue, List, None};
+ghost use Rattle.std.specs.Prelude.{◌≡◌, ◌⊎◌, ◌||◌, ℕ, true, List};
 ghost use Rattle.host_core.specs.Host.{State};
 ghost use Rattle.trigger_journal.specs.Asked.{is_asked, is_found};
 ghost use Rattle.trigger_journal.specs.Requests.{requests_of};
-ghost use Rattle.command_line.specs.Triggering.{IsAround, touched_of};
+ghost use Rattle.command_line.specs.Triggering.{touched_of};
 ghost use Rattle.unit_reports.specs.Held.{Held};
 ghost use Rattle.unit_reports.specs.declared.report.Unit.{Unit as AUnit};
-ghost use Rattle.kept_activations.specs.Commands.{Command as ACommand, Commands as AreCommands, IsCarried, IsCausedBy, IsEnded, IsSettledBy, IsSettledIn, Moment as AMoment, ended_one};
+ghost use Rattle.kept_activations.specs.Commands.{Command as ACommand, Commands as AreCommands, IsCarried, IsCarriedOut, IsCausedBy, IsEnded, IsSettledBy, IsSettledIn, Moment as AMoment, ended_one};
 ghost use Rattle.kept_activations.specs.Hitting.{IsHit};
-ghost use Rattle.kept_activations.specs.Known.{Triggered as ATriggered, Triggering as ATriggering};
+ghost use Rattle.kept_activations.specs.Known.{Known as IsKnown, Triggered as ATriggered, Triggering as ATriggering};
 ghost use Rattle.kept_activations.specs.Pending.{IsInterested, IsPending};
 ghost use Rattle.kept_activations.specs.Processing.{IsKept};
 
 use trigger_journal::what_is_written_ahead_is_asked_for;
 
-/// Behind a command of which nothing was broken off, each trigger that a unit of it hit is kept for each package that was installed and
-/// interested in it when that was noted: it is pending; or the command has processed it; or the package is left half-configured. So
-/// it is with each that the journal had before the units, or that others ask for in it behind them, and with each that was pending
-/// behind the units.
+/// Behind the units of a command of which nothing was broken off (of `IsAround`: `triggered`), each trigger that one of them hit is kept
+/// for each package that was installed and interested in it when that was noted: it is pending; or the command has processed it; or the
+/// package is left half-configured. So it is with each that the journal had before the units, or that others ask for in it behind them,
+/// and with each that was pending behind the units.
 pub fn no_activation_of_a_command_is_lost()
-    ensures hit { (t : ATriggering) (us : List AUnit) (Run : Held → State → State → Type 0)
-        (came : ATriggered) (before after : Held) (s end : State) (owner trigger : List ℕ)
-        → (a : IsAround t us None Run came before after s end)
-        → came.noted.last ≡ None → came.processed.last ≡ None → IsTrue end.honest
-        → IsInterested a.done.world a.mid.records.records owner trigger
-        → IsHit a.done.world a.mid.lists t.by_files a.known.watch.before.items (touched_of us)
-        owner trigger
+    ensures hit { (t : ATriggering) (us : List AUnit) (known : IsKnown) (came : ATriggered)
+        (before after : Held) (s end : State) (owner trigger : List ℕ)
+        → IsCarriedOut t us known came before after s end
+        → IsInterested s.world before.records.records owner trigger
+        → IsHit s.world before.lists t.by_files known.watch.before.items (touched_of us) owner
+        trigger
         → IsKept after.records.records came.processed.units.items owner trigger }
-    ensures asked { (t : ATriggering) (us : List AUnit) (Run : Held → State → State → Type 0)
-        (came : ATriggered) (before after : Held) (s end : State) (owner trigger : List ℕ)
-        → (a : IsAround t us None Run came before after s end)
-        → came.noted.last ≡ None → came.processed.last ≡ None → IsTrue end.honest
-        → IsInterested a.done.world a.mid.records.records owner trigger
-        → is_found a.known.found.items trigger || is_asked (requests_of a.done.world) trigger
-        ≡ true
+    ensures asked { (t : ATriggering) (us : List AUnit) (known : IsKnown) (came : ATriggered)
+        (before after : Held) (s end : State) (owner trigger : List ℕ)
+        → IsCarriedOut t us known came before after s end
+        → IsInterested s.world before.records.records owner trigger
+        → is_found known.found.items trigger || is_asked (requests_of s.world) trigger ≡ true
         → IsKept after.records.records came.processed.units.items owner trigger }
-    ensures stays { (t : ATriggering) (us : List AUnit) (Run : Held → State → State → Type 0)
-        (came : ATriggered) (before after : Held) (s end : State) (owner trigger : List ℕ)
-        → (a : IsAround t us None Run came before after s end)
-        → came.noted.last ≡ None → came.processed.last ≡ None → IsTrue end.honest
-        → IsPending a.mid.records.records owner trigger
+    ensures stays { (t : ATriggering) (us : List AUnit) (known : IsKnown) (came : ATriggered)
+        (before after : Held) (s end : State) (owner trigger : List ℕ)
+        → IsCarriedOut t us known came before after s end
+        → IsPending before.records.records owner trigger
         → IsKept after.records.records came.processed.units.items owner trigger }
 {}
 
