@@ -8,7 +8,7 @@ use Rattle.unit_reports.specs.Held.{Held}
 use Rattle.unit_reports.specs.declared.report.Unit.{Unit as AUnit}
 use Rattle.command_line.specs.Triggering.{HasProcessed, touched_of}
 use Rattle.kept_activations.specs.Commands.{IsCarriedOut}
-use Rattle.kept_activations.specs.Hitting.{IsHit}
+use Rattle.kept_activations.specs.Hitting.{IsHitLast}
 use Rattle.kept_activations.specs.Known.{Known, Triggered, Triggering}
 use Rattle.kept_activations.specs.Pending.{IsInterested, IsPending}
 use Rattle.kept_activations.specs.Processing.{IsKept}
@@ -35,7 +35,7 @@ module _ (t : Triggering) (us : List AUnit) (known : Known) (came : Triggered) (
     out_stays pending =
         up.kept owner trigger (pending_stays t.by_files known (touched_of us) came.noted before out.triggered.mid s out.triggered.noting out.triggered.noted out.noted noting_honest owner trigger pending)
 
-    pub out_hit : IsInterested s.world before.records.records owner trigger → IsHit s.world before.lists t.by_files known.watch.before.items (touched_of us) owner trigger
+    pub out_hit : IsInterested s.world before.records.records owner trigger → IsHitLast s.world before.lists t.by_files known.watch.before.items (touched_of us) owner trigger
         → IsKept after.records.records came.processed.units.items owner trigger
     out_hit interested hit =
         up.kept owner trigger (hit_pending t.by_files known (touched_of us) came.noted before out.triggered.mid s out.triggered.noting out.triggered.noted out.noted noting_honest owner trigger interested hit)

@@ -1,8 +1,10 @@
 -- What is pending or asked for through commands, one after another.
-use Rattle.std.proofs.Common.{◌≡◌, ◌⊎◌, inl, inr, ◌||◌, ℕ, Bool, true, false, List, Option, Some, None, IsTrue, refl, sym, ap, subst, ◌∙◌}
+use Rattle.std.proofs.Common.{◌≡◌, ◌⊎◌, inl, inr, ◌||◌, ℕ, Bool, true, false, List, [], ◌∷◌, ◌++◌, map, Option, Some, None, IsTrue, refl, sym, ap, subst, ◌∙◌}
 use Rattle.std.proofs.lemmas.Bool.{true≢false, or_left}
+use Rattle.std.proofs.lemmas.List.{map-append}
 use Rattle.host_core.specs.Host.{Falls, State}
 use Rattle.host_core.specs.World.{World}
+use Rattle.record_changes.specs.Activated.{has_name, pending_text}
 use Rattle.status_records.specs.Records.{record_in}
 use Rattle.status_records.specs.Words.{is_installed}
 use Rattle.status_records.specs.declared.record.Record.{Record}
@@ -11,17 +13,23 @@ use Rattle.trigger_journal.specs.Read.{AddsRequests, IsEachFound}
 use Rattle.trigger_journal.specs.Requests.{requests_of}
 use Rattle.trigger_journal.specs.declared.requests.Request.{Request}
 use Rattle.unit_reports.specs.Held.{Held}
+use Rattle.trigger_turns.specs.Turns.{names_told, names_touched}
+use Rattle.trigger_watch.specs.Names.{is_among}
+use Rattle.trigger_watch.specs.declared.touching.Touch.{Touch}
 use Rattle.unit_reports.specs.declared.report.Report.{Report}
+use Rattle.unit_reports.specs.declared.report.Touched.{Touched}
 use Rattle.unit_reports.specs.declared.report.Unit.{Unit as AUnit}
-use Rattle.command_line.specs.Triggering.{HasNoted, touched_of}
-use Rattle.kept_activations.specs.Commands.{Command, Commands, IsBegun, IsCarried, IsCausedBy, IsEnded, IsSettledBy, IsSettledIn, IsStopped, IsStoppedLate, IsTold, LeavesPending, Moment}
+use Rattle.command_line.specs.Triggering.{HasNoted, touch_of, touched_by, touched_of}
+use Rattle.kept_activations.specs.Commands.{Command, Commands, IsBegun, IsCarried, IsCausedBy, IsEnded, IsSettledBy, IsSettledIn, IsStopped, IsStoppedLate, IsTakenUp, IsTold, LeavesPending, Moment}
+use Rattle.kept_activations.specs.Hitting.{IsHitLast}
 use Rattle.kept_activations.specs.Known.{Known}
 use Rattle.kept_activations.specs.Pending.{IsInterested, IsPending, IsUnfinished, has_interest}
 use Rattle.kept_activations.specs.Processing.{IsKept}
-use Rattle.kept_activations.proofs.Around.{noting_honest, out_falls, out_hit, up}
+use Rattle.kept_activations.proofs.Around.{noting_honest, out_falls, out_hit, out_stays, up}
 use Rattle.kept_activations.proofs.Changing.{one_record}
 use Rattle.kept_activations.proofs.NotedAll.{asked_pending, hit_pending, noted_falls, pending_stays}
 use Rattle.kept_activations.proofs.Ours.{begun_found, begun_keeps, found_still, known_found}
+use Rattle.kept_activations.proofs.Touching.{last_or_told}
 
 -- whether an installed package is interested, the files tell
 
@@ -41,9 +49,51 @@ interested_or_not w records owner trigger = by (record_in records owner) refl
     by None none = inr (λ is. no_record is.installed.entry (sym none ∙ is.installed.found))
     by (Some r) found = by_tests r found (is_installed r.state) (has_interest w owner trigger) refl refl
 
+-- and whether it is pending, the records
+
+pending_or_not : (records : List Record) (owner trigger : List ℕ) → IsPending records owner trigger ⊎ (IsPending records owner trigger → ⊥)
+pending_or_not records owner trigger = by (record_in records owner) refl
+  where
+    by_tests : (r : Record) → record_in records owner ≡ Some r → (a b : Bool) → is_installed r.state ≡ a → has_name (pending_text r.triggers.pending) trigger ≡ b → IsPending records owner trigger ⊎ (IsPending records owner trigger → ⊥)
+    by_tests r found true true installed named = inl (record { entry = r; found = found; installed = installed; named = named })
+    by_tests r found true false installed other =
+        inr (λ is. true≢false (sym is.named ∙ ap (λ (x : Record). has_name (pending_text x.triggers.pending) trigger) (one_record is.entry r (record_in records owner) is.found found) ∙ other))
+    by_tests r found false b less named =
+        inr (λ is. true≢false (sym is.installed ∙ ap (λ (x : Record). is_installed x.state) (one_record is.entry r (record_in records owner) is.found found) ∙ less))
+
+    by : (o : Option Record) → record_in records owner ≡ o → IsPending records owner trigger ⊎ (IsPending records owner trigger → ⊥)
+    by None none = inr (λ is. no_record is.entry (sym none ∙ is.found))
+    by (Some r) found = by_tests r found (is_installed r.state) (has_name (pending_text r.triggers.pending) trigger) refl refl
+
+-- it is pending behind units, or that was taken up, or the package is less than installed
+leaves_or_taken : (us : List AUnit) (records : List Record) (owner trigger : List ℕ) → IsPending records owner trigger ⊎ (IsTold us owner ⊎ IsUnfinished records owner)
+    → IsPending records owner trigger ⊎ (IsTakenUp us records owner trigger ⊎ IsUnfinished records owner)
+leaves_or_taken us records owner trigger (inl pending) = inl pending
+leaves_or_taken us records owner trigger (inr (inr less)) = inr (inr less)
+leaves_or_taken us records owner trigger (inr (inl told)) = by (pending_or_not records owner trigger)
+  where
+    by : IsPending records owner trigger ⊎ (IsPending records owner trigger → ⊥) → IsPending records owner trigger ⊎ (IsTakenUp us records owner trigger ⊎ IsUnfinished records owner)
+    by (inl pending) = inl pending
+    by (inr isnt) = inr (inl (told, isnt))
+
+-- the packages of touches are those that the units tell
+
+touched_packages : (ts : List Touched) → map (λ (t : Touch). t.«package») (map touch_of ts) ≡ map (λ (t : Touched). t.«package») ts
+touched_packages [] = refl
+touched_packages (t ∷ ts) = ap (λ (l : List (List ℕ)). t.«package» ∷ l) (touched_packages ts)
+
+touches_told : (us : List AUnit) → map (λ (t : Touch). t.«package») (touched_of us) ≡ names_told us
+touches_told [] = refl
+touches_told (u ∷ us) =
+    map-append (λ (t : Touch). t.«package») (touched_by u) (touched_of us) ∙ ap (λ (l : List (List ℕ)). l ++ map (λ (t : Touch). t.«package») (touched_of us)) (touched_packages u.touched.items)
+    ∙ ap (λ (l : List (List ℕ)). names_touched u ++ l) (touches_told us)
+
+told_by_touches : (us : List AUnit) (owner : List ℕ) → is_among (map (λ (t : Touch). t.«package») (touched_of us)) owner ≡ true → IsTold us owner
+told_by_touches us owner told = sym (ap (λ (l : List (List ℕ)). is_among l owner) (touches_told us)) ∙ told
+
 -- what settles it before it is noted
 abbrev IsSettledEarly : List AUnit → World → List Record → List ℕ → List ℕ → Type 0
-IsSettledEarly us w records owner trigger = IsTold us owner ⊎ (IsUnfinished records owner ⊎ (IsInterested w records owner trigger → ⊥))
+IsSettledEarly us w records owner trigger = IsTakenUp us records owner trigger ⊎ (IsUnfinished records owner ⊎ (IsInterested w records owner trigger → ⊥))
 
 module _ (by_files : Bool) (known : Known) (us : List AUnit) (noted : Report) (old : Moment) (before mid after : Held) (begun done noting : State) (first : IsBegun by_files known old before begun) (falls : Falls begun done)
     (units : LeavesPending us before.records.records mid.records.records) (notes : HasNoted by_files known (touched_of us) noted mid after done noting) (all : noted.last ≡ None) (honest : IsTrue noting.honest) (owner trigger : List ℕ) where
@@ -51,11 +101,11 @@ module _ (by_files : Bool) (known : Known) (us : List AUnit) (noted : Report) (o
   begun_honest = falls (noted_falls by_files known (touched_of us) noted mid after done noting notes all honest)
 
   notes_carried : IsCarried old owner trigger → IsPending after.records.records owner trigger ⊎ IsSettledEarly us done.world mid.records.records owner trigger
-  notes_carried (inl pending) = by (units owner trigger (subst (λ (rs : List Record). IsPending rs owner trigger) (sym first.records) pending))
+  notes_carried (inl pending) = by (leaves_or_taken us mid.records.records owner trigger (units owner trigger (subst (λ (rs : List Record). IsPending rs owner trigger) (sym first.records) pending)))
     where
-      by : IsPending mid.records.records owner trigger ⊎ (IsTold us owner ⊎ IsUnfinished mid.records.records owner) → IsPending after.records.records owner trigger ⊎ IsSettledEarly us done.world mid.records.records owner trigger
+      by : IsPending mid.records.records owner trigger ⊎ (IsTakenUp us mid.records.records owner trigger ⊎ IsUnfinished mid.records.records owner) → IsPending after.records.records owner trigger ⊎ IsSettledEarly us done.world mid.records.records owner trigger
       by (inl still) = inl (pending_stays by_files known (touched_of us) noted mid after done noting notes all honest owner trigger still)
-      by (inr (inl told)) = inr (inl told)
+      by (inr (inl taken)) = inr (inl taken)
       by (inr (inr less)) = inr (inr (inl less))
   notes_carried (inr found) = by (interested_or_not done.world mid.records.records owner trigger)
     where
@@ -89,11 +139,11 @@ module _ (old new : Moment) (owner trigger : List ℕ) where
 
   module _ (c : IsStoppedLate old new) where
     late_kept : IsPending c.after.records.records owner trigger → IsCarried new owner trigger ⊎ IsSettledBy old new (Command.stopped_late c) owner trigger
-    late_kept pending = by (c.processing owner trigger pending)
+    late_kept pending = by (leaves_or_taken c.more new.records owner trigger (c.processing owner trigger pending))
       where
-        by : IsPending new.records owner trigger ⊎ (IsTold c.more owner ⊎ IsUnfinished new.records owner) → IsCarried new owner trigger ⊎ IsSettledBy old new (Command.stopped_late c) owner trigger
+        by : IsPending new.records owner trigger ⊎ (IsTakenUp c.more new.records owner trigger ⊎ IsUnfinished new.records owner) → IsCarried new owner trigger ⊎ IsSettledBy old new (Command.stopped_late c) owner trigger
         by (inl still) = inl (inl still)
-        by (inr (inl told)) = inr (inr (inl told))
+        by (inr (inl taken)) = inr (inr (inl taken))
         by (inr (inr less)) = inr (inr (inr less))
 
     late_carried : IsCarried old owner trigger → IsCarried new owner trigger ⊎ IsSettledBy old new (Command.stopped_late c) owner trigger
@@ -105,9 +155,9 @@ module _ (old new : Moment) (owner trigger : List ℕ) where
 
   module _ (adds : (w : World) (records : List Record) (text : List ℕ) → AddsRequests w records text) (each : (w : World) (records : List Record) (text : List ℕ) → IsEachFound w records text) where
     stopped_carried : (c : IsStopped old new) → IsCarried old owner trigger → IsCarried new owner trigger ⊎ IsSettledBy old new (Command.stopped c) owner trigger
-    stopped_carried c (inl pending) = by (c.units owner trigger (subst (λ (rs : List Record). IsPending rs owner trigger) (sym c.first.records) pending))
+    stopped_carried c (inl pending) = by (leaves_or_taken c.us new.records owner trigger (c.units owner trigger (subst (λ (rs : List Record). IsPending rs owner trigger) (sym c.first.records) pending)))
       where
-        by : IsPending new.records owner trigger ⊎ (IsTold c.us owner ⊎ IsUnfinished new.records owner) → IsCarried new owner trigger ⊎ IsSettledBy old new (Command.stopped c) owner trigger
+        by : IsPending new.records owner trigger ⊎ (IsTakenUp c.us new.records owner trigger ⊎ IsUnfinished new.records owner) → IsCarried new owner trigger ⊎ IsSettledBy old new (Command.stopped c) owner trigger
         by (inl still) = inl (inl still)
         by (inr settled) = inr settled
     stopped_carried c (inr found) = inl (inr (found_still c.begun.world new.world c.journal trigger (begun_keeps adds each c.by_files c.known old c.before c.begun c.first c.honest trigger found)))
@@ -121,11 +171,38 @@ module _ (old new : Moment) (owner trigger : List ℕ) where
     command_carried (Command.stopped c) carried = stopped_carried c carried
     command_carried (Command.stopped_late c) carried = late_carried c carried
 
-    pub command_causes : (c : Command old new) → IsCausedBy old new c owner trigger → IsCarried new owner trigger ⊎ IsSettledBy old new c owner trigger
-    command_causes (Command.ended c) caused = carried_on c (ended_kept c (out_hit c.t c.us c.known c.came c.mid c.after c.done c.end c.out owner trigger caused.0 caused.1))
+    ended_causes : (c : IsEnded old new) → IsCausedBy old new (Command.ended c) trigger → IsCarried new owner trigger ⊎ IsSettledBy old new (Command.ended c) owner trigger
+    ended_causes c hit = by (last_or_told c.done.world c.mid.lists c.t.by_files c.known.watch.before.items (touched_of c.us) owner trigger hit) (interested_or_not c.done.world c.mid.records.records owner trigger)
+      where
+        by_told : IsPending c.mid.records.records owner trigger ⊎ (IsTakenUp c.us c.mid.records.records owner trigger ⊎ IsUnfinished c.mid.records.records owner) → IsCarried new owner trigger ⊎ IsSettledBy old new (Command.ended c) owner trigger
+        by_told (inl pending) = carried_on c (ended_kept c (out_stays c.t c.us c.known c.came c.mid c.after c.done c.end c.out owner trigger pending))
+        by_told (inr (inl taken)) = inr (inl (inl taken))
+        by_told (inr (inr less)) = inr (inl (inr (inl less)))
+
+        by : IsHitLast c.done.world c.mid.lists c.t.by_files c.known.watch.before.items (touched_of c.us) owner trigger ⊎ (is_among (map (λ (t : Touch). t.«package») (touched_of c.us)) owner ≡ true)
+            → IsInterested c.done.world c.mid.records.records owner trigger ⊎ (IsInterested c.done.world c.mid.records.records owner trigger → ⊥) → IsCarried new owner trigger ⊎ IsSettledBy old new (Command.ended c) owner trigger
+        by (inr told) any = by_told (leaves_or_taken c.us c.mid.records.records owner trigger (inr (inl (told_by_touches c.us owner told))))
+        by (inl last) (inl is) = carried_on c (ended_kept c (out_hit c.t c.us c.known c.came c.mid c.after c.done c.end c.out owner trigger is last))
+        by (inl last) (inr isnt) = inr (inl (inr (inr isnt)))
+
+    late_causes : (c : IsStoppedLate old new) → IsCausedBy old new (Command.stopped_late c) trigger → IsCarried new owner trigger ⊎ IsSettledBy old new (Command.stopped_late c) owner trigger
+    late_causes c hit = by (last_or_told c.done.world c.mid.lists c.by_files c.known.watch.before.items (touched_of c.us) owner trigger hit) (interested_or_not c.done.world c.mid.records.records owner trigger)
+      where
+        by_told : IsPending c.mid.records.records owner trigger ⊎ (IsTakenUp c.us c.mid.records.records owner trigger ⊎ IsUnfinished c.mid.records.records owner) → IsCarried new owner trigger ⊎ IsSettledBy old new (Command.stopped_late c) owner trigger
+        by_told (inl pending) = late_kept c (pending_stays c.by_files c.known (touched_of c.us) c.noted c.mid c.after c.done c.noting c.notes c.all c.honest owner trigger pending)
+        by_told (inr (inl taken)) = inr (inl (inl taken))
+        by_told (inr (inr less)) = inr (inl (inr (inl less)))
+
+        by : IsHitLast c.done.world c.mid.lists c.by_files c.known.watch.before.items (touched_of c.us) owner trigger ⊎ (is_among (map (λ (t : Touch). t.«package») (touched_of c.us)) owner ≡ true)
+            → IsInterested c.done.world c.mid.records.records owner trigger ⊎ (IsInterested c.done.world c.mid.records.records owner trigger → ⊥) → IsCarried new owner trigger ⊎ IsSettledBy old new (Command.stopped_late c) owner trigger
+        by (inr told) any = by_told (leaves_or_taken c.us c.mid.records.records owner trigger (inr (inl (told_by_touches c.us owner told))))
+        by (inl last) (inl is) = late_kept c (hit_pending c.by_files c.known (touched_of c.us) c.noted c.mid c.after c.done c.noting c.notes c.all c.honest owner trigger is last)
+        by (inl last) (inr isnt) = inr (inl (inr (inr isnt)))
+
+    pub command_causes : (c : Command old new) → IsCausedBy old new c trigger → IsCarried new owner trigger ⊎ IsSettledBy old new c owner trigger
+    command_causes (Command.ended c) caused = ended_causes c caused
     command_causes (Command.stopped c) caused = inl (inr (found_still c.begun.world new.world c.journal trigger (begun_found adds each c.by_files c.known old c.before c.begun c.first c.honest caused.1 caused.0 trigger)))
-    command_causes (Command.stopped_late c) caused =
-        late_kept c (hit_pending c.by_files c.known (touched_of c.us) c.noted c.mid c.after c.done c.noting c.notes c.all c.honest owner trigger caused.0 caused.1)
+    command_causes (Command.stopped_late c) caused = late_causes c caused
 
 -- command after command
 

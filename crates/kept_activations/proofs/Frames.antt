@@ -31,6 +31,7 @@ use Rattle.removal_run.specs.declared.options.RemovalOptions.{RemovalOptions}
 use Rattle.unpack_relations.specs.declared.checking.Checked.TheVariants.{Planned, Refused}
 use Rattle.unpack_relations.specs.declared.beside.Beside.{Beside}
 use Rattle.unpack_relations.specs.declared.options.UnpackOptions.{UnpackOptions}
+use Rattle.dpkg_session.specs.Installs.{IsInstall, packages_done}
 use Rattle.dpkg_session.specs.Overriding.{taken_with}
 use Rattle.dpkg_session.specs.Rereading.{with_ways}
 use Rattle.dpkg_session.specs.Run.{IsRun}
@@ -128,7 +129,7 @@ pub removed_keep : (names : List (List ℕ)) (options : RemovalOptions) (us : Li
 removed_keep names options us before after s t run =
     let runs = run.runs in
     let keeps = turns_keep (removing.IsTurn options runs.packages) (λ q h u later g m n turn. keeps_named turn.name u h.records.records g.records.records turn.others (touched_one u g.records.records turn.name turn.is.is.answers.touched))
-        (waiting_for options.extents names before) before s runs.removed runs.waiting after t runs.turns in
+    (waiting_for options.extents names before) before s runs.removed runs.waiting after t runs.turns in
     subst (λ (vs : List AUnit). KeepsUntold vs before.records.records after.records.records) (sym runs.units)
     (keeps_right run.refused (runs.removed ++ runs.left) before.records.records after.records.records (keeps_left runs.removed runs.left before.records.records after.records.records keeps))
 
@@ -183,6 +184,13 @@ unpacked_keep allowed [] (u ∷ us) before after s t run = absurd run
 unpacked_keep allowed (c ∷ cs) [] before after s t run = absurd run
 unpacked_keep allowed (c ∷ cs) (u ∷ us) before after s t (m, mid, unit, rest) =
     keeps_then (u ∷ []) us before.records.records mid.records.records after.records.records (unpacked_one allowed c.label c.tree before mid u s m unit.is) (unpacked_keep allowed cs us mid after m t rest)
+
+pub installed_keep : (allowed : UnpackOptions) (cs : List Candidate) (options : ConfigureOptions) (unpacked configured : List AUnit) (before after : Held) (s t : State) → IsInstall allowed cs options unpacked configured before after s t
+    → KeepsUntold (unpacked ++ configured) before.records.records after.records.records
+installed_keep allowed cs options unpacked configured before after s t is =
+    let behind = is.configures in
+    keeps_then unpacked configured before.records.records is.mid.records.records after.records.records (unpacked_keep allowed cs unpacked before is.mid s is.m is.unpacks)
+    (configured_keep (packages_done cs unpacked) options configured (with_ways is.mid behind.0) after behind.1 t behind.3)
 
 -- that is what is assumed of units
 pub keeps_leaves : (us : List AUnit) (old new : List Record) → KeepsUntold us old new → (owner trigger : List ℕ) → IsPending old owner trigger → IsPending new owner trigger ⊎ (IsTold us owner ⊎ IsUnfinished new owner)

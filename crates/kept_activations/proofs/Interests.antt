@@ -111,8 +111,8 @@ told_one interests sound owner trigger one =
     let mine = kept_one test interests owner trigger one ((bytes_eq-Decides one.interest.«package» owner).1 one.owned) in
     let has : IsIn trigger (names_for interests owner) = once_in (map name (filter test interests)) trigger (one_named (filter test interests) owner trigger mine) in
     let names_sound : AllByRecursion IsSound (names_for interests owner) =
-        once_all IsSound (map name (filter test interests)) (all_map IsSound name (filter test interests) (all_filter IsSoundInterest test interests sound)) in
+    once_all IsSound (map name (filter test interests)) (all_map IsSound name (filter test interests) (all_filter IsSoundInterest test interests sound)) in
     let told = told_text owner trigger (names_for interests owner) names_sound has in
     let mentioned : IsIn owner (packages_of interests) =
-        once_in (map owned interests) owner (subst (λ (n : List ℕ). IsIn n (map owned interests)) one.owned (in_map owned interests one.interest one.there)) in
+    once_in (map owned interests) owner (subst (λ (n : List ℕ). IsIn n (map owned interests)) one.owned (in_map owned interests one.interest one.there)) in
     record { one = told.one; there = in_flat_map (activation interests) (packages_of interests) owner told.one mentioned told.there; owned = told.owned; named = told.named }

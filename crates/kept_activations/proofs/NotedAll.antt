@@ -17,7 +17,7 @@ use Rattle.unit_reports.specs.declared.report.Reply.TheVariants.{Broken}
 use Rattle.unit_reports.specs.declared.report.Report.{Report}
 use Rattle.unit_reports.specs.declared.report.Unit.{Unit as AUnit}
 use Rattle.command_line.specs.Triggering.{HasNoted, HasNotedAll, IsUnnoted}
-use Rattle.kept_activations.specs.Hitting.{IsHit}
+use Rattle.kept_activations.specs.Hitting.{IsHitLast}
 use Rattle.kept_activations.specs.Known.{Known}
 use Rattle.kept_activations.specs.Pending.{IsInterested, IsPending}
 use Rattle.kept_activations.proofs.Notes.{run_notes, run_stays, told_asked, told_hit, told_left, told_right}
@@ -48,7 +48,7 @@ module _ (by_files : Bool) (known : Known) (touched : List Touch) (noted : Repor
   pub pending_stays : IsTrue end.honest → (owner trigger : List ℕ) → IsPending before.records.records owner trigger → IsPending after.records.records owner trigger
   pending_stays honest = run_stays (hit ++ asked) before all.looked noted.units.items after end (run honest)
 
-  pub hit_pending : IsTrue end.honest → (owner trigger : List ℕ) → IsInterested s.world before.records.records owner trigger → IsHit s.world before.lists by_files known.watch.before.items touched owner trigger
+  pub hit_pending : IsTrue end.honest → (owner trigger : List ℕ) → IsInterested s.world before.records.records owner trigger → IsHitLast s.world before.lists by_files known.watch.before.items touched owner trigger
       → IsPending after.records.records owner trigger
   hit_pending honest owner trigger interested is =
       run_notes (hit ++ asked) before all.looked noted.units.items after end (run honest) owner trigger interested.installed

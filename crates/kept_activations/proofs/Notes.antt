@@ -31,7 +31,7 @@ use Rattle.dpkg_session.specs.Activated.{change_by}
 use Rattle.unit_reports.specs.Held.{Held}
 use Rattle.unit_reports.specs.declared.report.Unit.{Unit as AUnit}
 use Rattle.unit_runs.specs.Turns.{TurnsTo}
-use Rattle.kept_activations.specs.Hitting.{IsHit}
+use Rattle.kept_activations.specs.Hitting.{IsHitLast}
 use Rattle.kept_activations.specs.Pending.{IsInstalled, IsInterested, IsPending}
 use Rattle.kept_activations.proofs.Changing.{installed_stays, pending_behind, pending_stays}
 use Rattle.kept_activations.proofs.Interests.{IsOne, IsTold, interested_one, kept_one, told_one}
@@ -144,7 +144,7 @@ module _ (w : World) (records : List Record) (owner trigger : List ℕ) (interes
       told_one (filter test interests) (all_filter IsSoundInterest test interests (sound_interests w (installed records))) owner trigger
       (kept_one test interests owner trigger one (ap (λ (n : List ℕ). is_found found n || is_asked (requests_of w) n) one.named ∙ asked))
 
-  pub told_hit : (lists : List PackageList) (by_files : Bool) (watch : TriggerWatch) (touches : List Touch) → IsHit w lists by_files watch.before.items touches owner trigger
+  pub told_hit : (lists : List PackageList) (by_files : Bool) (watch : TriggerWatch) (touches : List Touch) → IsHitLast w lists by_files watch.before.items touches owner trigger
       → IsTold (activations_of w records lists by_files watch touches) owner trigger
   told_hit lists by_files watch touches hit =
       let test = is_activated (touching_hits w lists by_files watch.before.items interests touches) in

@@ -1,10 +1,11 @@
 -- What a unit hits is activated, where no unit behind it tells the interested package.
-use Rattle.std.proofs.Common.{◌≡◌, ◌+◌, ◌&&◌, ◌||◌, not, ℕ, Bool, true, false, cond, if◌then◌else◌, List, [], ◌∷◌, ◌++◌, map, filter, reverse, take, refl, sym, ap, subst, ◌∙◌, one-add}
+use Rattle.std.proofs.Common.{◌≡◌, ◌⊎◌, inl, inr, ◌+◌, ◌&&◌, ◌||◌, not, ℕ, Bool, true, false, cond, if◌then◌else◌, List, [], ◌∷◌, ◌++◌, map, filter, reverse, take, refl, sym, ap, subst, ◌∙◌, one-add}
 use Rattle.std.specs.List.{AllByRecursion, list_any, prefix_len, take_while}
 use Rattle.std.specs.Str.{bytes_eq}
 use Rattle.std.proofs.lemmas.Bool.{true≢false, and_from, or_left, or_right}
 use Rattle.std.proofs.lemmas.List.{map-append, reverse-append}
 use Rattle.std.proofs.lemmas.List.Folds.{list_any-append}
+use Rattle.std.proofs.lemmas.Slice.Eq.{bytes_eq-Decides}
 use Rattle.file_lists.specs.declared.paths.PackageList.{PackageList}
 use Rattle.host_core.specs.World.{World}
 use Rattle.trigger_interests.specs.Hits.{is_hit_among}
@@ -17,7 +18,7 @@ use Rattle.trigger_watch.specs.Touches.{hits_at, names_at, names_before, touchin
 use Rattle.trigger_watch.specs.declared.hits.Hits.{Hits}
 use Rattle.trigger_watch.specs.declared.touching.Touch.{Touch}
 use Rattle.trigger_watch.proofs.All.{all_append}
-use Rattle.kept_activations.specs.Hitting.{IsHit, IsHitBy}
+use Rattle.kept_activations.specs.Hitting.{IsHit, IsHitBy, IsHitLast}
 use Rattle.kept_activations.proofs.Interests.{IsOne, one_named}
 use Rattle.kept_activations.proofs.Members.{in_among, in_filter}
 
@@ -65,24 +66,49 @@ module _ (w : World) (lists : List PackageList) (by_files : Bool) (before : List
   all_others owner [] all = tt
   all_others owner (touch ∷ touches) all = (ap not all.0, all_others owner touches all.1)
 
-  hit_since : (owner trigger : List ℕ) (touches : List Touch) → IsOne interests owner trigger → IsHit w lists by_files before touches owner trigger
+  hit_since : (owner trigger : List ℕ) (touches : List Touch) → IsOne interests owner trigger → IsHitLast w lists by_files before touches owner trigger
       → list_any (λ h. is_among h.names trigger) (hits_since owner (touching_hits w lists by_files before interests touches)) ≡ true
   hit_since owner trigger touches one is =
       let test = λ (h : Hits). not (bytes_eq h.«package» owner) in
       let names = λ (h : Hits). is_among h.names trigger in
-      let last = map at (is.touch ∷ is.behind) in
-      let split : reverse (map at touches) ≡ reverse last ++ reverse (map at is.front) =
-          ap (λ (ts : List Touch). reverse (map at ts)) is.are ∙ ap reverse (map-append at is.front (is.touch ∷ is.behind)) ∙ reverse-append (map at is.front) last in
-      let on : names (at is.touch) ≡ true =
-          in_among (at is.touch).names trigger
-          (in_filter (is_hit (counted_paths lists (by_files && is.touch.files) is.touch.«package») (names_at w before is.touch)) (map (λ (interest : Interest). interest.name) interests) trigger (one_named interests owner trigger one) (hit_named trigger is.touch is.hit)) in
+      let last = map at (is.hits.touch ∷ is.hits.behind) in
+      let split : reverse (map at touches) ≡ reverse last ++ reverse (map at is.hits.front) =
+      ap (λ (ts : List Touch). reverse (map at ts)) is.hits.are ∙ ap reverse (map-append at is.hits.front (is.hits.touch ∷ is.hits.behind)) ∙ reverse-append (map at is.hits.front) last in
+      let on : names (at is.hits.touch) ≡ true =
+      in_among (at is.hits.touch).names trigger
+      (in_filter (is_hit (counted_paths lists (by_files && is.hits.touch.files) is.hits.touch.«package») (names_at w before is.hits.touch)) (map (λ (interest : Interest). interest.name) interests) trigger (one_named interests owner trigger one) (hit_named trigger is.hits.touch is.hits.hit)) in
       ap (λ (hs : List Hits). list_any names (take_while test hs)) split
-      ∙ taken_any test names (reverse last) (reverse (map at is.front)) (all_reverse (λ h. test h ≡ true) last (all_others owner (is.touch ∷ is.behind) is.other))
-      (last_any names (at is.touch) (map at is.behind) on)
+      ∙ taken_any test names (reverse last) (reverse (map at is.hits.front)) (all_reverse (λ h. test h ≡ true) last (all_others owner (is.hits.touch ∷ is.hits.behind) is.other))
+      (last_any names (at is.hits.touch) (map at is.hits.behind) on)
 
-  pub hit_activates : (owner trigger : List ℕ) (touches : List Touch) → (one : IsOne interests owner trigger) → IsHit w lists by_files before touches owner trigger
+  pub hit_activates : (owner trigger : List ℕ) (touches : List Touch) → (one : IsOne interests owner trigger) → IsHitLast w lists by_files before touches owner trigger
       → is_activated (touching_hits w lists by_files before interests touches) one.interest ≡ true
   hit_activates owner trigger touches one is =
       let hits = touching_hits w lists by_files before interests touches in
       ap (λ (n : List ℕ). list_any (λ (h : Hits). is_among h.names n) (hits_since one.interest.«package» hits)) one.named
       ∙ ap (λ (n : List ℕ). list_any (λ (h : Hits). is_among h.names trigger) (hits_since n hits)) one.owned ∙ hit_since owner trigger touches one is
+
+-- a unit that hits it is the last one of it, or the interested package is told by a unit
+
+not_or_among : (owner : List ℕ) (ts : List Touch) → AllByRecursion (λ t. bytes_eq t.«package» owner ≡ false) ts ⊎ (is_among (map (λ (t : Touch). t.«package») ts) owner ≡ true)
+not_or_among owner [] = inl tt
+not_or_among owner (t ∷ ts) = by (bytes_eq t.«package» owner) refl (not_or_among owner ts)
+  where
+    by : (b : Bool) → bytes_eq t.«package» owner ≡ b → AllByRecursion (λ t. bytes_eq t.«package» owner ≡ false) ts ⊎ (is_among (map (λ (x : Touch). x.«package») ts) owner ≡ true)
+        → AllByRecursion (λ t. bytes_eq t.«package» owner ≡ false) (t ∷ ts) ⊎ (is_among (map (λ (x : Touch). x.«package») (t ∷ ts)) owner ≡ true)
+    by true e rest = inr (or_left (bytes_eq owner t.«package») (is_among (map (λ (x : Touch). x.«package») ts) owner) ((bytes_eq-Decides owner t.«package»).1 (sym ((bytes_eq-Decides t.«package» owner).0 e))))
+    by false e (inl all) = inl (e, all)
+    by false e (inr among) = inr (or_right (bytes_eq owner t.«package») (is_among (map (λ (x : Touch). x.«package») ts) owner) among)
+
+pub last_or_told : (w : World) (lists : List PackageList) (by_files : Bool) (before : List Hits) (touches : List Touch) (owner trigger : List ℕ) → IsHit w lists by_files before touches trigger
+    → IsHitLast w lists by_files before touches owner trigger ⊎ (is_among (map (λ (t : Touch). t.«package») touches) owner ≡ true)
+last_or_told w lists by_files before touches owner trigger is = by (not_or_among owner (is.touch ∷ is.behind))
+  where
+    by : AllByRecursion (λ t. bytes_eq t.«package» owner ≡ false) (is.touch ∷ is.behind) ⊎ (is_among (map (λ (t : Touch). t.«package») (is.touch ∷ is.behind)) owner ≡ true)
+        → IsHitLast w lists by_files before touches owner trigger ⊎ (is_among (map (λ (t : Touch). t.«package») touches) owner ≡ true)
+    by (inl all) = inl (record { hits = is; other = all })
+    by (inr among) =
+        inr (ap (λ (ts : List Touch). is_among (map (λ (t : Touch). t.«package») ts) owner) is.are
+        ∙ ap (λ (l : List (List ℕ)). is_among l owner) (map-append (λ (t : Touch). t.«package») is.front (is.touch ∷ is.behind))
+        ∙ list_any-append (bytes_eq owner) (map (λ (t : Touch). t.«package») is.front) (map (λ (t : Touch). t.«package») (is.touch ∷ is.behind))
+        ∙ or_right (is_among (map (λ (t : Touch). t.«package») is.front) owner) (is_among (map (λ (t : Touch). t.«package») (is.touch ∷ is.behind)) owner) among)

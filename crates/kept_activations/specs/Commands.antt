@@ -22,7 +22,7 @@ pub record Moment : Type 0 where
   pub world : World
   pub records : List Record
 
--- one of these units tells the package: it unpacked, configured or removed it
+-- one of these units tells the package: it was unpacked, configured or removed, or on the way to that
 abbrev pub IsTold : List AUnit → List ℕ → Type 0
 IsTold us owner = is_among (names_told us) owner ≡ true
 
@@ -33,6 +33,10 @@ KeepsUntold us old new = (owner trigger : List ℕ) → IsPending old owner trig
 -- What was pending is so still, but for packages that one of these units tells, and those that are less than installed now.
 abbrev pub LeavesPending : List AUnit → List Record → List Record → Type 0
 LeavesPending us old new = (owner trigger : List ℕ) → IsPending old owner trigger → IsPending new owner trigger ⊎ (IsTold us owner ⊎ IsUnfinished new owner)
+
+-- A unit tells the package, and by these records behind the units the trigger isn't pending of it any more.
+abbrev pub IsTakenUp : List AUnit → List Record → List ℕ → List ℕ → Type 0
+IsTakenUp us records owner trigger = IsTold us owner × (IsPending records owner trigger → ⊥)
 
 -- What was done behind units, with nothing broken off: it was noted what these have activated, and processed. The host was honest.
 pub record IsCarriedOut (t : Triggering) (us : List AUnit) (known : Known) (came : Triggered) (before after : Held) (s end : State) : Type 0 where
@@ -116,29 +120,28 @@ pub data Commands (first : Moment) : Moment → Type 0 where
   none : Commands first first
   then : (mid last : Moment) → Commands first mid → Command mid last → Commands first last
 
--- A unit of a command hits the trigger, in which the installed package is interested. Where the command was stopped before it had noted
--- anything, this may be any trigger, if a package with files was interested in some trigger when it began, and its lines were written ahead.
-abbrev pub IsCausedBy : (old new : Moment) → Command old new → List ℕ → List ℕ → Type 0
-IsCausedBy old new (Command.ended c) owner trigger =
-    IsInterested c.done.world c.mid.records.records owner trigger × IsHit c.done.world c.mid.lists c.t.by_files c.known.watch.before.items (touched_of c.us) owner trigger
-IsCausedBy old new (Command.stopped c) owner trigger = IsSomeInterested old.world old.records × (c.first.begins.foreseen.written ≡ true)
-IsCausedBy old new (Command.stopped_late c) owner trigger =
-    IsInterested c.done.world c.mid.records.records owner trigger × IsHit c.done.world c.mid.lists c.by_files c.known.watch.before.items (touched_of c.us) owner trigger
+-- A unit of a command hits the trigger. Where the command was stopped before it had noted anything, this may be any trigger, if a package
+-- with files was interested in some trigger when it began, and its lines were written ahead.
+abbrev pub IsCausedBy : (old new : Moment) → Command old new → List ℕ → Type 0
+IsCausedBy old new (Command.ended c) trigger = IsHit c.done.world c.mid.lists c.t.by_files c.known.watch.before.items (touched_of c.us) trigger
+IsCausedBy old new (Command.stopped c) trigger = IsSomeInterested old.world old.records × (c.first.begins.foreseen.written ≡ true)
+IsCausedBy old new (Command.stopped_late c) trigger = IsHit c.done.world c.mid.lists c.by_files c.known.watch.before.items (touched_of c.us) trigger
 
 -- The trigger isn't lost at this moment: it is pending of the package, or asked for by the journal.
 abbrev pub IsCarried : Moment → List ℕ → List ℕ → Type 0
 IsCarried m owner trigger = IsPending m.records owner trigger ⊎ (is_found (requests_of m.world) trigger ≡ true)
 
--- A command has settled it. A unit of it told the package, which was unpacked, configured or removed; or the package was less than installed
--- then; or its triggers were processed, this one among them; or it wasn't installed, or not interested any more, when it was noted what is pending.
+-- A command has settled it. A unit of it told the package, of which it isn't pending any more; or the package was less than installed
+-- behind the units, or not installed and interested, when it was noted what is pending; or its triggers were processed, this one among
+-- them; or it is less than installed in the end.
 abbrev pub IsSettledBy : (old new : Moment) → Command old new → List ℕ → List ℕ → Type 0
 IsSettledBy old new (Command.ended c) owner trigger =
-    (IsTold c.us owner ⊎ (IsUnfinished c.mid.records.records owner ⊎ (IsInterested c.done.world c.mid.records.records owner trigger → ⊥)))
+    (IsTakenUp c.us c.mid.records.records owner trigger ⊎ (IsUnfinished c.mid.records.records owner ⊎ (IsInterested c.done.world c.mid.records.records owner trigger → ⊥)))
     ⊎ (IsProcessed c.came.processed.units.items owner trigger ⊎ IsUnfinished new.records owner)
-IsSettledBy old new (Command.stopped c) owner trigger = IsTold c.us owner ⊎ IsUnfinished new.records owner
+IsSettledBy old new (Command.stopped c) owner trigger = IsTakenUp c.us new.records owner trigger ⊎ IsUnfinished new.records owner
 IsSettledBy old new (Command.stopped_late c) owner trigger =
-    (IsTold c.us owner ⊎ (IsUnfinished c.mid.records.records owner ⊎ (IsInterested c.done.world c.mid.records.records owner trigger → ⊥)))
-    ⊎ (IsTold c.more owner ⊎ IsUnfinished new.records owner)
+    (IsTakenUp c.us c.mid.records.records owner trigger ⊎ (IsUnfinished c.mid.records.records owner ⊎ (IsInterested c.done.world c.mid.records.records owner trigger → ⊥)))
+    ⊎ (IsTakenUp c.more new.records owner trigger ⊎ IsUnfinished new.records owner)
 
 -- one of these commands has
 abbrev pub IsSettledIn : (first last : Moment) → Commands first last → List ℕ → List ℕ → Type 0

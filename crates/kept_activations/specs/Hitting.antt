@@ -19,11 +19,15 @@ pub data IsHitBy (w : World) (lists : List PackageList) (by_files : Bool) (befor
   by_name : is_among (activations_of w touch.«package») trigger ≡ true → IsHitBy w lists by_files before trigger touch
   as_before : touch.files ≡ true → is_among (names_before before touch.«package») trigger ≡ true → IsHitBy w lists by_files before trigger touch
 
--- one of the units hits it, and neither that one nor one behind it is of the interested package
-pub record IsHit (w : World) (lists : List PackageList) (by_files : Bool) (before : List Hits) (touches : List Touch) (owner trigger : List ℕ) : Type 0 where
+-- one of the units, in their order, hits it
+pub record IsHit (w : World) (lists : List PackageList) (by_files : Bool) (before : List Hits) (touches : List Touch) (trigger : List ℕ) : Type 0 where
   pub front : List Touch
   pub touch : Touch
   pub behind : List Touch
   pub are : touches ≡ front ++ touch ∷ behind
   pub hit : IsHitBy w lists by_files before trigger touch
-  pub other : AllByRecursion (λ t. bytes_eq t.«package» owner ≡ false) (touch ∷ behind)
+
+-- and neither that one nor one behind it is of the interested package: such a unit configures it, or leaves it less than installed
+pub record IsHitLast (w : World) (lists : List PackageList) (by_files : Bool) (before : List Hits) (touches : List Touch) (owner trigger : List ℕ) : Type 0 where
+  pub hits : IsHit w lists by_files before touches trigger
+  pub other : AllByRecursion (λ t. bytes_eq t.«package» owner ≡ false) (hits.touch ∷ hits.behind)

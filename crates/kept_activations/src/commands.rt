@@ -7,7 +7,7 @@ ghost use Rattle.command_line.specs.Triggering.{touched_of};
 ghost use Rattle.unit_reports.specs.Held.{Held};
 ghost use Rattle.unit_reports.specs.declared.report.Unit.{Unit as AUnit};
 ghost use Rattle.kept_activations.specs.Commands.{Command as ACommand, Commands as AreCommands, IsCarried, IsCarriedOut, IsCausedBy, IsEnded, IsSettledBy, IsSettledIn, Moment as AMoment, ended_one};
-ghost use Rattle.kept_activations.specs.Hitting.{IsHit};
+ghost use Rattle.kept_activations.specs.Hitting.{IsHitLast};
 ghost use Rattle.kept_activations.specs.Known.{Known as IsKnown, Triggered as ATriggered, Triggering as ATriggering};
 ghost use Rattle.kept_activations.specs.Pending.{IsInterested, IsPending};
 ghost use Rattle.kept_activations.specs.Processing.{IsKept};
@@ -23,7 +23,7 @@ pub fn no_activation_of_a_command_is_lost()
         (before after : Held) (s end : State) (owner trigger : List ℕ)
         → IsCarriedOut t us known came before after s end
         → IsInterested s.world before.records.records owner trigger
-        → IsHit s.world before.lists t.by_files known.watch.before.items (touched_of us) owner
+        → IsHitLast s.world before.lists t.by_files known.watch.before.items (touched_of us) owner
         trigger
         → IsKept after.records.records came.processed.units.items owner trigger }
     ensures asked { (t : ATriggering) (us : List AUnit) (known : IsKnown) (came : ATriggered)
@@ -44,7 +44,7 @@ pub fn no_activation_of_a_command_is_lost()
 /// command, or settled by one; and behind one that ended it is pending or settled.
 pub fn no_activation_is_lost()
     ensures caused { (old new : AMoment) (command : ACommand old new) (owner trigger : List ℕ)
-        → IsCausedBy old new command owner trigger
+        → IsCausedBy old new command trigger
         → IsCarried new owner trigger ⊎ IsSettledBy old new command owner trigger }
     ensures carried { (first last : AMoment) (commands : AreCommands first last)
         (owner trigger : List ℕ) → IsCarried first owner trigger

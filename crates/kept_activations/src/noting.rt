@@ -8,7 +8,7 @@ ghost use Rattle.trigger_journal.specs.Requests.{requests_of};
 ghost use Rattle.trigger_watch.specs.declared.touching.Touch.{Touch as ATouch};
 ghost use Rattle.unit_reports.specs.Held.{Held};
 ghost use Rattle.unit_reports.specs.declared.report.Report.{Report as AReport};
-ghost use Rattle.kept_activations.specs.Hitting.{IsHit};
+ghost use Rattle.kept_activations.specs.Hitting.{IsHitLast};
 ghost use Rattle.kept_activations.specs.Pending.{IsInterested, IsPending};
 
 /// Behind the units of a command, once what they activated is noted, each trigger that a unit hit is pending of each installed package
@@ -19,7 +19,7 @@ pub fn what_is_activated_becomes_pending()
         (before after : Held) (s end : State) (owner trigger : List ℕ)
         → HasNoted by_files known touched noted before after s end → noted.last ≡ None
         → IsTrue end.honest → IsInterested s.world before.records.records owner trigger
-        → IsHit s.world before.lists by_files known.watch.before.items touched owner trigger
+        → IsHitLast s.world before.lists by_files known.watch.before.items touched owner trigger
         → IsPending after.records.records owner trigger }
     ensures asked { (by_files : Bool) (known : IsKnown) (touched : List ATouch) (noted : AReport)
         (before after : Held) (s end : State) (owner trigger : List ℕ)
