@@ -20,7 +20,7 @@ use Rattle.unit_reports.specs.declared.report.Report.{Report}
 use Rattle.unit_reports.specs.declared.report.Touched.{Touched}
 use Rattle.unit_reports.specs.declared.report.Unit.{Unit as AUnit}
 use Rattle.command_line.specs.Triggering.{HasNoted, touch_of, touched_by, touched_of}
-use Rattle.kept_activations.specs.Commands.{Command, Commands, IsBegun, IsCarried, IsCausedBy, IsEnded, IsSettledBy, IsSettledIn, IsStopped, IsStoppedLate, IsTakenUp, IsTold, LeavesPending, Moment}
+use Rattle.kept_activations.specs.Commands.{Command, Commands, IsBegun, IsBetween, IsCarried, IsCausedBy, IsEnded, IsSettledBy, IsSettledIn, IsStopped, IsStoppedLate, IsTakenUp, IsTold, LeavesPending, Moment}
 use Rattle.kept_activations.specs.Hitting.{IsHitLast}
 use Rattle.kept_activations.specs.Known.{Known}
 use Rattle.kept_activations.specs.Pending.{IsInterested, IsPending, IsUnfinished, has_interest}
@@ -128,7 +128,7 @@ module _ (old new : Moment) (owner trigger : List ℕ) where
 
     pub ended_carried : IsCarried old owner trigger → IsPending new.records owner trigger ⊎ IsSettledBy old new (Command.ended c) owner trigger
     ended_carried carried =
-        by (notes_carried c.t.by_files c.known c.us c.came.noted old c.before c.mid c.out.triggered.mid c.begun c.done c.out.triggered.noting c.first c.falls c.units c.out.triggered.noted c.out.noted
+        by (notes_carried c.t.by_files c.known c.us c.came.noted old c.before c.mid c.out.triggered.mid c.begun c.done c.out.triggered.noting c.first c.units.1 c.units.0 c.out.triggered.noted c.out.noted
         (noting_honest c.t c.us c.known c.came c.mid c.after c.done c.end c.out) owner trigger carried)
       where
         by : IsPending c.out.triggered.mid.records.records owner trigger ⊎ IsSettledEarly c.us c.done.world c.mid.records.records owner trigger → IsPending new.records owner trigger ⊎ IsSettledBy old new (Command.ended c) owner trigger
@@ -147,7 +147,7 @@ module _ (old new : Moment) (owner trigger : List ℕ) where
         by (inr (inr less)) = inr (inr (inr less))
 
     late_carried : IsCarried old owner trigger → IsCarried new owner trigger ⊎ IsSettledBy old new (Command.stopped_late c) owner trigger
-    late_carried carried = by (notes_carried c.by_files c.known c.us c.noted old c.before c.mid c.after c.begun c.done c.noting c.first c.falls c.units c.notes c.all c.honest owner trigger carried)
+    late_carried carried = by (notes_carried c.by_files c.known c.us c.noted old c.before c.mid c.after c.begun c.done c.noting c.first c.units.1 c.units.0 c.notes c.all c.honest owner trigger carried)
       where
         by : IsPending c.after.records.records owner trigger ⊎ IsSettledEarly c.us c.done.world c.mid.records.records owner trigger → IsCarried new owner trigger ⊎ IsSettledBy old new (Command.stopped_late c) owner trigger
         by (inl pending) = late_kept pending
@@ -162,11 +162,20 @@ module _ (old new : Moment) (owner trigger : List ℕ) where
         by (inr settled) = inr settled
     stopped_carried c (inr found) = inl (inr (found_still c.begun.world new.world c.journal trigger (begun_keeps adds each c.by_files c.known old c.before c.begun c.first c.honest trigger found)))
 
+    between_carried : (c : IsBetween old new) → IsCarried old owner trigger → IsCarried new owner trigger ⊎ IsSettledBy old new (Command.between c) owner trigger
+    between_carried c (inl pending) = by (leaves_or_taken [] new.records owner trigger (c.units owner trigger pending))
+      where
+        by : IsPending new.records owner trigger ⊎ (IsTakenUp [] new.records owner trigger ⊎ IsUnfinished new.records owner) → IsCarried new owner trigger ⊎ IsSettledBy old new (Command.between c) owner trigger
+        by (inl still) = inl (inl still)
+        by (inr settled) = inr settled
+    between_carried c (inr found) = inl (inr (found_still old.world new.world c.journal trigger found))
+
     carried_on : (c : IsEnded old new) → IsPending new.records owner trigger ⊎ IsSettledBy old new (Command.ended c) owner trigger → IsCarried new owner trigger ⊎ IsSettledBy old new (Command.ended c) owner trigger
     carried_on c (inl pending) = inl (inl pending)
     carried_on c (inr settled) = inr settled
 
     pub command_carried : (c : Command old new) → IsCarried old owner trigger → IsCarried new owner trigger ⊎ IsSettledBy old new c owner trigger
+    command_carried (Command.between c) carried = between_carried c carried
     command_carried (Command.ended c) carried = carried_on c (ended_carried c carried)
     command_carried (Command.stopped c) carried = stopped_carried c carried
     command_carried (Command.stopped_late c) carried = late_carried c carried
@@ -200,6 +209,7 @@ module _ (old new : Moment) (owner trigger : List ℕ) where
         by (inl last) (inr isnt) = inr (inl (inr (inr isnt)))
 
     pub command_causes : (c : Command old new) → IsCausedBy old new c trigger → IsCarried new owner trigger ⊎ IsSettledBy old new c owner trigger
+    command_causes (Command.between c) caused = absurd caused
     command_causes (Command.ended c) caused = ended_causes c caused
     command_causes (Command.stopped c) caused = inl (inr (found_still c.begun.world new.world c.journal trigger (begun_found adds each c.by_files c.known old c.before c.begun c.first c.honest caused.1 caused.0 trigger)))
     command_causes (Command.stopped_late c) caused = late_causes c caused

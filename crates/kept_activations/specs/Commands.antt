@@ -1,5 +1,5 @@
 -- Commands one after another, as far as triggers go (deb-triggers).
-use Rattle.std.specs.Prelude.{◌≡◌, ◌⊎◌, ℕ, Bool, true, IsTrue, List, None}
+use Rattle.std.specs.Prelude.{◌≡◌, ◌⊎◌, ℕ, Bool, true, IsTrue, List, [], None}
 use Rattle.host_core.specs.Host.{Falls, State}
 use Rattle.host_core.specs.World.{World}
 use Rattle.status_records.specs.declared.record.Record.{Record}
@@ -21,6 +21,9 @@ use Rattle.kept_activations.specs.Processing.{IsProcessed}
 pub record Moment : Type 0 where
   pub world : World
   pub records : List Record
+
+abbrev pub moment : World → List Record → Moment
+moment world records = record { world = world; records = records }
 
 -- one of these units tells the package: it was unpacked, configured or removed, or on the way to that
 abbrev pub IsTold : List AUnit → List ℕ → Type 0
@@ -52,7 +55,11 @@ pub record IsBegun (by_files : Bool) (known : Known) (old : Moment) (before : He
   pub records : before.records.records ≡ old.records
   pub begins : HasBegun by_files known before s begun
 
--- One that came to its end (`IsAround`, of which no unit was broken off). Of its units it is assumed that they leave what is pending.
+-- what is assumed of the units of a command: they leave what is pending, and no lie of the host is forgotten
+abbrev pub AreSuchUnits : List AUnit → Held → Held → State → State → Type 0
+AreSuchUnits us before mid begun done = LeavesPending us before.records.records mid.records.records × Falls begun done
+
+-- One that came to its end, of which no unit was broken off.
 pub record IsEnded (old new : Moment) : Type 0 where
   pub t : Triggering
   pub known : Known
@@ -65,8 +72,7 @@ pub record IsEnded (old new : Moment) : Type 0 where
   pub done : State
   pub end : State
   pub first : IsBegun t.by_files known old before begun
-  pub falls : Falls begun done
-  pub units : LeavesPending us before.records.records mid.records.records
+  pub units : AreSuchUnits us before mid begun done
   pub out : IsCarriedOut t us known came mid after done end
   pub world : new.world ≡ end.world
   pub records : new.records ≡ after.records.records
@@ -99,14 +105,20 @@ pub record IsStoppedLate (old new : Moment) : Type 0 where
   pub done : State
   pub noting : State
   pub first : IsBegun by_files known old before begun
-  pub falls : Falls begun done
-  pub units : LeavesPending us before.records.records mid.records.records
+  pub units : AreSuchUnits us before mid begun done
   pub notes : HasNoted by_files known (touched_of us) noted mid after done noting
   pub all : noted.last ≡ None
   pub honest : IsTrue noting.honest
   pub processing : LeavesPending more after.records.records new.records
 
+-- What came between commands: an opening of the root, a question, a command that was stopped before it had written ahead, or requests of
+-- others. It is assumed that to the journal it was only added, and that what was pending is so still.
+pub record IsBetween (old new : Moment) : Type 0 where
+  pub journal : StandsStill old.world new.world
+  pub units : LeavesPending [] old.records new.records
+
 pub data Command (old new : Moment) : Type 0 where
+  between : IsBetween old new → Command old new
   ended : IsEnded old new → Command old new
   stopped : IsStopped old new → Command old new
   stopped_late : IsStoppedLate old new → Command old new
@@ -123,6 +135,7 @@ pub data Commands (first : Moment) : Moment → Type 0 where
 -- A unit of a command hits the trigger. Where the command was stopped before it had noted anything, this may be any trigger, if a package
 -- with files was interested in some trigger when it began, and its lines were written ahead.
 abbrev pub IsCausedBy : (old new : Moment) → Command old new → List ℕ → Type 0
+IsCausedBy old new (Command.between c) trigger = ⊥
 IsCausedBy old new (Command.ended c) trigger = IsHit c.done.world c.mid.lists c.t.by_files c.known.watch.before.items (touched_of c.us) trigger
 IsCausedBy old new (Command.stopped c) trigger = IsSomeInterested old.world old.records × (c.first.begins.foreseen.written ≡ true)
 IsCausedBy old new (Command.stopped_late c) trigger = IsHit c.done.world c.mid.lists c.by_files c.known.watch.before.items (touched_of c.us) trigger
@@ -135,6 +148,7 @@ IsCarried m owner trigger = IsPending m.records owner trigger ⊎ (is_found (req
 -- behind the units, or not installed and interested, when it was noted what is pending; or its triggers were processed, this one among
 -- them; or it is less than installed in the end.
 abbrev pub IsSettledBy : (old new : Moment) → Command old new → List ℕ → List ℕ → Type 0
+IsSettledBy old new (Command.between c) owner trigger = IsTakenUp [] new.records owner trigger ⊎ IsUnfinished new.records owner
 IsSettledBy old new (Command.ended c) owner trigger =
     (IsTakenUp c.us c.mid.records.records owner trigger ⊎ (IsUnfinished c.mid.records.records owner ⊎ (IsInterested c.done.world c.mid.records.records owner trigger → ⊥)))
     ⊎ (IsProcessed c.came.processed.units.items owner trigger ⊎ IsUnfinished new.records owner)

@@ -1,12 +1,12 @@
 // No activation is lost, by one command and by several.
-ghost use Rattle.std.specs.Prelude.{◌≡◌, ◌⊎◌, ◌||◌, ℕ, true, List};
+ghost use Rattle.std.specs.Prelude.{◌≡◌, ◌⊎◌, ◌||◌, ℕ, true, IsTrue, List, None};
 ghost use Rattle.host_core.specs.Host.{State};
 ghost use Rattle.trigger_journal.specs.Asked.{is_asked, is_found};
 ghost use Rattle.trigger_journal.specs.Requests.{requests_of};
-ghost use Rattle.command_line.specs.Triggering.{touched_of};
+ghost use Rattle.command_line.specs.Triggering.{IsAround, touched_of};
 ghost use Rattle.unit_reports.specs.Held.{Held};
 ghost use Rattle.unit_reports.specs.declared.report.Unit.{Unit as AUnit};
-ghost use Rattle.kept_activations.specs.Commands.{Command as ACommand, Commands as AreCommands, IsCarried, IsCarriedOut, IsCausedBy, IsEnded, IsSettledBy, IsSettledIn, Moment as AMoment, ended_one};
+ghost use Rattle.kept_activations.specs.Commands.{AreSuchUnits, Command as ACommand, Commands as AreCommands, IsCarried, IsCarriedOut, IsCausedBy, IsEnded, IsSettledBy, IsSettledIn, Moment as AMoment, ended_one, moment};
 ghost use Rattle.kept_activations.specs.Hitting.{IsHitLast};
 ghost use Rattle.kept_activations.specs.Known.{Known as IsKnown, Triggered as ATriggered, Triggering as ATriggering};
 ghost use Rattle.kept_activations.specs.Pending.{IsInterested, IsPending};
@@ -39,9 +39,19 @@ pub fn no_activation_of_a_command_is_lost()
         → IsKept after.records.records came.processed.units.items owner trigger }
 {}
 
+/// What stands around the units of a command (`IsAround`), of which nothing was broken off, and what stands before it and behind it make a
+/// command that ended, where its units are such as is assumed of them.
+pub fn what_is_done_around_units_is_a_command()
+    ensures { (t : ATriggering) (us : List AUnit) (came : ATriggered) (before after : Held)
+        (s end : State)
+        → IsAround t us None (AreSuchUnits us before) came before after s end
+        → came.noted.last ≡ None → came.processed.last ≡ None → IsTrue end.honest
+        → IsEnded (moment s.world before.records.records) (moment end.world after.records.records) }
+{}
+
 /// Through commands, each of which ended or was stopped at some moment, an activation isn't lost. One that a command has caused is
-/// pending of the package behind it, or asked for by the journal, or settled. What is so carried is carried on by each later
-/// command, or settled by one; and behind one that ended it is pending or settled.
+/// behind it pending of each package, or asked for by the journal, or settled. What is so carried is carried on by each later
+/// command and by what comes between, or settled; and behind one that ended it is pending or settled.
 pub fn no_activation_is_lost()
     ensures caused { (old new : AMoment) (command : ACommand old new) (owner trigger : List ℕ)
         → IsCausedBy old new command trigger
