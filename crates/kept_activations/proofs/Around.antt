@@ -1,5 +1,5 @@
 -- What comes of triggers behind the units of a command.
-use Rattle.std.proofs.Common.{◌≡◌, ◌||◌, ℕ, Bool, true, List, ◌++◌, Option, None, IsTrue, subst}
+use Rattle.std.proofs.Common.{◌≡◌, ◌||◌, ℕ, true, List, ◌++◌, Option, IsTrue, subst}
 use Rattle.host_core.specs.Host.{State}
 use Rattle.trigger_journal.specs.Asked.{is_asked, is_found}
 use Rattle.trigger_journal.specs.Requests.{requests_of}

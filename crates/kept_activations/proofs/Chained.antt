@@ -25,7 +25,7 @@ use Rattle.kept_activations.specs.Hitting.{IsHitLast}
 use Rattle.kept_activations.specs.Known.{Known}
 use Rattle.kept_activations.specs.Pending.{IsInterested, IsPending, IsUnfinished, has_interest}
 use Rattle.kept_activations.specs.Processing.{IsKept}
-use Rattle.kept_activations.proofs.Around.{noting_honest, out_falls, out_hit, out_stays, up}
+use Rattle.kept_activations.proofs.Around.{noting_honest, out_hit, out_stays, up}
 use Rattle.kept_activations.proofs.Changing.{one_record}
 use Rattle.kept_activations.proofs.NotedAll.{asked_pending, hit_pending, noted_falls, pending_stays}
 use Rattle.kept_activations.proofs.Ours.{begun_found, begun_keeps, found_still, known_found}

@@ -1,11 +1,11 @@
 -- What a change of a record leaves of triggers.
-use Rattle.std.proofs.Common.{◌≡◌, ◌⊎◌, inl, inr, ◌||◌, not, ℕ, Bool, true, false, cond, List, [], ◌∷◌, Option, Some, None, refl, sym, ap, subst, ◌∙◌}
-use Rattle.std.specs.List.{list_all, list_any}
+use Rattle.std.proofs.Common.{◌≡◌, ◌⊎◌, inl, inr, ◌||◌, not, ℕ, Bool, true, false, cond, List, Option, Some, None, refl, sym, ap, subst, ◌∙◌}
+use Rattle.std.specs.List.{list_all}
 use Rattle.std.specs.Str.{bytes_eq}
 use Rattle.std.proofs.lemmas.Bool.{true≢false}
 use Rattle.std.proofs.lemmas.Slice.Eq.{bytes_eq-Decides}
 use Rattle.host_core.specs.Host.{State}
-use Rattle.record_changes.specs.Activated.{IsMade, abandoned, activated, awaiting, changed, has_name, pending_text, with_names, with_pending, words_of}
+use Rattle.record_changes.specs.Activated.{IsMade, activated, changed, has_name, pending_text, with_pending, words_of}
 use Rattle.record_changes.specs.Units.{IsChange}
 use Rattle.record_changes.specs.declared.change.Change.{Change}
 use Rattle.record_changes.specs.declared.change.Change.TheVariants as change
@@ -95,7 +95,7 @@ IsLeftBy asked owner entry after = (record_in after owner ≡ Some entry) ⊎ ((
 pub one_record : (a b : Record) (o : Option Record) → o ≡ Some a → o ≡ Some b → a ≡ b
 one_record a b o first second = (let same : Some a ≡ Some b = sym first ∙ second in cc same)
 
-put_left : (asked : RecordChange) (r : Record) (rs : List Record) (owner : List ℕ) (entry : Record) → record_in rs asked.name ≡ Some r → record_in rs owner ≡ Some entry → IsLeftBy asked owner entry (put_record (changed asked.change r) rs)
+pub put_left : (asked : RecordChange) (r : Record) (rs : List Record) (owner : List ℕ) (entry : Record) → record_in rs asked.name ≡ Some r → record_in rs owner ≡ Some entry → IsLeftBy asked owner entry (put_record (changed asked.change r) rs)
 put_left asked r rs owner entry of found = by (bytes_eq asked.name owner) refl
   where
     own : (changed asked.change r).name ≡ asked.name
@@ -139,15 +139,15 @@ unfinished_through asked before after u s t is owner unfinished = by (left_by as
 
 -- one that activates
 
+pub stays_left : (a : Activation) (after : List Record) (owner trigger : List ℕ) (entry : Record) → is_installed entry.state ≡ true → has_name (pending_text entry.triggers.pending) trigger ≡ true → IsLeftBy (change_by a) owner entry after → IsPending after owner trigger
+stays_left a after owner trigger entry installed named (inl found) = record { entry = entry; found = found; installed = installed; named = named }
+stays_left a after owner trigger entry installed named (inr here) =
+    let stands = activated_stands a.names trigger entry (record { installed = installed; named = named }) in
+    record { entry = activated a.names entry; found = here.1; installed = stands.installed; named = stands.named }
+
 module _ (a : Activation) (before after : Held) (u : AUnit) (s t : State) (is : IsChange (change_by a) before after u s t) where
   pub pending_stays : (owner trigger : List ℕ) → IsPending before.records.records owner trigger → IsPending after.records.records owner trigger
-  pending_stays owner trigger pending = by (left_by (change_by a) before after u s t is owner pending.entry pending.found)
-    where
-      by : IsLeftBy (change_by a) owner pending.entry after.records.records → IsPending after.records.records owner trigger
-      by (inl found) = record { entry = pending.entry; found = found; installed = pending.installed; named = pending.named }
-      by (inr here) =
-          let stands = activated_stands a.names trigger pending.entry (record { installed = pending.installed; named = pending.named }) in
-          record { entry = activated a.names pending.entry; found = here.1; installed = stands.installed; named = stands.named }
+  pending_stays owner trigger pending = stays_left a after.records.records owner trigger pending.entry pending.installed pending.named (left_by (change_by a) before after u s t is owner pending.entry pending.found)
 
   pub installed_stays : (owner : List ℕ) → IsInstalled before.records.records owner → IsInstalled after.records.records owner
   installed_stays owner installed = by (left_by (change_by a) before after u s t is owner installed.entry installed.found)

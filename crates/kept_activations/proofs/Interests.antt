@@ -1,6 +1,6 @@
 -- What an installed package is interested in, and what is told of it.
-use Rattle.std.proofs.Common.{◌≡◌, ◌⊎◌, inl, inr, ◌&&◌, not, ℕ, Bool, true, false, cond, if◌then◌else◌, List, [], ◌∷◌, map, filter, Option, Some, None, refl, sym, ap, subst, ◌∙◌}
-use Rattle.std.specs.List.{AllByRecursion, flat_map, list_any}
+use Rattle.std.proofs.Common.{◌≡◌, inl, inr, ◌&&◌, not, ℕ, Bool, true, false, cond, if◌then◌else◌, List, [], ◌∷◌, map, filter, Some, refl, sym, ap, subst, ◌∙◌}
+use Rattle.std.specs.List.{AllByRecursion, list_any}
 use Rattle.std.specs.Str.{bytes_eq}
 use Rattle.std.proofs.lemmas.Bool.{and_parts}
 use Rattle.std.proofs.lemmas.Slice.Eq.{bytes_eq-Decides}
@@ -21,7 +21,7 @@ use Rattle.trigger_watch.specs.declared.activating.Activation.{Activation}
 use Rattle.trigger_watch.proofs.All.{all_filter, all_map}
 use Rattle.trigger_watch.proofs.Declared.{IsSound, IsSoundInterest}
 use Rattle.kept_activations.specs.Pending.{IsInstalled, IsInterested}
-use Rattle.kept_activations.proofs.Members.{IsIn, Passes, in_among, in_filter, in_flat_map, in_map, once_in, passes_any}
+use Rattle.kept_activations.proofs.Members.{IsIn, in_among, in_filter, in_flat_map, in_map, once_in, passes_any}
 use Rattle.kept_activations.proofs.SpacedNames.{spaced_names}
 use Rattle.kept_activations.proofs.WordLists.{sound_words, words_spaced}
 

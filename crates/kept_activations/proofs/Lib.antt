@@ -12,3 +12,4 @@ pub mod Ours
 pub mod Around
 pub mod Chained
 pub mod Frames
+pub mod NotesAmid

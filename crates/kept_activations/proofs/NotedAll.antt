@@ -1,5 +1,5 @@
 -- What a command has noted behind its units.
-use Rattle.std.proofs.Common.{◌≡◌, ◌||◌, inl, inr, ℕ, Bool, true, List, [], ◌++◌, map, Option, None, Some, IsTrue, refl, sym, ap, subst, ◌∙◌}
+use Rattle.std.proofs.Common.{◌≡◌, ◌||◌, inl, inr, ℕ, Bool, true, List, [], ◌++◌, map, Option, None, Some, IsTrue, sym, ap, subst, ◌∙◌}
 use Rattle.std.specs.Prelude.{IsSomeAnd, is_some}
 use Rattle.std.proofs.lemmas.List.{map-append}
 use Rattle.host_core.specs.Host.{State}
@@ -16,7 +16,7 @@ use Rattle.unit_reports.specs.Units.{TellsNoPackage, breakage_of}
 use Rattle.unit_reports.specs.declared.report.Reply.TheVariants.{Broken}
 use Rattle.unit_reports.specs.declared.report.Report.{Report}
 use Rattle.unit_reports.specs.declared.report.Unit.{Unit as AUnit}
-use Rattle.command_line.specs.Triggering.{HasNoted, HasNotedAll, IsUnnoted}
+use Rattle.command_line.specs.Triggering.{HasNoted, HasNotedAll}
 use Rattle.kept_activations.specs.Hitting.{IsHitLast}
 use Rattle.kept_activations.specs.Known.{Known}
 use Rattle.kept_activations.specs.Pending.{IsInterested, IsPending}

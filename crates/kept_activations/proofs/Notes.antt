@@ -1,8 +1,5 @@
 -- What notes of activations leave, one after another.
-use Rattle.std.proofs.Common.{◌≡◌, ◌⊎◌, inl, inr, ◌||◌, ℕ, Bool, true, List, [], ◌∷◌, ◌++◌, map, filter, Option, None, Some, IsTrue, refl, sym, ap, subst, ◌∙◌}
-use Rattle.std.specs.Prelude.{IsSomeAnd, is_some}
-use Rattle.std.proofs.lemmas.Bool.{or_left, or_right}
-use Rattle.std.proofs.lemmas.List.{map-append}
+use Rattle.std.proofs.Common.{◌≡◌, ◌⊎◌, inl, inr, ◌||◌, ℕ, Bool, true, List, [], ◌∷◌, ◌++◌, map, filter, refl, sym, ap, subst, ◌∙◌}
 use Rattle.host_core.specs.Host.{State}
 use Rattle.host_core.specs.World.{World}
 use Rattle.record_changes.specs.Activated.{words_of}
@@ -16,12 +13,11 @@ use Rattle.trigger_interests.specs.declared.interests.Interest.{Interest}
 use Rattle.trigger_journal.specs.Asked.{asked_of, is_asked, is_found}
 use Rattle.trigger_journal.specs.Requests.{requests_of}
 use Rattle.trigger_journal.specs.declared.requests.Request.{Request}
-use Rattle.trigger_watch.specs.Activations.{activated, activations_by, activations_of, is_activated}
+use Rattle.trigger_watch.specs.Activations.{activations_of, is_activated}
 use Rattle.trigger_watch.specs.Names.{is_among}
 use Rattle.trigger_watch.specs.Touches.{touching_hits}
 use Rattle.trigger_watch.specs.Watch.{installed}
 use Rattle.trigger_watch.specs.declared.activating.Activation.{Activation}
-use Rattle.trigger_watch.specs.declared.hits.Hits.{Hits}
 use Rattle.trigger_watch.specs.declared.touching.Touch.{Touch}
 use Rattle.trigger_watch.specs.declared.watching.TriggerWatch.{TriggerWatch}
 use Rattle.file_lists.specs.declared.paths.PackageList.{PackageList}
@@ -35,18 +31,18 @@ use Rattle.kept_activations.specs.Hitting.{IsHitLast}
 use Rattle.kept_activations.specs.Pending.{IsInstalled, IsInterested, IsPending}
 use Rattle.kept_activations.proofs.Changing.{installed_stays, pending_behind, pending_stays}
 use Rattle.kept_activations.proofs.Interests.{IsOne, IsTold, interested_one, kept_one, told_one}
-use Rattle.kept_activations.proofs.Members.{IsIn, in_left, in_map, in_right}
+use Rattle.kept_activations.proofs.Members.{IsIn, in_left, in_right}
 use Rattle.kept_activations.proofs.Touching.{hit_activates}
 
 -- the next of what is left
-record IsNextOf (left : List Activation) (asked : RecordChange) (later : List RecordChange) : Type 0 where
-  one : Activation
-  rest : List Activation
-  are : left ≡ one ∷ rest
-  first : asked ≡ change_by one
-  others : later ≡ map change_by rest
+pub record IsNextOf (left : List Activation) (asked : RecordChange) (later : List RecordChange) : Type 0 where
+  pub one : Activation
+  pub rest : List Activation
+  pub are : left ≡ one ∷ rest
+  pub first : asked ≡ change_by one
+  pub others : later ≡ map change_by rest
 
-next_of : (left : List Activation) (asked : RecordChange) (later : List RecordChange) → map change_by left ≡ asked ∷ later → IsNextOf left asked later
+pub next_of : (left : List Activation) (asked : RecordChange) (later : List RecordChange) → map change_by left ≡ asked ∷ later → IsNextOf left asked later
 next_of [] asked later e = absurd (cc e)
 next_of (a ∷ rest) asked later e =
     let first : change_by a ≡ asked = cc e in
@@ -55,12 +51,12 @@ next_of (a ∷ rest) asked later e =
 
 module _ (activations : List Activation) (before : Held) (s : State) where
   -- some of the activations are left
-  record AreNoted (q : List RecordChange) (after : Held) : Type 0 where
-    left : List Activation
-    are : q ≡ map change_by left
-    stays : (owner trigger : List ℕ) → IsPending before.records.records owner trigger → IsPending after.records.records owner trigger
-    stand : (owner : List ℕ) → IsInstalled before.records.records owner → IsInstalled after.records.records owner
-    done : (a : Activation) (trigger : List ℕ) → IsIn a activations → is_among (words_of a.names) trigger ≡ true → IsInstalled before.records.records a.«package»
+  pub record AreNoted (q : List RecordChange) (after : Held) : Type 0 where
+    pub left : List Activation
+    pub are : q ≡ map change_by left
+    pub stays : (owner trigger : List ℕ) → IsPending before.records.records owner trigger → IsPending after.records.records owner trigger
+    pub stand : (owner : List ℕ) → IsInstalled before.records.records owner → IsInstalled after.records.records owner
+    pub done : (a : Activation) (trigger : List ℕ) → IsIn a activations → is_among (words_of a.names) trigger ≡ true → IsInstalled before.records.records a.«package»
         → IsIn a left ⊎ IsPending after.records.records a.«package» trigger
 
   module _ (q : List RecordChange) (mid after : Held) (u : AUnit) (later : List RecordChange) (m t : State) (so_far : AreNoted q mid) (turn : IsTurn q mid u later after m t) where
@@ -91,7 +87,7 @@ module _ (activations : List Activation) (before : Held) (s : State) where
       done = λ a trigger there named installed. done_more a trigger named installed (so_far.done a trigger there named installed);
     }
 
-  noted_run : (us : List AUnit) (q : List RecordChange) (after : Held) (t : State) → TurnsTo IsTurn (map change_by activations) before s us q after t → AreNoted q after
+  pub noted_run : (us : List AUnit) (q : List RecordChange) (after : Held) (t : State) → TurnsTo IsTurn (map change_by activations) before s us q after t → AreNoted q after
   noted_run us q after t TurnsTo.begun = record {
     left = activations;
     are = refl;

@@ -1,5 +1,5 @@
 -- Our lines in the journal are found by the next command.
-use Rattle.std.proofs.Common.{◌≡◌, ◌⊎◌, inl, inr, ◌||◌, ℕ, zero, suc, ◌+◌, ◌<◌, Bool, true, false, List, [], ◌∷◌, ◌++◌, length, map, filter, Option, Some, None, Contains, IsTrue, refl, sym, ap, subst, ◌∙◌, arith}
+use Rattle.std.proofs.Common.{◌≡◌, inl, inr, ◌||◌, ℕ, zero, suc, Bool, true, false, List, [], ◌∷◌, map, filter, Option, Contains, IsTrue, refl, sym, ap, subst, ◌∙◌, arith}
 use Rattle.std.specs.Prelude.{MatchBool}
 use Rattle.std.specs.List.{list_any}
 use Rattle.std.specs.Str.{bytes_eq}
@@ -13,7 +13,7 @@ use Rattle.status_records.specs.declared.record.Record.{Record}
 use Rattle.trigger_interests.specs.Hits.{is_hit}
 use Rattle.trigger_interests.specs.Interests.{declared, interests_by, interests_of}
 use Rattle.trigger_interests.specs.declared.interests.Interest.{Interest}
-use Rattle.trigger_journal.specs.Ahead.{has_files, missing, names_ahead, packages_with_files, text_ahead}
+use Rattle.trigger_journal.specs.Ahead.{has_files, missing, names_ahead, packages_with_files}
 use Rattle.trigger_journal.specs.Asked.{is_for, is_found}
 use Rattle.trigger_journal.specs.Places.{journal_path}
 use Rattle.trigger_journal.specs.Read.{AddsRequests, IsEachFound, own_request}
@@ -26,7 +26,7 @@ use Rattle.kept_activations.specs.Commands.{IsBegun, Moment}
 use Rattle.kept_activations.specs.Journal.{AsksStill, IsSomeInterested, StandsStill}
 use Rattle.kept_activations.specs.Known.{Known}
 use Rattle.kept_activations.proofs.Interests.{IsOne, declared_one, found_in, one_named}
-use Rattle.kept_activations.proofs.Members.{IsIn, Passes, in_filter, in_flat_map, in_map, once_in, passes_any}
+use Rattle.kept_activations.proofs.Members.{IsIn, in_filter, in_flat_map, in_map, once_in, passes_any}
 
 in_contains : {X : Type 0} (xs : List X) (x : X) → IsIn x xs → Contains xs x
 in_contains [] x there = absurd there

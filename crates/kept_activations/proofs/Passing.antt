@@ -1,20 +1,17 @@
 -- What is pending through the turns in which triggers are processed.
 use Rattle.std.proofs.Common.{◌≡◌, ◌≢◌, ◌⊎◌, inl, inr, ℕ, Bool, true, false, List, [], ◌∷◌, ◌++◌, Option, None, Some, IsTrue, refl, sym, ap, subst, ◌∙◌}
-use Rattle.std.specs.Prelude.{IsSome, IsSomeAnd, is_some}
+use Rattle.std.specs.Prelude.{IsSome, is_some}
 use Rattle.std.specs.Str.{bytes_eq}
 use Rattle.std.proofs.lemmas.Bool.{true≢false}
 use Rattle.std.proofs.lemmas.Slice.Eq.{bytes_eq-Decides}
 use Rattle.host_core.specs.Host.{State}
-use Rattle.record_changes.specs.Run.{IsChangeRun}
 use Rattle.record_changes.specs.Turns as changes
 use Rattle.record_changes.specs.declared.change.RecordChange.{RecordChange}
 use Rattle.status_records.specs.Records.{record_in}
 use Rattle.status_records.specs.Words.{is_installed}
 use Rattle.status_records.specs.declared.record.Record.{Record}
-use Rattle.status_records.specs.declared.words.State.{State as AState}
 use Rattle.trigger_chains.specs.declared.wishes.Wish.{Wish}
 use Rattle.trigger_run.specs.Names.{once}
-use Rattle.trigger_run.specs.Run.{IsTriggerRun}
 use Rattle.trigger_run.specs.Turns as processing
 use Rattle.trigger_run.specs.Units.{IsUnitOf, RunsProcessing}
 use Rattle.dpkg_session.specs.Rereading.{with_ways}
@@ -25,7 +22,7 @@ use Rattle.unit_runs.specs.Turns.{TurnsTo}
 use Rattle.trigger_turns.specs.Settled.{HasProcessedPending, HasSettled}
 use Rattle.trigger_turns.specs.Turns.{AreTurned, HasChanged, HasProcessedNamed, HasTurned, IsQuiet, IsTurn}
 use Rattle.kept_activations.specs.Pending.{IsPending, IsUnfinished}
-use Rattle.kept_activations.specs.Processing.{IsKept, IsProcessed, IsProcessedBy}
+use Rattle.kept_activations.specs.Processing.{IsKept, IsProcessed}
 use Rattle.kept_activations.proofs.Changing.{one_record, pending_through, unfinished_through}
 
 -- from what is held, and a state, to others, by these units

@@ -1,6 +1,5 @@
 -- What is pending once the journal is emptied, until the command ends.
-use Rattle.std.proofs.Common.{◌≡◌, inl, inr, ℕ, Bool, true, false, List, [], Option, None, IsTrue, refl, sym, ap, subst}
-use Rattle.std.specs.Prelude.{IsSomeAnd}
+use Rattle.std.proofs.Common.{◌≡◌, inl, inr, ℕ, Bool, true, false, List, [], None, sym, subst}
 use Rattle.host_core.specs.Host.{State}
 use Rattle.host_core.specs.declared.fault.HostFault.{HostFault}
 use Rattle.trigger_turns.specs.Turns.{first_wishes}

@@ -15,11 +15,13 @@
 //! What is assumed, beside an honest host: where a command stops, and between commands, to the journal
 //! it was only added since the lines were written; and the records that are read then have what was
 //! pending, but of packages that a unit tells and of those less than installed. Of finished units that
-//! is proved (`units_leave_what_is_pending`); so what commands promise around units makes a command that
+//! is proved (`units_leave_what_is_pending`), and so it is of a stop amid writing ahead and amid notes
+//! (`what_a_stop_beside_units_leaves`). What commands promise around their units makes a command that
 //! ended (`what_is_done_around_units_is_a_command`).
 #![tactic(auto)]
 
 mod commands;
+mod moments;
 mod noting;
 mod stops;
 mod turns;
@@ -29,6 +31,7 @@ pub use commands::{
     no_activation_is_lost, no_activation_of_a_command_is_lost,
     what_is_done_around_units_is_a_command,
 };
+pub use moments::what_a_stop_beside_units_leaves;
 pub use noting::what_is_activated_becomes_pending;
 pub use stops::what_a_stopped_command_leaves_is_asked_for;
 pub use turns::what_is_pending_is_processed;
