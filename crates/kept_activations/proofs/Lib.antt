@@ -1,0 +1,15 @@
+pub mod SpacedNames
+pub mod WordLists
+pub mod Members
+pub mod Interests
+pub mod Touching
+pub mod Changing
+pub mod Notes
+pub mod NotedAll
+pub mod Passing
+pub mod TakenUp
+pub mod Ours
+pub mod Around
+pub mod Chained
+pub mod Frames
+pub mod NotesAmid
