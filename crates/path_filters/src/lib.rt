@@ -4,8 +4,8 @@
 //!
 //! `hides` tells whether filters hide a path, by the definition (specs/Filters): the last one that
 //! matches the whole path decides, and a directory or link stays that may lead to what is included.
-//! `excludes_any` tells whether one of them excludes. Without filters nothing is hidden, and one that
-//! matches decides whatever stands before it (`the_last_decides`).
+//! `excludes_any` tells whether one of them is an exclude. Without filters nothing is hidden, and one
+//! that matches decides whatever stands before it (`the_last_decides`).
 #![tactic(auto)]
 
 mod filters;
