@@ -98,14 +98,18 @@ with_conffiles_forced a = with_rule (with_rule (with_rule a (flag_rule (codes "f
 abbrev pub with_forced : App → App
 with_forced a = with_rule (with_conffiles_forced a) (flag_rule (codes "force-depends"))
 
+-- `--path-exclude PATTERN` and `--path-include PATTERN`
+abbrev pub with_filters : App → App
+with_filters a = with_rule (with_rule a (options_rule (codes "path-exclude"))) (options_rule (codes "path-include"))
+
 -- one that calls scripts: `--scripts-stderr`, `--no-triggers` and `--abort-after N`
 abbrev pub calling_app : Text → App
 calling_app name = with_rule (with_rule (with_rule (changing_app name) (flag_rule (codes "scripts-stderr"))) (flag_rule (codes "no-triggers"))) (option_rule (codes "abort-after"))
 
 -- `install [--root DIR] [--json] [--wait SECONDS] [--status-fd N].. [--log FILE] [--dry-run [--changes] [--assume-failure PKG:SCRIPT:WORD]..] [--scripts-stderr] [--no-triggers] [--abort-after N] [--owner-root] [--auto-deconfigure]
--- [--force-confold | --force-confnew] [--force-confmiss] [--force-depends] [--as-given] TREE..`; `unpack` likewise, without `--as-given`
+-- [--path-exclude PATTERN | --path-include PATTERN].. [--force-confold | --force-confnew] [--force-confmiss] [--force-depends] [--as-given] TREE..`; `unpack` likewise, without `--as-given`
 abbrev pub unpacking_app : Text → App
-unpacking_app name = with_forced (with_rule (with_rule (calling_app name) (flag_rule (codes "owner-root"))) (flag_rule (codes "auto-deconfigure")))
+unpacking_app name = with_forced (with_filters (with_rule (with_rule (calling_app name) (flag_rule (codes "owner-root"))) (flag_rule (codes "auto-deconfigure"))))
 
 abbrev pub install_app : App
 install_app = with_rule (with_rule (unpacking_app (codes "install")) (flag_rule (codes "as-given"))) (words_rule (codes "TREE") true)

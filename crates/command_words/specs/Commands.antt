@@ -7,6 +7,7 @@ use Rattle.command_words.specs.CommandLine.{whole_app}
 use Rattle.command_words.specs.Comparisons.{operator_of}
 use Rattle.command_words.specs.Queries.{query_of}
 use Rattle.command_words.specs.Diversions.{diverting_of, undiverting_of}
+use Rattle.command_words.specs.Filters.{has_filters}
 use Rattle.command_words.specs.Frontends.{has_descriptors}
 use Rattle.command_words.specs.Packages.{configuring_of, removing_of}
 use Rattle.command_words.specs.Selecting.{removing_selected_of, selecting_of}
@@ -62,7 +63,7 @@ asked_by name rows =
 
 -- and only where it can be carried out, or rehearsed, with them
 abbrev pub asked_with : Text → List Row → Option Asked
-asked_with name rows = if has_descriptors rows && is_rehearsable rows then asked_by name rows else None
+asked_with name rows = if has_descriptors rows && has_filters rows && is_rehearsable rows then asked_by name rows else None
 
 abbrev pub asked_in : Option (Text × List Row) → Option Asked
 asked_in sub = option_and_then (λ p. asked_with p.0 p.1) sub

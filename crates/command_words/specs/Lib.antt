@@ -10,6 +10,7 @@ pub mod Topics
 pub mod Queries
 pub mod Forced
 pub mod Frontends
+pub mod Filters
 pub mod Objects
 pub mod Triggers
 pub mod Unpacks

@@ -72,7 +72,7 @@ usage_words topic.Configure = codes "configure [--root DIR] [--json] [--wait SEC
 usage_words topic.Diversions = codes "diversions [--root DIR] [--json]"
 usage_words topic.Divert = codes "divert [--root DIR] [--json] [--wait SECONDS] [--status-fd N].. [--log FILE] [--dry-run [--changes] [--assume-failure PKG:SCRIPT:WORD]..] (--package P | --local) [--divert TARGET] [--rename] PATH"
 usage_words topic.Help = codes "help [COMMAND]"
-usage_words topic.Install = codes "install [--root DIR] [--json] [--wait SECONDS] [--status-fd N].. [--log FILE] [--dry-run [--changes] [--assume-failure PKG:SCRIPT:WORD]..] [--scripts-stderr] [--no-triggers] [--abort-after N] [--owner-root] [--auto-deconfigure] [--force-confold | --force-confnew] [--force-confmiss] [--force-depends] [--as-given] TREE.."
+usage_words topic.Install = codes "install [--root DIR] [--json] [--wait SECONDS] [--status-fd N].. [--log FILE] [--dry-run [--changes] [--assume-failure PKG:SCRIPT:WORD]..] [--scripts-stderr] [--no-triggers] [--abort-after N] [--owner-root] [--auto-deconfigure] [--path-exclude PATTERN | --path-include PATTERN].. [--force-confold | --force-confnew] [--force-confmiss] [--force-depends] [--as-given] TREE.."
 usage_words topic.List = codes "list [--root DIR] [--json | --table | --format FORMAT] [PATTERN..]"
 usage_words topic.ListFiles = codes "listfiles [--root DIR] [--json] PKG"
 usage_words topic.Purge = codes "purge [--root DIR] [--json] [--wait SECONDS] [--status-fd N].. [--log FILE] [--dry-run [--changes] [--assume-failure PKG:SCRIPT:WORD]..] [--scripts-stderr] [--no-triggers] [--abort-after N] [--force-depends] PKG.."
@@ -84,7 +84,7 @@ usage_words topic.Selections = codes "selections [--root DIR] [--json] [PATTERN.
 usage_words topic.Status = codes "status [--root DIR] [--json] PKG"
 usage_words topic.Truename = codes "truename [--root DIR] [--json] [--package P] PATH"
 usage_words topic.Undivert = codes "undivert [--root DIR] [--json] [--wait SECONDS] [--status-fd N].. [--log FILE] [--dry-run [--changes] [--assume-failure PKG:SCRIPT:WORD]..] (--package P | --local) [--rename] PATH"
-usage_words topic.Unpack = codes "unpack [--root DIR] [--json] [--wait SECONDS] [--status-fd N].. [--log FILE] [--dry-run [--changes] [--assume-failure PKG:SCRIPT:WORD]..] [--scripts-stderr] [--no-triggers] [--abort-after N] [--owner-root] [--auto-deconfigure] [--force-confold | --force-confnew] [--force-confmiss] [--force-depends] TREE.."
+usage_words topic.Unpack = codes "unpack [--root DIR] [--json] [--wait SECONDS] [--status-fd N].. [--log FILE] [--dry-run [--changes] [--assume-failure PKG:SCRIPT:WORD]..] [--scripts-stderr] [--no-triggers] [--abort-after N] [--owner-root] [--auto-deconfigure] [--path-exclude PATTERN | --path-include PATTERN].. [--force-confold | --force-confnew] [--force-confmiss] [--force-depends] TREE.."
 usage_words topic.Verify = codes "verify [--root DIR] [--json] [PKG.. | --tree TREE [--owner-root]]"
 
 -- a screen: how the words of the topic are put, and what is told of it

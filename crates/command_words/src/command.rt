@@ -2,7 +2,7 @@
 ghost use Rattle.std.specs.Prelude.{◌≡◌, IfOk, codes, false, string_bytes, true};
 ghost use Rattle.clap.specs.Words.{app_of, new_app, rule_of, with_rule, with_subcommand};
 ghost use Rattle.clap.specs.declared.builder.command.Command.TheViews.{out-Command as fields_of};
-ghost use Rattle.command_words.specs.CommandLine.{are_ascending, asking_app, calling_app, changing_app, compare_versions_app, configure_app, divert_app, fifth_apps, first_apps, flag_rule, fourth_apps, help_app, install_app, last_apps, lines, list_app, matching_app, maybe_word_rule, option_rule, options_rule, remove_selected_app, removing_app, root_rule, rooted_app, second_apps, select_app, subcommand_names, third_apps, truename_app, undivert_app, unpack_app, unpacking_app, verify_app, whole_app, with_all, with_conffiles_forced, with_diverted, with_forced, with_frontends, with_owner, with_rehearsal, without_help, word_rule, words_rule};
+ghost use Rattle.command_words.specs.CommandLine.{are_ascending, asking_app, calling_app, changing_app, compare_versions_app, configure_app, divert_app, fifth_apps, first_apps, flag_rule, fourth_apps, help_app, install_app, last_apps, lines, list_app, matching_app, maybe_word_rule, option_rule, options_rule, remove_selected_app, removing_app, root_rule, rooted_app, second_apps, select_app, subcommand_names, third_apps, truename_app, undivert_app, unpack_app, unpacking_app, verify_app, whole_app, with_all, with_conffiles_forced, with_diverted, with_filters, with_forced, with_frontends, with_owner, with_rehearsal, without_help, word_rule, words_rule};
 
 use clap::{Arg, ArgAction, Command};
 use std::alloc::{AllocError, Global};
@@ -245,6 +245,16 @@ fn calling<'a>(alloc: Global, name: &'a str) -> Result<Command<'a>, AllocError>
     with_arg(command, option(alloc, "abort-after"))
 }
 
+// Which paths of archives are hidden.
+fn with_filters<'a>(alloc: Global, command: Command<'a>) -> Result<Command<'a>, AllocError>
+    ensures app { IfOk result (λ c. app_of c ≡ with_filters (app_of command.entry)) }
+    ensures local { IfOk result (λ c. (fields_of c).has_globals
+        ≡ (fields_of command.entry).has_globals) }
+{
+    let command = with_arg(command, options(alloc, "path-exclude"))?;
+    with_arg(command, options(alloc, "path-include"))
+}
+
 // A subcommand that takes trees, without these.
 fn unpacking<'a>(alloc: Global, name: &'a str) -> Result<Command<'a>, AllocError>
     ensures app { IfOk result (λ c. app_of c ≡ unpacking_app name.entry.now) }
@@ -252,7 +262,7 @@ fn unpacking<'a>(alloc: Global, name: &'a str) -> Result<Command<'a>, AllocError
 {
     let command = with_arg(calling(alloc, name)?, flag(alloc, "owner-root"))?;
     let command = with_arg(command, flag(alloc, "auto-deconfigure"))?;
-    with_forced(alloc, command)
+    with_forced(alloc, with_filters(alloc, command)?)
 }
 
 fn install_command<'a>(alloc: Global) -> Result<Command<'a>, AllocError>

@@ -66,7 +66,8 @@ pub(crate) fn has_descriptors(found: &ArgMatches<'_>) -> bool
     are_descriptors(all_texts_of(found, "status-fd"))
 }
 
-fn behind<'a>(front: &str, text: &'a str) -> Option<&'a str>
+/// What stands behind a front.
+pub(crate) fn behind<'a>(front: &str, text: &'a str) -> Option<&'a str>
     ensures { option_map (λ s. s.now) result ≡ behind front.now text.entry.now }
 {
     text.strip_prefix(front)

@@ -148,6 +148,10 @@ rounds, so that what a package needs before its unpack is configured before.
   --abort-after N     behind N units that failed, no further one is begun
   --owner-root        files get user and group 0, whoever made the tree
   --auto-deconfigure  installed packages may be deconfigured in their favour
+  --path-exclude PATTERN
+                      paths of archives that match stay out: * stands for any signs, ? for one
+  --path-include PATTERN
+                      but these come in; of all that match the last one decides
   --force-confold     an edited conffile stays, as without a flag
   --force-confnew     the package's takes the place of an edited conffile
   --force-confmiss    a deleted conffile is made again
@@ -326,6 +330,10 @@ const UNPACK: &str =
   --abort-after N     behind N units that failed, no further one is begun
   --owner-root        files get user and group 0, whoever made the tree
   --auto-deconfigure  installed packages may be deconfigured in their favour
+  --path-exclude PATTERN
+                      paths of archives that match stay out: * stands for any signs, ? for one
+  --path-include PATTERN
+                      but these come in; of all that match the last one decides
   --force-depends     Pre-Depends are ignored, and that others depend on what has to go
 
 The flags for conffiles are taken, and not needed.
@@ -391,7 +399,7 @@ impl Topic {
                 "divert [--root DIR] [--json] [--wait SECONDS] [--status-fd N].. [--log FILE] [--dry-run [--changes] [--assume-failure PKG:SCRIPT:WORD]..] (--package P | --local) [--divert TARGET] [--rename] PATH",
             Topic::Help => "help [COMMAND]",
             Topic::Install =>
-                "install [--root DIR] [--json] [--wait SECONDS] [--status-fd N].. [--log FILE] [--dry-run [--changes] [--assume-failure PKG:SCRIPT:WORD]..] [--scripts-stderr] [--no-triggers] [--abort-after N] [--owner-root] [--auto-deconfigure] [--force-confold | --force-confnew] [--force-confmiss] [--force-depends] [--as-given] TREE..",
+                "install [--root DIR] [--json] [--wait SECONDS] [--status-fd N].. [--log FILE] [--dry-run [--changes] [--assume-failure PKG:SCRIPT:WORD]..] [--scripts-stderr] [--no-triggers] [--abort-after N] [--owner-root] [--auto-deconfigure] [--path-exclude PATTERN | --path-include PATTERN].. [--force-confold | --force-confnew] [--force-confmiss] [--force-depends] [--as-given] TREE..",
             Topic::List => "list [--root DIR] [--json | --table | --format FORMAT] [PATTERN..]",
             Topic::ListFiles => "listfiles [--root DIR] [--json] PKG",
             Topic::Purge =>
@@ -409,7 +417,7 @@ impl Topic {
             Topic::Undivert =>
                 "undivert [--root DIR] [--json] [--wait SECONDS] [--status-fd N].. [--log FILE] [--dry-run [--changes] [--assume-failure PKG:SCRIPT:WORD]..] (--package P | --local) [--rename] PATH",
             Topic::Unpack =>
-                "unpack [--root DIR] [--json] [--wait SECONDS] [--status-fd N].. [--log FILE] [--dry-run [--changes] [--assume-failure PKG:SCRIPT:WORD]..] [--scripts-stderr] [--no-triggers] [--abort-after N] [--owner-root] [--auto-deconfigure] [--force-confold | --force-confnew] [--force-confmiss] [--force-depends] TREE..",
+                "unpack [--root DIR] [--json] [--wait SECONDS] [--status-fd N].. [--log FILE] [--dry-run [--changes] [--assume-failure PKG:SCRIPT:WORD]..] [--scripts-stderr] [--no-triggers] [--abort-after N] [--owner-root] [--auto-deconfigure] [--path-exclude PATTERN | --path-include PATTERN].. [--force-confold | --force-confnew] [--force-confmiss] [--force-depends] TREE..",
             Topic::Verify => "verify [--root DIR] [--json] [PKG.. | --tree TREE [--owner-root]]",
         }
     }

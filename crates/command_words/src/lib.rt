@@ -8,7 +8,7 @@
 //! for help or the version asks for that, whatever else the words are (`flagged`); behind a usage
 //! fault stands the screen of the subcommand that the words name (`screen`); `rehearsal_of` tells
 //! whether the command is only rehearsed, which calls are assumed to fail then, and whether changed
-//! paths are told; `wants_json` tells whether each line is to be an object;
+//! paths are told; `filters_of` gives the filters for paths in their order; `wants_json` tells whether each line is to be an object;
 //! `Comparison::verdict` is that of the versions' order, with an empty text before or behind all versions as the operator
 //! has it (`order_of`), or the first text that is neither empty nor a version.
 #![tactic(auto)]
@@ -16,6 +16,7 @@
 mod command;
 mod comparison;
 mod diverting;
+mod filters;
 mod forced;
 mod found;
 mod frontends;
@@ -39,6 +40,7 @@ mod words;
 pub use command::subcommand_names;
 pub use comparison::{Comparison, Operator, Verdict, bad_version_line};
 pub use diverting::{Diverting, Undiverting};
+pub use filters::filters_of;
 pub use forced::Forced;
 pub use frontends::{logs_of, status_fds_of};
 pub use help::{Topic, help_text, version_text};

@@ -1,4 +1,5 @@
 // What is wrong with the words of a subcommand in which clap finds no fault: one thing, with its word.
+use crate::filters::is_filter;
 use crate::found::{all_texts_of, flag_of, is_absolute, is_package, text_of};
 use crate::frontends::is_descriptor;
 use crate::limits::limit_of;
@@ -76,6 +77,20 @@ fn of_frontends(alloc: Global, found: &ArgMatches<'_>) -> Result<Option<String>,
         if !is_descriptor(text) {
             let why = "isn't the number of a descriptor";
             return Ok(Some(wrong_word(alloc, "--status-fd", Some(text), why)?));
+        }
+    }
+    Ok(None)
+}
+
+fn of_filters(
+    alloc: Global,
+    found: &ArgMatches<'_>,
+    option: &str,
+    id: &str,
+) -> Result<Option<String>, AllocError> {
+    for text in all_texts_of(found, id).unwrap_or(&[]) {
+        if !is_filter(text) {
+            return Ok(Some(wrong_word(alloc, option, Some(text), NO_PATTERN)?));
         }
     }
     Ok(None)
@@ -164,7 +179,7 @@ fn of_configure(alloc: Global, found: &ArgMatches<'_>) -> Result<String, AllocEr
     String::from_str(alloc, BOTH_CONFFILES)
 }
 
-/// What is wrong: first with the root, then with the wait, then with how many units may fail, then with a descriptor, then with a rehearsal, then with what else the subcommand takes.
+/// What is wrong: first with the root, then with the wait, then with how many units may fail, then with a descriptor, then with a filter, then with a rehearsal, then with what else the subcommand takes.
 pub(crate) fn mistake_text(
     alloc: Global,
     name: &str,
@@ -180,6 +195,12 @@ pub(crate) fn mistake_text(
         return Ok(text);
     }
     if let Some(text) = of_frontends(alloc, found)? {
+        return Ok(text);
+    }
+    if let Some(text) = of_filters(alloc, found, "--path-exclude", "path-exclude")? {
+        return Ok(text);
+    }
+    if let Some(text) = of_filters(alloc, found, "--path-include", "path-include")? {
         return Ok(text);
     }
     if let Some(text) = of_rehearsal(alloc, found)? {

@@ -17,6 +17,7 @@ ghost use Rattle.command_words.specs.declared.words.WordsFault.TheVariants.{NoMe
 use crate::command::whole_command;
 use crate::comparison::{Comparison, Operator};
 use crate::diverting::{Diverting, Undiverting, diverting_of, undiverting_of};
+use crate::filters::has_filters;
 use crate::found::text_of;
 use crate::frontends::has_descriptors;
 use crate::help::{Topic, has_help_flag, is_help_flag, named_in, topic_in, usage_text};
@@ -237,7 +238,7 @@ fn asked_with(
 ) -> Result<Option<Asked>, AllocError>
     ensures { IfOk result (λ asked. asked ≡ asked_with name.now (rows_of (found_of found.now))) }
 {
-    if !(has_descriptors(found) && is_rehearsable(found)) {
+    if !(has_descriptors(found) && has_filters(found) && is_rehearsable(found)) {
         return Ok(None);
     }
     asked_by(alloc, name, found)

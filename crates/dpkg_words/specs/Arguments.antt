@@ -72,10 +72,10 @@ plain_name name = plain_from name (cut_at 58 name)
 abbrev pub plain_names : List Text → List Text
 plain_names names = map plain_name names
 
--- `install` or `unpack`, before the files; an install takes them as given
+-- `install` or `unpack`, with the filters for paths, before the files; an install takes them as given
 abbrev pub tree_front : Text → Bool → Options → List Text
 tree_front name as_given o =
-    forced_words o.forced (calling_words name o ++ cond o.auto_deconfigure (codes "--auto-deconfigure" ∷ []) []) ++ cond as_given (codes "--as-given" ∷ []) []
+    forced_words o.forced ((calling_words name o ++ cond o.auto_deconfigure (codes "--auto-deconfigure" ∷ []) []) ++ o.filters) ++ cond as_given (codes "--as-given" ∷ []) []
 
 -- `configure`, of all packages that wait for it where none is named
 abbrev pub configuring_words : Options → List Text → List Text

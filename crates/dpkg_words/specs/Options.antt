@@ -83,6 +83,8 @@ valued_of name =
     else if bytes_eq name (codes "status-fd") then Some valued.StatusFd
     else if bytes_eq name (codes "status-logger") then Some valued.Idle
     else if bytes_eq name (codes "log") then Some valued.Log
+    else if bytes_eq name (codes "path-exclude") then Some valued.PathExclude
+    else if bytes_eq name (codes "path-include") then Some valued.PathInclude
     else if bytes_eq name (codes "abort-after") then Some valued.AbortAfter
     else if bytes_eq name (codes "debug") then Some valued.Idle
     else None

@@ -1,6 +1,7 @@
 -- dpkg's words, read one after another: options, up to the first word that is none or stands behind `--`, and words.
-use Rattle.std.specs.Prelude.{ℕ, Bool, true, false, List, [], ◌∷◌, ◌++◌, Option, Some, None, codes, fold, if◌then◌else◌, is_some, not}
+use Rattle.std.specs.Prelude.{ℕ, ◌==◌, ◌&&◌, ◌||◌, Bool, true, false, List, [], ◌∷◌, ◌++◌, Option, Some, None, codes, fold, if◌then◌else◌, is_some, not}
 use Rattle.std.specs.Str.{bytes_eq}
+use Rattle.name_patterns.specs.Patterns.{is_readable}
 use Rattle.dpkg_words.specs.Cutting.{behind, cut_at}
 use Rattle.dpkg_words.specs.Forces.{nothing, thing_of, things_in, with_forced, with_idle}
 use Rattle.dpkg_words.specs.Options.{Text, letter_sense, long_sense}
@@ -37,6 +38,8 @@ start = record {
     triggers = true;
     status_fds = [];
     log = None;
+    filters = [];
+    unread = None;
     limit = codes "50";
     picking = all_taken;
     forced = nothing;
@@ -98,13 +101,33 @@ with_instdir root o = record o { instdir = front_of root }
 abbrev pub with_admindir : Text → Options → Options
 with_admindir admindir o = record o { admindir = admindir }
 
--- each descriptor is told, and of several logs the last one is written
+-- a pattern for paths: no set is, nor a text in the quotes that dpkg takes from a value in its files (34 or 39)
+abbrev pub is_quote : ℕ → Bool
+is_quote byte = byte == 34 || byte == 39
+
+abbrev pub is_filter : Text → Bool
+is_filter [] = true
+is_filter (c ∷ cs) = is_readable (c ∷ cs) && not (is_quote c)
+
+-- the first that is none is told where it would matter
+abbrev pub with_unread : Text → Options → Options
+with_unread pattern o = if is_some o.unread then o else record o { unread = Some pattern }
+
+-- a filter, as one of the program's own words
+abbrev pub with_filter : Text → Text → Options → Options
+with_filter front pattern o =
+    if is_filter pattern then record o { filters = o.filters ++ (front ++ pattern) ∷ [] }
+    else with_unread pattern o
+
+-- each descriptor is told, and of several logs the last one is written; filters stay in their order
 abbrev pub given : Valued → Text → Options → Options
 given valued.Root value o = with_root value o
 given valued.Instdir value o = with_instdir value o
 given valued.Admindir value o = with_admindir value o
 given valued.StatusFd value o = record o { status_fds = o.status_fds ++ value ∷ [] }
 given valued.Log value o = record o { log = Some value }
+given valued.PathExclude value o = with_filter (codes "--path-exclude=") value o
+given valued.PathInclude value o = with_filter (codes "--path-include=") value o
 given valued.AbortAfter value o = record o { limit = value }
 given valued.Idle value o = o
 

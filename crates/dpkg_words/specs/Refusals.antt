@@ -20,6 +20,7 @@ why_text why.OneWord = codes "one word is taken behind "
 why_text why.ThreeWords = codes "VERSION OPERATOR VERSION are wanted behind "
 why_text why.Words = codes "no word is taken behind "
 why_text why.Pattern = codes "only a path or a pattern of * and ? can be searched for, and not "
+why_text why.Filter = codes "only a pattern of * and ? without quotes is taken for paths, and not "
 why_text why.Number = codes "invalid integer for --status-fd: "
 why_text why.Limit = codes "invalid integer for --abort-after: "
 

@@ -48,10 +48,15 @@ over_files o front files =
     then Gathers (record { front = front; root = root_of o.instdir; files = files; recursive = o.recursive; picking = o.picking })
     else Ours (behind_dashes front files)
 
+-- no filter is passed over that can't be read
+abbrev pub unless_unread : Option Text → Translated → Translated
+unless_unread (Some pattern) come = refusal why.Filter pattern
+unless_unread None come = come
+
 -- `--install FILE..` or `--unpack FILE..`
 abbrev pub trees : Action → Text → Bool → Options → List Text → Translated
 trees asked name as_given o [] = refusal why.NoWords (name_of asked)
-trees asked name as_given o (w ∷ ws) = rooted o (over_files o (tree_front name as_given o) (w ∷ ws))
+trees asked name as_given o (w ∷ ws) = unless_unread o.unread (rooted o (over_files o (tree_front name as_given o) (w ∷ ws)))
 
 -- `--configure PKG..`, or `--configure --pending`: with no name, only that asks for all
 abbrev pub configured_by : Bool → Options → List Text → Translated

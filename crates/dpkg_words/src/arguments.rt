@@ -164,6 +164,7 @@ pub(crate) fn tree_front(
 {
     let mut words = calling_words(alloc, name, options)?;
     words.push_if(options.auto_deconfigure, "--auto-deconfigure")?;
+    words.push_all(options.filters.as_slice())?;
     push_forced(&mut words, options.forced)?;
     words.push_if(as_given, "--as-given")?;
     Ok(words)

@@ -53,6 +53,8 @@ pub(crate) enum Valued {
     Admindir,
     StatusFd,
     Log,
+    PathExclude,
+    PathInclude,
     AbortAfter,
     /// It changes nothing.
     Idle,
@@ -150,6 +152,8 @@ fn valued_of(name: &str) -> Option<Valued>
         "status-fd" => Some(Valued::StatusFd),
         "status-logger" => Some(Valued::Idle),
         "log" => Some(Valued::Log),
+        "path-exclude" => Some(Valued::PathExclude),
+        "path-include" => Some(Valued::PathInclude),
         "abort-after" => Some(Valued::AbortAfter),
         "debug" => Some(Valued::Idle),
         _ => None,

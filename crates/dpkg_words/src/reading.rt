@@ -1,8 +1,8 @@
 // dpkg's words, read one after another.
-ghost use Rattle.std.specs.Prelude.{◌≡◌, IfOk, fold, map, option_map, string_bytes};
+ghost use Rattle.std.specs.Prelude.{◌≡◌, ◌++◌, IfOk, fold, map, option_map, string_bytes};
 ghost use Rattle.dpkg_words.specs.Options.{long_sense};
 ghost use Rattle.dpkg_words.specs.declared.options.Valued.TheVariants as valued;
-ghost use Rattle.dpkg_words.specs.Reading.{administration_of, attached, by_idle, by_sense, by_thing, faulty, front_of, given, in_place, is_taken, number_fault, read_all, read_word, start, with_action, with_admindir, with_cut, with_debug, with_downgrade, with_flag, with_instdir, with_letter, with_long, with_option, with_other, with_root, with_short, with_thing, with_things, with_value, with_word};
+ghost use Rattle.dpkg_words.specs.Reading.{administration_of, attached, by_idle, by_sense, by_thing, faulty, front_of, given, in_place, is_filter, is_quote, is_taken, number_fault, read_all, read_word, start, with_action, with_admindir, with_cut, with_debug, with_downgrade, with_filter, with_flag, with_instdir, with_letter, with_long, with_option, with_other, with_root, with_short, with_thing, with_things, with_unread, with_value, with_word};
 
 use crate::forces::{Forced, Thing, push_idle, thing_of, things_in};
 use crate::numbers::is_number;
@@ -10,6 +10,7 @@ use crate::options::{Action, Flag, Sense, Valued, letter_sense, long_sense};
 use crate::picking::Picking;
 use crate::refusals::Why;
 use crate::words::{behind, cut_at_equals};
+use name_patterns::is_readable;
 use std::alloc::{AllocError, Global};
 use texts::{Text, Texts};
 
@@ -31,6 +32,10 @@ pub(crate) struct Options {
     /// The descriptors on which a caller reads what is done.
     pub(crate) status_fds: Texts,
     pub(crate) log: Option<Text>,
+    /// The filters for paths, as the program's own words.
+    pub(crate) filters: Texts,
+    /// The first pattern for paths that isn't taken.
+    pub(crate) unread: Option<Text>,
     /// How many units may fail, in decimal digits.
     pub(crate) limit: Text,
     pub(crate) picking: Picking,
@@ -74,6 +79,8 @@ fn start(alloc: Global) -> Result<Reading, AllocError>
         triggers: true,
         status_fds: Texts::new(alloc),
         log: None,
+        filters: Texts::new(alloc),
+        unread: None,
         limit: Text::from_str(alloc, "50")?,
         picking: Picking::none(),
         forced: Forced::none(),
@@ -270,6 +277,54 @@ fn with_log(alloc: Global, file: &str, options: Options) -> Result<Options, Allo
     Ok(Options { log, ..options })
 }
 
+fn is_quote(byte: u8) -> bool
+    ensures { result ≡ is_quote byte }
+{
+    byte == b'"' || byte == b'\''
+}
+
+// Whether a pattern for paths is taken.
+fn is_filter(pattern: &str) -> bool
+    ensures { result ≡ is_filter pattern.now }
+{
+    match pattern.as_bytes().first() {
+        Some(first) => is_readable(pattern.as_bytes()) && !is_quote(*first),
+        None => true,
+    }
+}
+
+fn with_unread(alloc: Global, pattern: &str, options: Options) -> Result<Options, AllocError>
+    ensures { IfOk result (λ o. o ≡ with_unread pattern.now options) }
+{
+    if options.unread.is_some() {
+        return Ok(options);
+    }
+    let unread = Some(Text::from_str(alloc, pattern)?);
+    Ok(Options { unread, ..options })
+}
+
+fn filter_word(alloc: Global, front: &str, pattern: &str) -> Result<String, AllocError>
+    ensures { IfOk result (λ word. string_bytes word ≡ front.now ++ pattern.now) }
+{
+    format!(in alloc; "{front}{pattern}")
+}
+
+fn with_filter(
+    alloc: Global,
+    front: &str,
+    pattern: &str,
+    options: Options,
+) -> Result<Options, AllocError>
+    ensures { IfOk result (λ o. o ≡ with_filter front.now pattern.now options) }
+{
+    if !is_filter(pattern) {
+        return with_unread(alloc, pattern, options);
+    }
+    let mut filters = options.filters;
+    filters.push(Text::new(filter_word(alloc, front, pattern)?))?;
+    Ok(Options { filters, ..options })
+}
+
 fn with_limit(alloc: Global, limit: &str, options: Options) -> Result<Options, AllocError>
     ensures { IfOk result (λ o. o ≡ given valued.AbortAfter limit.now options) }
 {
@@ -291,6 +346,8 @@ fn given(
         Valued::Admindir => with_admindir(alloc, value, options),
         Valued::StatusFd => with_status_fd(alloc, value, options),
         Valued::Log => with_log(alloc, value, options),
+        Valued::PathExclude => with_filter(alloc, "--path-exclude=", value, options),
+        Valued::PathInclude => with_filter(alloc, "--path-include=", value, options),
         Valued::AbortAfter => with_limit(alloc, value, options),
         Valued::Idle => Ok(options),
     }

@@ -24,6 +24,7 @@ pub(crate) enum Why {
     ThreeWords,
     Words,
     Pattern,
+    Filter,
     Number,
     Limit,
 }
@@ -45,6 +46,7 @@ fn why_text(why: Why) -> &'static str
         Why::ThreeWords => "VERSION OPERATOR VERSION are wanted behind ",
         Why::Words => "no word is taken behind ",
         Why::Pattern => "only a path or a pattern of * and ? can be searched for, and not ",
+        Why::Filter => "only a pattern of * and ? without quotes is taken for paths, and not ",
         Why::Number => "invalid integer for --status-fd: ",
         Why::Limit => "invalid integer for --abort-after: ",
     }

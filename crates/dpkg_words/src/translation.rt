@@ -142,6 +142,9 @@ fn trees(
     if words.is_empty() {
         return refusal(alloc, Why::NoWords, name_of(action));
     }
+    if let Some(pattern) = &options.unread {
+        return refusal(alloc, Why::Filter, pattern.as_str());
+    }
     let front = tree_front(alloc, name, as_given, options)?;
     let come = over_files(alloc, options, front, words)?;
     rooted(alloc, options, come)
