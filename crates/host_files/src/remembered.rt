@@ -67,6 +67,10 @@ impl Remembered {
         }
     }
 
+    pub(crate) fn alloc(&self) -> Global {
+        self.alloc
+    }
+
     // After a script or a fault anything may have changed, and a step that was declined says that not all is as it was thought.
     fn forget(&mut self)
         ensures directory { self.new.directory ≡ None }
