@@ -381,7 +381,7 @@ impl<D: Disk> FilesHost<D> {
         ensures counts { Counts (replay D.Disk.model self.old.told.log.notes)
             (replay D.Disk.model self.new.told.log.notes) result }
     {
-        match self.root.unknown_above(path)? {
+        match self.root.unknown_above(path) {
             Some(directory) => match self.see(&directory, path) {
                 Ok(_) => Ok(()),
                 Err(fault) => Err(fault),
