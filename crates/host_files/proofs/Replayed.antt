@@ -2,11 +2,11 @@
 use Rattle.std.proofs.Common.{◌≡◌, ◌⊎◌, inl, inr, Bool, true, false, ◌&&◌, IsTrue, List, [], ◌∷◌, ◌++◌, Option, Some, None, Result, Ok, Err, OnOk, refl, sym, ap, subst, ◌∙◌, append_assoc}
 use Rattle.std.proofs.lemmas.Bool.{false≢true}
 use Rattle.std.proofs.lemmas.List.{append-nil}
-use Rattle.host_core.specs.World.{Step, Write, Move, Take, MakeDir, RemoveDir, HardLink, MakeLink, Sync, Barrier, SyncAll, SyncRoot, Lower, IsPart, is_kept, undo_of, place_of}
+use Rattle.host_core.specs.World.{World, Step, Write, Move, Take, MakeDir, RemoveDir, HardLink, MakeLink, Sync, Barrier, SyncAll, SyncRoot, Lower, IsPart, is_kept, undo_of, place_of}
 use Rattle.host_core.specs.Events.{Event, Did, Finished, Cut, Failed, Denied}
 use Rattle.host_core.specs.Unsynced.{IsSettled, KeepsSettled}
 use Rattle.host_core.proofs.Losses.{settled_none, settled_event, keeps_part}
-use Rattle.host_core.specs.Host.{Same, Happens, Reads, Silent, Counts, Stops, Declines, Does, Runs}
+use Rattle.host_core.specs.Host.{State, Same, Happens, Reads, Silent, Counts, Stops, Declines, Does, Runs, Tells}
 use Rattle.host_core.proofs.Counted.{has_failed, no_fault_same, silent_failed, silent_same}
 use Rattle.host_core.specs.declared.call.Call.{Call}
 use Rattle.host_core.specs.declared.call.Outcome.{Outcome}
@@ -23,6 +23,15 @@ use Rattle.host_core.specs.Host.{ran_of}
 pub honest_before : (a b : Bool) → IsTrue (a && b) → IsTrue b
 honest_before true b h = h
 honest_before false b h = absurd (false≢true h)
+
+-- what is told of a world that was only looked at before
+pub tells_behind : {T E : Type 0} (a b c : State) (result : Result T E) (P : T → World → Type 0) → Reads a b → Tells result P b c → Tells result P a c
+tells_behind a b c (Ok x) P reads told = λ h. subst (P x) reads.world (told h)
+tells_behind a b c (Err e) P reads told = λ h. tt
+
+-- nothing was looked at
+pub reads_none : (s : State) → Reads s s
+reads_none s = record { honest = λ h. h; world = refl; added = []; failed = tt; events = sym (append-nil s.events) }
 
 module _ (m : Model) where
   pub one : (n : Noted) (old new : List Noted) → new ≡ n ∷ old → Happens (events_of m old n) (replay m old) (replay m new)

@@ -107,7 +107,9 @@ impl<D: Disk> FilesHost<D> {
     ghost use Rattle.host_files.specs.Shown.{IsBrought, IsDeclinedBy, IsEndedBy, IsRemembered, IsShownBy, IsStepBy, IsSure};
     ghost use Rattle.host_files.specs.SystemCalls.{changes_in};
     ghost use Rattle.host_files.specs.declared.record.Noted.TheVariants.{Done, Undone, Declined, Ended};
+    ghost use Rattle.host_core.specs.Host.{Counts, Reads, Silent, Tells};
     ghost use Rattle.host_core.specs.Unsynced.{KeepsSettled};
+    ghost use Rattle.host_core.specs.World.{kind_of};
     ghost use Rattle.host_files.specs.Replay.{IsOwed};
 
     /// Links may lead to the directory. Device where there is none, or its path has more than 3,000
@@ -318,16 +320,43 @@ impl<D: Disk> FilesHost<D> {
         self.root.remembered.take_note(&note);
         self.told.end(called, call, kept, outcome);
     }
-}
 
-impl<D: Disk> Host for FilesHost<D> {
-    ghost state = { λ h. replay D.Disk.model h.told.log.notes };
+    // What kind of node stands at a path. A person is told of a fault by the path that was asked for.
+    fn see(&mut self, path: &RootPath, wanted: &RootPath) -> Result<Option<Kind>, HostFault>
+        ensures found { Tells result (λ kind w. kind ≡ kind_of (w path.now)) (replay D.Disk.model self.old.told.log.notes)
+            (replay D.Disk.model self.new.told.log.notes) }
+        ensures reads { Reads (replay D.Disk.model self.old.told.log.notes)
+            (replay D.Disk.model self.new.told.log.notes) }
+        ensures silent { Silent (replay D.Disk.model self.old.told.log.notes)
+            (replay D.Disk.model self.new.told.log.notes) }
+        ensures counts { Counts (replay D.Disk.model self.old.told.log.notes)
+            (replay D.Disk.model self.new.told.log.notes) result }
+    {
+        self.told.guard()?;
+        self.system.begin_open();
+        if self.root.remembered.lacks(path.as_str()) {
+            self.note(&Note::Seen(path, None));
+            return Ok(None);
+        }
+        match kind_at(&mut self.system, &self.root, path) {
+            Ok(kind) => {
+                self.note(&Note::Seen(path, kind));
+                Ok(kind)
+            }
+            Err(fault) => Err(self.fail(fault, wanted.as_str(), &Note::Missed)),
+        }
+    }
 
-    ghost tree = { λ h. D.Disk.sound.tree h.told.log.notes };
-
-    ghost settled = { λ h. h.settled };
-
-    fn node(&mut self, path: &RootPath) -> Result<Option<Node>, HostFault> {
+    fn read(&mut self, path: &RootPath) -> Result<Option<Node>, HostFault>
+        ensures found { Tells result (λ node w. node ≡ w path.now) (replay D.Disk.model self.old.told.log.notes)
+            (replay D.Disk.model self.new.told.log.notes) }
+        ensures reads { Reads (replay D.Disk.model self.old.told.log.notes)
+            (replay D.Disk.model self.new.told.log.notes) }
+        ensures silent { Silent (replay D.Disk.model self.old.told.log.notes)
+            (replay D.Disk.model self.new.told.log.notes) }
+        ensures counts { Counts (replay D.Disk.model self.old.told.log.notes)
+            (replay D.Disk.model self.new.told.log.notes) result }
+    {
         self.told.guard()?;
         self.system.begin_open();
         if self.root.remembered.lacks(path.as_str()) {
@@ -340,6 +369,39 @@ impl<D: Disk> Host for FilesHost<D> {
                 Ok(node)
             }
             Err(fault) => Err(self.fail(fault, path.as_str(), &Note::Missed)),
+        }
+    }
+
+    // The directory that a path stands in is looked at first, so that it is remembered.
+    fn approach(&mut self, path: &RootPath) -> Result<(), HostFault>
+        ensures reads { Reads (replay D.Disk.model self.old.told.log.notes)
+            (replay D.Disk.model self.new.told.log.notes) }
+        ensures silent { Silent (replay D.Disk.model self.old.told.log.notes)
+            (replay D.Disk.model self.new.told.log.notes) }
+        ensures counts { Counts (replay D.Disk.model self.old.told.log.notes)
+            (replay D.Disk.model self.new.told.log.notes) result }
+    {
+        match self.root.unknown_above(path) {
+            Some(directory) => match self.see(&directory, path) {
+                Ok(_) => Ok(()),
+                Err(fault) => Err(fault),
+            },
+            None => Ok(()),
+        }
+    }
+}
+
+impl<D: Disk> Host for FilesHost<D> {
+    ghost state = { λ h. replay D.Disk.model h.told.log.notes };
+
+    ghost tree = { λ h. D.Disk.sound.tree h.told.log.notes };
+
+    ghost settled = { λ h. h.settled };
+
+    fn node(&mut self, path: &RootPath) -> Result<Option<Node>, HostFault> {
+        match self.approach(path) {
+            Ok(()) => self.read(path),
+            Err(fault) => Err(fault),
         }
     }
 
@@ -359,18 +421,9 @@ impl<D: Disk> Host for FilesHost<D> {
     }
 
     fn kind(&mut self, path: &RootPath) -> Result<Option<Kind>, HostFault> {
-        self.told.guard()?;
-        self.system.begin_open();
-        if self.root.remembered.lacks(path.as_str()) {
-            self.note(&Note::Seen(path, None));
-            return Ok(None);
-        }
-        match kind_at(&mut self.system, &self.root, path) {
-            Ok(kind) => {
-                self.note(&Note::Seen(path, kind));
-                Ok(kind)
-            }
-            Err(fault) => Err(self.fail(fault, path.as_str(), &Note::Missed)),
+        match self.approach(path) {
+            Ok(()) => self.see(path, path),
+            Err(fault) => Err(fault),
         }
     }
 

@@ -26,6 +26,9 @@
 //! A large file is lent (`lending_limit`): it is read through once, in pieces, and once more as it is written elsewhere or
 //! compared. That its bytes are then the same is supposed, as what the directory holds is.
 //!
+//! Before a look at a path in a directory of which nothing is remembered, that directory is looked at,
+//! which counts as a call too (`see`).
+//!
 //! What it doesn't look at again is tied to the record of its calls: the directory that it
 //! remembers is known by them (`IsKnown`: seen, or above what was seen or made, and no script,
 //! fault or step at it since), the path below which it doesn't look is vacant by them (`IsVacant`:

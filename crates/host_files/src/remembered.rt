@@ -67,6 +67,14 @@ impl Remembered {
         }
     }
 
+    /// A path of its own, unless memory is wanting for it.
+    pub(crate) fn owned(&self, path: &str) -> Option<RootPath> {
+        match RootPath::parse(self.alloc, path) {
+            Ok(path) => path,
+            Err(_) => None,
+        }
+    }
+
     // After a script or a fault anything may have changed, and a step that was declined says that not all is as it was thought.
     fn forget(&mut self)
         ensures directory { self.new.directory ≡ None }

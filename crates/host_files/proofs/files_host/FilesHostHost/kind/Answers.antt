@@ -1,21 +1,23 @@
-use Rattle.std.proofs.Common.{Option, inr, refl}
+use Rattle.std.proofs.Common.{◌≡◌, Option, refl}
 use Rattle.host_core.specs.declared.node.Kind.{Kind}
-use Rattle.host_files.proofs.RememberedLaws.{lacking}
-use Rattle.host_files.proofs.Replayed.{silent_missed, counts_missed, reads_missed}
+use Rattle.host_core.specs.World.{World, kind_of}
+use Rattle.host_core.proofs.Counted.{counts_behind, fault_behind, no_fault_same}
+use Rattle.host_core.proofs.Moments.{reads_then, silent_then}
+use Rattle.host_files.proofs.Replayed.{tells_behind}
+use Rattle.host_files.specs.Replay.{replay}
 use Rattle.host_files.proofs.files_host.FilesHostHost.kind.Goals as goal
 
-pub note-requires-clause-shown : goal.note-requires-clause-shown
-note-requires-clause-shown g c = inr (
-  refl,
-  lacking c.args.self.now.told.log.notes c.args.path.now c.as_str.result.now c.begin_open.new.self.trace.calls c.args.self.now.root.remembered.vacant (λ v. v)
-      c.begin_open.ensures c.as_str.ensures c.args.self.now.vacant (c.lacks.ensures c.if-lacks.true),
-)
+pub returns-in-Ok-clause-found : goal.returns-in-Ok-clause-found
+returns-in-Ok-clause-found g c = tells_behind (replay g.D.Disk.model c.args.self.now.told.log.notes) (replay g.D.Disk.model c.approach.new.self.told.log.notes) (replay g.D.Disk.model c.see.new.self.told.log.notes) c.see.result (λ kind w. kind ≡ kind_of (w c.args.path.now)) c.approach.ensures.reads c.see.ensures.found
 
-pub returns-in-Err-clause-silent : goal.returns-in-Err-clause-silent
-returns-in-Err-clause-silent g c = silent_missed g.D.Disk.model c.fail.result c.args.self.now.told.log.notes c.fail.new.self.told.log.notes c.fail.ensures.undeclined c.fail.ensures.device c.fail.ensures.memory
+pub returns-in-Ok-clause-reads : goal.returns-in-Ok-clause-reads
+returns-in-Ok-clause-reads g c = reads_then (replay g.D.Disk.model c.args.self.now.told.log.notes) (replay g.D.Disk.model c.approach.new.self.told.log.notes) (replay g.D.Disk.model c.see.new.self.told.log.notes) c.approach.ensures.reads c.see.ensures.reads
+
+pub returns-in-Ok-clause-silent : goal.returns-in-Ok-clause-silent
+returns-in-Ok-clause-silent g c = silent_then (replay g.D.Disk.model c.args.self.now.told.log.notes) (replay g.D.Disk.model c.approach.new.self.told.log.notes) (replay g.D.Disk.model c.see.new.self.told.log.notes) c.approach.ensures.silent c.see.ensures.silent
+
+pub returns-in-Ok-clause-counts : goal.returns-in-Ok-clause-counts
+returns-in-Ok-clause-counts g c = counts_behind (replay g.D.Disk.model c.args.self.now.told.log.notes) (replay g.D.Disk.model c.approach.new.self.told.log.notes) (replay g.D.Disk.model c.see.new.self.told.log.notes) c.see.result c.in-Ok.ensures.counts c.see.ensures.counts
 
 pub returns-in-Err-clause-counts : goal.returns-in-Err-clause-counts
-returns-in-Err-clause-counts g c = counts_missed g.D.Disk.model (Option Kind) c.fail.result c.args.self.now.told.log.notes c.fail.new.self.told.log.notes c.fail.ensures.undeclined c.fail.ensures.device c.fail.ensures.memory
-
-pub returns-in-Err-clause-reads : goal.returns-in-Err-clause-reads
-returns-in-Err-clause-reads g c = reads_missed g.D.Disk.model c.fail.result c.args.self.now.told.log.notes c.fail.new.self.told.log.notes c.fail.ensures.undeclined c.fail.ensures.device c.fail.ensures.memory
+returns-in-Err-clause-counts g c = fault_behind (Unit {0}) (Option Kind) (replay g.D.Disk.model c.args.self.now.told.log.notes) (replay g.D.Disk.model c.args.self.now.told.log.notes) (replay g.D.Disk.model c.approach.new.self.told.log.notes) c.in-Err.fault (no_fault_same (replay g.D.Disk.model c.args.self.now.told.log.notes) (replay g.D.Disk.model c.args.self.now.told.log.notes) refl) c.in-Err.ensures.counts
