@@ -3,7 +3,9 @@
 ghost use Rattle.std.specs.Prelude.{◌≡◌};
 ghost use Rattle.dpkg_cli.specs.declared.archives.Missing.TheVariants.{Other};
 
+use crate::hidden::take_out_hidden;
 use host_core::RootPath;
+use path_filters::{Filters, excludes_any};
 use std::fs::{DirBuilder, File};
 use std::io::{Error, ErrorKind, Write};
 use std::os::unix::fs::DirBuilderExt;
@@ -59,6 +61,8 @@ pub(crate) struct Archives {
     held: Option<String>,
     /// The room that was made, with the tree of the last archive in it.
     room: Option<String>,
+    /// What they hide goes out of each tree. A tree that is no archive isn't changed, and not taken where something is excluded.
+    filters: Filters,
 }
 
 fn is_file(rt: &HostRuntime, word: &str) -> bool {
@@ -144,10 +148,11 @@ fn why_failed(rt: &HostRuntime, room: &str) -> Error {
 }
 
 impl Archives {
-    pub(crate) fn none() -> Archives {
+    pub(crate) fn none(filters: Filters) -> Archives {
         Archives {
             held: None,
             room: None,
+            filters,
         }
     }
 
@@ -179,10 +184,11 @@ impl Archives {
         let tree = format!(in rt.alloc(); "{room}/tree")?;
         DirBuilder::new().mode(0o700).create(rt, room)?;
         self.room = Some(made);
-        if unpack(rt, archive, tree.as_str())?.success() {
-            return Ok(tree);
+        if !unpack(rt, archive, tree.as_str())?.success() {
+            return Err(why_failed(rt, room));
         }
-        Err(why_failed(rt, room))
+        take_out_hidden(rt, self.filters.as_slice(), tree.as_str())?;
+        Ok(tree)
     }
 
     // The tree of an archive in a room, where nothing is left of an earlier one.
@@ -219,6 +225,15 @@ impl Archives {
         }
     }
 
+    // No tree of an archive, as far as others are taken.
+    fn no_archive(&self) -> Result<Option<String>, Missing> {
+        if excludes_any(self.filters.as_slice()) {
+            let why = "no archive, which --path-exclude asks for";
+            return Err(Missing::Other(Error::other(why)));
+        }
+        Ok(None)
+    }
+
     /// The tree of a word that names a file: an archive, which is unpacked. The one before it goes; of no other word is there one.
     pub(crate) fn tree_of(
         &mut self,
@@ -227,7 +242,7 @@ impl Archives {
     ) -> Result<Option<String>, Missing> {
         self.drop_last(rt);
         if !is_file(rt, word) {
-            return Ok(None);
+            return self.no_archive();
         }
         let room = self.place(rt)?;
         match self.unpacked(rt, word, room.as_str()) {

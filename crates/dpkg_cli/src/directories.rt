@@ -12,6 +12,7 @@ use crate::watched::Watched;
 use command_line::{Hosts, RootFault, ScriptStreams, TreeOpening, TreeOwners};
 use host_core::HostFault;
 use host_files::{Disk, Failure, FilesHost, is_superuser};
+use path_filters::Filters;
 use shown_lines::shown;
 use std::alloc::AllocError;
 use std::io::ErrorKind;
@@ -96,7 +97,13 @@ fn tell_owner(rt: &HostRuntime, tree: &str) {
 }
 
 impl<'a, D: Disk> Directories<'a, D> {
-    pub(crate) fn new(rt: HostRuntime, line: Line<'a>, rehearses: bool) -> Directories<'a, D>
+    /// Of archives what the filters hide isn't there.
+    pub(crate) fn new(
+        rt: HostRuntime,
+        line: Line<'a>,
+        rehearses: bool,
+        filters: Filters,
+    ) -> Directories<'a, D>
         ensures { result.faults ≡ 0 }
     {
         Directories {
@@ -108,7 +115,7 @@ impl<'a, D: Disk> Directories<'a, D> {
             line,
             trees: 0,
             failure: None,
-            archives: Archives::none(),
+            archives: Archives::none(filters),
             disk: PhantomData,
         }
     }

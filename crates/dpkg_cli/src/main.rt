@@ -26,6 +26,7 @@ mod directories;
 mod fixed_lines;
 mod frontends;
 mod gathering;
+mod hidden;
 mod locks;
 mod log;
 mod mask;
@@ -40,7 +41,7 @@ mod terminal;
 mod watched;
 
 use command_line::{FAILED, run_words};
-use command_words::rehearsal_of;
+use command_words::{filters_of, rehearsal_of};
 use configured::configured;
 use directories::Directories;
 use dpkg_words::{
@@ -53,6 +54,7 @@ use gathering::{archives_below, copies_of};
 use host_files::{Disk, Unknown};
 use mask::{Masked, under_mask};
 use objects::{Objects, kind_for};
+use path_filters::Filters;
 use picking::picked;
 use progress::{Beside, Going, Line, going_through};
 use recorded::cleared;
@@ -135,6 +137,7 @@ fn run_telling<D: Disk>(
     going: Option<Going>,
     words: &[String],
     frontends: &Frontends,
+    filters: Filters,
 ) -> u8
     ensures bound { result ≤ 2 }
     ensures answered { IsAnswered D.Disk.model (map string_bytes words.now) result }
@@ -144,7 +147,7 @@ fn run_telling<D: Disk>(
     let told = Cell::new(0);
     let line = line_of(rt, going, &told, frontends);
     let rehearses = going.is_none() && is_rehearsed(rt.alloc(), words);
-    let mut hosts = Directories::<D>::new(rt, line, rehearses);
+    let mut hosts = Directories::<D>::new(rt, line, rehearses, filters);
     let mut out = Beside {
         line,
         writer: Objects {
@@ -169,13 +172,29 @@ fn run_telling<D: Disk>(
     status
 }
 
+// The same with the filters for the paths of archives that the words have.
+fn run_filtering<D: Disk>(
+    rt: HostRuntime,
+    going: Option<Going>,
+    words: &[String],
+    frontends: &Frontends,
+) -> u8
+    ensures bound { result ≤ 2 }
+    ensures answered { IsAnswered D.Disk.model (map string_bytes words.now) result }
+{
+    match filters_of(rt.alloc(), words) {
+        Ok(filters) => run_telling::<D>(rt, going, words, frontends, filters),
+        Err(_) => refuse(rt, "broken memory\n"),
+    }
+}
+
 // The same, unless a descriptor that the words name isn't open.
 fn run<D: Disk>(rt: HostRuntime, going: Option<Going>, words: &[String]) -> u8
     ensures bound { result ≤ 2 }
     ensures answered { IsAnswered D.Disk.model (map string_bytes words.now) result }
 {
     match frontends_of(&rt, going, words) {
-        Ok(frontends) => run_telling::<D>(rt, going, words, &frontends),
+        Ok(frontends) => run_filtering::<D>(rt, going, words, &frontends),
         Err(line) => refuse(rt, line.as_str()),
     }
 }
