@@ -8,6 +8,7 @@ use Rattle.clap.specs.Words.{Kinds, Row, Text, fault_of, first_of}
 use Rattle.diversions.specs.Entries.{is_owner}
 use Rattle.command_words.specs.CommandLine.{whole_app}
 use Rattle.command_words.specs.Commands.{asked_by, asked_in, asked_of, comparison_of, configure_asked, entered, flagged, flagged_by, parsed_of, unless_faulty}
+use Rattle.command_words.specs.Filters.{has_filters}
 use Rattle.command_words.specs.Frontends.{has_descriptors}
 use Rattle.command_words.specs.Packages.{configuring_of, removing_of}
 use Rattle.command_words.specs.Selecting.{removing_selected_of, selecting_of}
@@ -122,7 +123,7 @@ by_named name rows =
 
 in_named : (sub : Option (Text × List Row)) → Named (asked_in sub)
 in_named None = tt
-in_named (Some sub) = if_named (has_descriptors sub.1 && is_rehearsable sub.1) _ None (by_named sub.0 sub.1) tt
+in_named (Some sub) = if_named (has_descriptors sub.1 && has_filters sub.1 && is_rehearsable sub.1) _ None (by_named sub.0 sub.1) tt
 
 faulty_named : (kinds : Kinds) (asked : Option Asked) → Named asked → Named (unless_faulty kinds asked)
 faulty_named [] asked named = named
