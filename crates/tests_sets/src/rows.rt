@@ -1,7 +1,7 @@
 // What the crates answer about packages that are given by their fields, each answer as one text.
 use dependency_check::{
-    CheckFault, Plan, UnmetClause, UnpackRefusal, broken_by, check_unpack, configurable,
-    depended_on_by, first_unmet, next_to_configure, next_to_remove, removable,
+    CheckFault, Plan, UnmetClause, UnpackRefusal, breakers_of, broken_by, check_unpack,
+    configurable, depended_on_by, first_unmet, next_to_configure, next_to_remove, removable,
 };
 use relation_fields::{Clause, Form, Provides, Relations};
 use relation_index::{Package, PackageState, Packages};
@@ -520,7 +520,8 @@ fn what_is_used_stays(rt: HostRuntime) -> Result<(), Fail> {
 fn a_broken_package_is_told_by_whom(rt: HostRuntime) -> Result<(), Fail> {
     let packages = packages(&rt, BREAKING)?;
     let bravo = package(rt.alloc(), &BREAKING[1])?;
-    let breaking = match broken_by(&packages, &bravo) {
+    let breakers = breakers_of(rt.alloc(), packages.as_slice())?;
+    let breaking = match broken_by(&packages, breakers.as_slice(), &bravo) {
         Some(number) => name_of(&packages, number),
         None => "none",
     };
